@@ -1,0 +1,159 @@
+-- Document 01, refusals 1 to 6 and 11, and what the single-read and the batch call answer and leave in the lent buffers.
+use Prim.Native.Nat.{ℕ, zero, suc, _+_, _*_, _-_, max}
+use mathlib.Core.Bool.{Bool, true, false, _&&_, _||_}
+use mathlib.Core.Option.{Option, none, some}
+use mathlib.Core.List.{List, [], _∷_, _++_}
+use lib.ListN.{length, getD, replicate}
+use lib.Dec.{eqb, ltb, leb}
+use Rattle.rules.specs.Refusal.{Refusal, Outcome, accepted, refused, Check, _orElse_, unless, atPlace, firstFailing}
+use Rattle.rules.specs.Set.{KmerSet, opened}
+use Rattle.rules.specs.Driver.{Pass}
+use Rattle.rules.specs.Job.{Method, known, methodsOf, lines, pass, result}
+use Rattle.rules.specs.Report.{Report, yieldOf}
+use Rattle.rules.specs.Counts.{Fed, sum, allPasses, turns, lookups, attempts, corrections}
+
+-- ---- the limits
+
+abbrev pub maxRead : ℕ
+maxRead = 1048576
+
+abbrev pub maxMethods : ℕ
+maxMethods = 8
+
+abbrev pub maxOutput : ℕ
+maxOutput = 1048576
+
+abbrev pub maxWork : ℕ
+maxWork = 2097152
+
+abbrev pub maxLines : ℕ
+maxLines = 1024
+
+-- ---- refused because of the input
+
+-- What a call is given: the set's bytes, confirm, method bytes, a read or a batch, and the two lent buffers.
+pub record Given : Type 0 where
+  pub set : List ℕ
+  pub confirm : ℕ
+  pub methods : List ℕ
+  pub input : List ℕ
+  pub output : List ℕ
+  pub work : List ℕ
+
+-- 5: output or work too long, or work shorter than twice the longer of output and read or batch.
+unfoldable pub buffersRight : Given → Bool
+buffersRight g =
+    leb (length (g .output)) maxOutput
+    && leb (length (g .work)) maxWork
+    && leb (2 * max (length (g .output)) (length (g .input))) (length (g .work))
+
+-- 6: a batch is empty or has a final 10, and no more than 1,024 lines.
+unfoldable pub batchRight : List ℕ → Bool
+unfolding lines
+batchRight batch =
+    (eqb (length batch) 0 || eqb (getD batch (length batch - 1) 0) 10)
+    && leb (length (lines batch)) maxLines
+
+-- Checks 1 to 5, upward.
+unfoldable pub inputCheck : Given → Check
+unfolding unless atPlace firstFailing known buffersRight _orElse_
+inputCheck g =
+    unless (leb (length (g .input)) maxRead) 1
+    orElse unless (leb (length (g .methods)) maxMethods) 2
+    orElse atPlace 3 (firstFailing (λ i. known (getD (g .methods) i 0)) 0 (length (g .methods)))
+    orElse unless (ltb 0 (g .confirm)) 4
+    orElse unless (buffersRight g) 5
+
+-- ---- the calls
+
+-- What a call answers, and every byte of the two buffers afterwards.
+pub record After : Type 0 where
+  pub answer : Outcome Report
+  pub output : List ℕ
+  pub work : List ℕ
+
+-- Refusals 1 to 10: no lent byte is changed.
+unfoldable pub unchanged : Given → Refusal → After
+unchanged g r = record { answer = refused r; output = g .output; work = g .work }
+
+-- Refusal 11 at a line: output and work buffer all zero.
+unfoldable pub noRoom : Given → ℕ → After
+noRoom g line =
+    record {
+      answer = refused (record { number = 11; place = line });
+      output = replicate (length (g .output)) 0;
+      work = replicate (length (g .work)) 0;
+    }
+
+-- A call corrects reads in turn and puts an ending behind each: nothing behind a single read, byte 10 behind a line of a batch.
+module _ (set : KmerSet) (c : ℕ) (ms : List Method) (ending : List ℕ) where
+  -- The longest of a read's pass results; the read, if no methods.
+  unfoldable pub longest : List Method → List ℕ → ℕ
+  unfolding pass
+  longest [] read = length read
+  longest (m ∷ rest) read = (let p : Pass = pass set c m read in max (length (p .bytes)) (longest rest (p .bytes)))
+
+  -- 11: the first read, from number i on, of which a pass result with the ending is longer than what is left of the output.
+  unfoldable pub tooLong : ℕ → ℕ → List (List ℕ) → Option ℕ
+  unfolding longest result
+  tooLong i left [] = none
+  tooLong i left (read ∷ reads) =
+      elim (ltb left (longest ms read + length ending)) [
+        | true ↦ some i
+        | false ↦ tooLong (suc i) (left - (length (result set c ms read) + length ending)) reads
+      ]
+
+  -- The bytes written.
+  unfoldable pub results : List (List ℕ) → List ℕ
+  unfolding result
+  results [] = []
+  results (read ∷ reads) = result set c ms read ++ (ending ++ results reads)
+
+  -- The report: numbers are sums over all passes, yield from the sums.
+  unfoldable pub report : List (List ℕ) → Report
+  unfolding results allPasses sum turns lookups attempts corrections yieldOf
+  report reads =
+      let ps : List Fed = allPasses set c ms reads in
+      record {
+        written = length (results reads);
+        turns = sum (turns set c) ps;
+        lookups = sum (lookups set c) ps;
+        attempts = sum (attempts set c) ps;
+        accepted = sum (corrections set c) ps;
+        yield = yieldOf (sum (corrections set c) ps) (sum (attempts set c) ps);
+      }
+
+  -- With an opened set: 11, or the result with the rest of the output zero and the whole work buffer zero.
+  unfoldable pub corrected : Given → List (List ℕ) → After
+  unfolding tooLong results report noRoom
+  corrected g reads =
+      elim (tooLong 0 (length (g .output)) reads) [
+        | some line ↦ noRoom g line
+        | none ↦ record {
+          answer = accepted (report reads);
+          output = results reads ++ replicate (length (g .output) - length (results reads)) 0;
+          work = replicate (length (g .work)) 0;
+        }
+      ]
+
+-- After the checks of the input come the set's, 7 to 10, then 11.
+unfoldable pub call : List ℕ → List (List ℕ) → Check → Given → After
+unfolding unchanged opened corrected methodsOf
+call ending reads refusal g =
+    elim refusal [
+      | some r ↦ unchanged g r
+      | none ↦ elim (opened (g .set)) [
+        | refused r ↦ unchanged g r
+        | accepted set ↦ corrected set (g .confirm) (methodsOf (g .methods)) ending g reads
+      ]
+    ]
+
+-- The single-read call: a list of one read.
+unfoldable pub correctRead : Given → After
+unfolding call inputCheck
+correctRead g = call [] (g .input ∷ []) (inputCheck g) g
+
+-- The batch call: lines corrected in turn, output line by line with byte 10.
+unfoldable pub correctBatch : Given → After
+unfolding call inputCheck batchRight lines
+correctBatch g = call (10 ∷ []) (lines (g .input)) (inputCheck g orElse (let b = unless (batchRight (g .input)) 6 in b)) g

@@ -1,0 +1,138 @@
+-- Document 01, "Records", Set, and refusals 7 to 10.
+use Prim.Native.Nat.{ℕ, zero, suc, _+_, _*_, _-_, _/_, _%_, _^_}
+use mathlib.Core.Bool.{Bool, true, false, _&&_, _||_, not}
+use mathlib.Core.Option.{Option, none, some}
+use mathlib.Core.List.{List, [], _∷_}
+use lib.ListN.{length, getD, drop}
+use lib.Dec.{eqb, ltb, leb}
+use Rattle.rules.specs.Letters.{canonical}
+use Rattle.rules.specs.Refusal.{Refusal, Outcome, accepted, refused, Check, _orElse_, unless, atPlace, firstFailing}
+
+-- The largest k and the largest n.
+abbrev pub maxK : ℕ
+maxK = 31
+
+abbrev pub maxKeys : ℕ
+maxKeys = 16777216
+
+-- A set: k and its keys.
+pub record KmerSet : Type 0 where
+  pub k : ℕ
+  pub keys : List ℕ
+
+-- y is one of the list.
+unfoldable pub among : ℕ → List ℕ → Bool
+among y [] = false
+among y (x ∷ xs) = eqb y x || among y xs
+
+-- A k-mer is solid when its canonical code is a key; asking once is one lookup.
+unfoldable pub solid : KmerSet → ℕ → Bool
+unfolding canonical among
+solid s y = among (canonical (s .k) y) (s .keys)
+
+-- ---- words and blocks
+
+-- A little-endian number of m bytes.
+unfoldable pub little : ℕ → List ℕ → ℕ
+little zero bs = 0
+little (suc m) bs = getD bs 0 0 + 256 * little m (drop 1 bs)
+
+-- Word i of a list of bytes: little-endian, 64 bits.
+unfoldable pub word : List ℕ → ℕ → ℕ
+unfolding little
+word bytes i = little 8 (drop (8 * i) bytes)
+
+-- Word i of block b: a block is 512 bytes, 63 words and a check word.
+unfoldable pub blockWord : List ℕ → ℕ → ℕ → ℕ
+unfolding word
+blockWord bytes b i = word bytes (64 * b + i)
+
+-- How many whole blocks there are.
+unfoldable pub blocks : List ℕ → ℕ
+blocks bytes = length bytes / 512
+
+-- The first m words of block b, added.
+unfoldable pub sumWords : List ℕ → ℕ → ℕ → ℕ
+unfolding blockWord
+sumWords bytes b zero = 0
+sumWords bytes b (suc i) = sumWords bytes b i + blockWord bytes b i
+
+-- Block b's check: its 63 words plus its number plus 1, the sum wrapping at 2^64.
+unfoldable pub check : List ℕ → ℕ → ℕ
+unfolding sumWords
+check bytes b = (sumWords bytes b 63 + b + 1) % 2 ^ 64
+
+-- Block 0: word 0 is k, word 1 is n, the rest zero.
+unfoldable pub headerK : List ℕ → ℕ
+unfolding blockWord
+headerK bytes = blockWord bytes 0 0
+
+unfoldable pub headerN : List ℕ → ℕ
+unfolding blockWord
+headerN bytes = blockWord bytes 0 1
+
+-- Word i of the key blocks, check words not counted.
+unfoldable pub keyWord : List ℕ → ℕ → ℕ
+unfolding blockWord
+keyWord bytes i = blockWord bytes (1 + i / 63) (i % 63)
+
+-- m keys from word i of the key blocks on.
+unfoldable pub keysFrom : List ℕ → ℕ → ℕ → List ℕ
+unfolding keyWord
+keysFrom bytes i zero = []
+keysFrom bytes i (suc m) = keyWord bytes i ∷ keysFrom bytes (suc i) m
+
+-- The set that a list of bytes says: k, and the first n words of the key blocks.
+unfoldable pub setOf : List ℕ → KmerSet
+unfolding headerK headerN keysFrom
+setOf bytes = record { k = headerK bytes; keys = keysFrom bytes 0 (headerN bytes) }
+
+-- ---- opening
+
+-- Refused with 7: length 0 or not a multiple of 512.
+unfoldable pub lengthRight : List ℕ → Bool
+lengthRight bytes = ltb 0 (length bytes) && eqb (length bytes % 512) 0
+
+-- Refused with 8: a wrong check.
+unfoldable pub checkRight : List ℕ → ℕ → Bool
+unfolding check
+checkRight bytes b = eqb (blockWord bytes b 63) (check bytes b)
+
+-- No index was found.
+unfoldable pub isNone : Option ℕ → Bool
+isNone none = true
+isNone (some i) = false
+
+-- Refused with 9: k not odd from 1 to 31, n too large, a header word not zero, or a wrong block count (1 + ceil(n/63) is right).
+unfoldable pub headerRight : List ℕ → Bool
+unfolding headerK headerN firstFailing isNone blocks
+headerRight bytes =
+    eqb (headerK bytes % 2) 1 && leb (headerK bytes) maxK
+    && leb (headerN bytes) maxKeys
+    && isNone (firstFailing (λ i. eqb (blockWord bytes 0 i) 0) 2 61)
+    && eqb (blocks bytes) (1 + (headerN bytes + 62) / 63)
+
+-- Refused with 10: a key not canonical, too large or not rising, or a spare word not zero.
+unfoldable pub keyRight : List ℕ → ℕ → Bool
+unfolding keyWord canonical headerK headerN
+keyRight bytes i =
+    elim (ltb i (headerN bytes)) [
+      | true ↦ eqb (canonical (headerK bytes) (keyWord bytes i)) (keyWord bytes i)
+          && ltb (keyWord bytes i) (4 ^ headerK bytes)
+          && (eqb i 0 || ltb (keyWord bytes (i - 1)) (keyWord bytes i))
+      | false ↦ eqb (keyWord bytes i) 0
+    ]
+
+-- The checks of a set, in order, each with its place.
+unfoldable pub setCheck : List ℕ → Check
+unfolding unless atPlace firstFailing lengthRight checkRight headerRight keyRight blocks _orElse_
+setCheck bytes =
+    unless (lengthRight bytes) 7
+    orElse (let c = atPlace 8 (firstFailing (checkRight bytes) 0 (blocks bytes)) in c)
+    orElse (let c = unless (headerRight bytes) 9 in c)
+    orElse (let c = atPlace 10 (firstFailing (keyRight bytes) 0 (63 * (blocks bytes - 1))) in c)
+
+-- Opening a list of bytes: k and the n keys, or the refusal.
+unfoldable pub opened : List ℕ → Outcome KmerSet
+unfolding setCheck setOf
+opened bytes = elim (setCheck bytes) [ none ↦ accepted (setOf bytes) | some r ↦ refused r ]
