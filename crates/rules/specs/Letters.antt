@@ -1,6 +1,6 @@
 -- Document 01, "Records", Letters.
 use Prim.Native.Nat.{ℕ, zero, suc, _+_, _*_, _-_, _/_, _%_, _^_}
-use mathlib.Core.Bool.{true, false}
+use mathlib.Core.Bool.{Bool, true, false}
 use mathlib.Core.List.{List, [], _∷_, _++_}
 use lib.ListN.{getD}
 use lib.Dec.{eqb}
@@ -63,7 +63,12 @@ unfolding complement
 revcomp zero y = 0
 revcomp (suc k) y = complement (y % 4) * 4 ^ k + revcomp k (y / 4)
 
--- Of a k-mer and its reverse complement the canonical one has an even count of one bits (of its 2k).
+-- An even count of one bits, of the 2k that k letters have.
+unfoldable pub evenOnes : ℕ → ℕ → Bool
+unfolding onesIn
+evenOnes k y = eqb (onesIn (2 * k) y % 2) 0
+
+-- Of a k-mer and its reverse complement the canonical one has an even count of one bits; k is odd, so there is just one.
 unfoldable pub canonical : ℕ → ℕ → ℕ
-unfolding revcomp onesIn
-canonical k y = elim (eqb (onesIn (2 * k) y % 2) 0) [ true ↦ y | false ↦ revcomp k y ]
+unfolding revcomp evenOnes
+canonical k y = elim (evenOnes k y) [ true ↦ y | false ↦ revcomp k y ]
