@@ -1,13 +1,13 @@
 -- Laws of the header.
 use Prim.Native.Nat.{ℕ, _+_, _/_, _%_, _≤_}
-use mathlib.Core.Path.{_≡_, refl, sym, ap, _∙_}
+use mathlib.Core.Path.{_≡_, refl, _∙_}
 use mathlib.Core.Bool.{Bool, true, false, _&&_, and-comm}
 use mathlib.Core.List.{List}
 use lib.Dec.{eqb, leb}
 use lib.ListN.{length}
 use borrow.Author.Tests.{eqb-true, leb-true}
 use Rattle.rules.specs.Refusal.{firstFailing}
-use Rattle.rules.specs.Set.{blockWord, headerK, headerN, headerRight, isNone, blocks}
+use Rattle.rules.specs.Set.{blockWord, headerK, headerN, headerRight, isNone}
 use Rattle.blocks.proofs.Tests.{both}
 
 abbrev pub sizes : ℕ → ℕ → Bool
@@ -24,10 +24,10 @@ swap : (a b c : Bool) → (a && b && c) ≡ (a && c && b)
 swap true b c = and-comm b c
 swap false b c = refl
 
-module _ (bytes : List ℕ) (k n : ℕ) (k-is : k ≡ headerK bytes) (n-is : n ≡ headerN bytes) where
-  pub header-test : (counted bytes k n && restZero bytes) ≡ headerRight bytes
-  unfolding headerRight
-  header-test = rw (k-is, n-is) (swap (sizes (headerK bytes) (headerN bytes)) (eqb (length bytes / 512) (1 + (headerN bytes + 62) / 63)) (restZero bytes))
+pub header-test : (bytes : List ℕ) (k n : ℕ) → k ≡ headerK bytes → n ≡ headerN bytes → (counted bytes k n && restZero bytes) ≡ headerRight bytes
+unfolding headerRight
+header-test bytes k n k-is n-is =
+    rw (k-is, n-is) (swap (sizes (headerK bytes) (headerN bytes)) (eqb (length bytes / 512) (1 + (headerN bytes + 62) / 63)) (restZero bytes))
 
 -- what a right header says of k, n and the count of blocks
 pub record Sized (bytes : List ℕ) (k n : ℕ) : Type 0 where

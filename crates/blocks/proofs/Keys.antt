@@ -1,5 +1,5 @@
 -- Laws of keys.
-use Prim.Native.Nat.{ℕ, zero, suc, _+_, _*_, _-_, _%_, _^_, _≤_, _<_}
+use Prim.Native.Nat.{ℕ, zero, suc, _+_, _-_, _%_, _^_, _≤_, _<_}
 use native.Mathlib.Omega.{arith}
 use native.Mathlib.Numerals.{add-one}
 use mathlib.Core.Path.{_≡_, refl, sym, ap, _∙_}
@@ -7,7 +7,7 @@ use mathlib.Core.Bool.{Bool, true, false, not, _&&_, _||_, true≢false, and-tru
 use mathlib.Core.List.{List}
 use lib.Dec.{eqb, ltb, leb, leb·zero, eqb·suc-zero}
 use borrow.Author.Tests.{eq-eqb, ne-eqb, lt-ltb, le-ltb, le-leb, lt-leb, ltb-true, ltb-false}
-use Rattle.rules.specs.Letters.{canonical, evenOnes, revcomp, mask}
+use Rattle.rules.specs.Letters.{canonical, evenOnes, mask}
 use Rattle.rules.specs.Set.{keyRight, keyWord, headerK, headerN}
 use Rattle.rules.proofs.Kmer.{four-pos, canonical-one}
 use Rattle.kmer.proofs.Laws.{canonical-even, canonical-odd, even-wide}

@@ -1,7 +1,8 @@
 -- Laws of opening: the checks in their order.
 use Prim.Native.Nat.{ℕ, _*_, _-_, _%_, _<_}
+use native.Mathlib.Nat.{sub-zero}
 use native.Mathlib.Omega.{arith}
-use mathlib.Core.Path.{_≡_, refl, sym, ap, _∙_}
+use mathlib.Core.Path.{_≡_, refl, _∙_}
 use mathlib.Core.Bool.{true, false, and-false}
 use mathlib.Core.Option.{none, some}
 use mathlib.Core.Logic.{inl, inr}
@@ -10,21 +11,13 @@ use types.Run.{OneOf}
 use lib.Dec.{ltb}
 use lib.ListN.{length}
 use borrow.Author.Tests.{lt-ltb, eq-eqb, ne-eqb}
-use Rattle.rules.specs.Refusal.{Refusal, accepted, refused, _orElse_, unless, atPlace, firstFailing}
-use Rattle.rules.specs.Refusal as Refusals
-use Rattle.rules.specs.Set.{blocks, checkRight, headerRight, keyRight, lengthRight, setCheck, setOf, opened}
+use Rattle.rules.specs.Refusal.{Refusal, accepted, refused}
+use Rattle.rules.specs.Set.{headerRight, lengthRight, blocks, setCheck, setOf, opened}
 use Rattle.blocks.specs.declared.Opened.{Opened}
 use Rattle.blocks.specs.declared.Opened.the-variants.{Set, Length, Check, Header, Key}
-use Rattle.blocks.specs.Opened.{Checked, Opens}
+use Rattle.blocks.specs.Opened.{Checked, Opens, wrongCheck, wrongKey}
 
--- refusals 8 and 10
-abbrev pub check-8 : List ℕ → Refusals.Check
-check-8 bytes = atPlace 8 (firstFailing (checkRight bytes) 0 (blocks bytes))
-
-abbrev pub check-10 : List ℕ → Refusals.Check
-check-10 bytes = atPlace 10 (firstFailing (keyRight bytes) 0 (63 * (blocks bytes - 1)))
-
--- the other arm of a `let Opened::Set(k, n) = .. else`: no tag there is a set's
+-- the tags of the refusals: a set's is 0
 pub not-set : OneOf (1 ∷ 2 ∷ 3 ∷ 4 ∷ []) 0 → ⊥
 not-set (inl e) = omega arith
 not-set (inr (inl e)) = omega arith
@@ -56,20 +49,20 @@ module _ (bytes : List ℕ) where
   unfolding setCheck
   at-7 e = rw e
 
-  pub at-8 : lengthRight bytes ≡ true → (r : Refusal) → check-8 bytes ≡ some r → setCheck bytes ≡ some r
+  pub at-8 : lengthRight bytes ≡ true → (r : Refusal) → wrongCheck bytes ≡ some r → setCheck bytes ≡ some r
   unfolding setCheck
   at-8 e r e′ = rw (e, e′)
 
-  pub at-9 : lengthRight bytes ≡ true → check-8 bytes ≡ none → headerRight bytes ≡ false → setCheck bytes ≡ some (record { number = 9; place = 0 })
+  pub at-9 : lengthRight bytes ≡ true → wrongCheck bytes ≡ none → headerRight bytes ≡ false → setCheck bytes ≡ some (record { number = 9; place = 0 })
   unfolding setCheck
   at-9 e e′ e″ = rw (e, e′, e″)
 
-  pub at-10 : lengthRight bytes ≡ true → check-8 bytes ≡ none → headerRight bytes ≡ true → setCheck bytes ≡ check-10 bytes
+  pub at-10 : lengthRight bytes ≡ true → wrongCheck bytes ≡ none → headerRight bytes ≡ true → setCheck bytes ≡ wrongKey bytes 0
   unfolding setCheck
-  at-10 e e′ e″ = rw (e, e′, e″)
+  at-10 e e′ e″ = rw (e, e′, e″, sub-zero (63 * (blocks bytes - 1)))
 
   -- check 8's answer, if it is none of a set
-  pub refuses : (o : Opened) → lengthRight bytes ≡ true → ((k n : ℕ) → o ≡ Set k n → ⊥) → Checked bytes (check-8 bytes) o → Opens bytes o
+  pub refuses : (o : Opened) → lengthRight bytes ≡ true → ((k n : ℕ) → o ≡ Set k n → ⊥) → Checked bytes (wrongCheck bytes) o → Opens bytes o
   refuses (Set k n) e f t = absurd (f k n refl)
   refuses Length e f t = refused-by _ (at-8 e _ t)
   refuses (Check b) e f t = refused-by _ (at-8 e _ t)
@@ -77,7 +70,7 @@ module _ (bytes : List ℕ) where
   refuses (Key i) e f t = refused-by _ (at-8 e _ t)
 
   -- the last check's answer
-  pub opens : (o : Opened) → setCheck bytes ≡ check-10 bytes → Checked bytes (check-10 bytes) o → Opens bytes o
+  pub opens : (o : Opened) → setCheck bytes ≡ wrongKey bytes 0 → Checked bytes (wrongKey bytes 0) o → Opens bytes o
   opens (Set k n) e t = (accepted-by (e ∙ t .0), t .1, t .2)
   opens Length e t = refused-by _ (e ∙ t)
   opens (Check b) e t = refused-by _ (e ∙ t)

@@ -1,14 +1,14 @@
 -- Laws of words and check words.
-use Prim.Native.Nat.{ℕ, zero, suc, _+_, _*_, _-_, _%_, _^_, _≤_, _<_}
+use Prim.Native.Nat.{ℕ, zero, suc, _+_, _*_, _%_, _^_}
 use native.Mathlib.Omega.{arith}
 use native.Mathlib.Nat.{add-zero, add-assoc, mod-add-mod}
 use native.Mathlib.Numerals.{add-one, towards-suc}
-use mathlib.Core.Path.{_≡_, refl, sym, ap, _∙_}
+use mathlib.Core.Path.{_≡_, refl, ap}
 use mathlib.Core.List.{List}
 use lib.Dec.{eqb}
 use lib.ListN.{getD, drop}
 use lib.Seq.{getD-drop, drop-drop}
-use Rattle.rules.specs.Set.{little, word, blockWord, sumWords, check, checkRight}
+use Rattle.rules.specs.Set.{little, blockWord, sumWords, check, checkRight}
 use Rattle.blocks.specs.Flat.{flat}
 
 -- a little-endian number of m bytes from i on

@@ -1,11 +1,11 @@
 -- What opening answers, in document 01's terms.
-use Prim.Native.Nat.{ℕ}
+use Prim.Native.Nat.{ℕ, _*_, _-_}
 use mathlib.Core.Path.{_≡_}
 use mathlib.Core.Option.{none, some}
 use mathlib.Core.List.{List}
-use Rattle.rules.specs.Refusal.{Refusal, accepted, refused}
+use Rattle.rules.specs.Refusal.{Refusal, accepted, refused, atPlace, firstFailing}
 use Rattle.rules.specs.Refusal as Refusals
-use Rattle.rules.specs.Set.{headerK, headerN, setOf, opened}
+use Rattle.rules.specs.Set.{blocks, headerK, headerN, checkRight, keyRight, setOf, opened}
 use Rattle.blocks.specs.declared.Opened.{Opened}
 use Rattle.blocks.specs.declared.Opened.the-variants.{Set, Length, Check, Header, Key}
 
@@ -17,7 +17,15 @@ Told bytes as-set as-refusal (Check block) = as-refusal (record { number = 8; pl
 Told bytes as-set as-refusal Header = as-refusal (record { number = 9; place = 0 })
 Told bytes as-set as-refusal (Key i) = as-refusal (record { number = 10; place = i })
 
--- One of the checks of opening: it lets pass, or refuses.
+-- Check 8.
+abbrev pub wrongCheck : List ℕ → Refusals.Check
+wrongCheck bytes = atPlace 8 (firstFailing (checkRight bytes) 0 (blocks bytes))
+
+-- Check 10 from word i of the key blocks on.
+abbrev pub wrongKey : List ℕ → ℕ → Refusals.Check
+wrongKey bytes i = atPlace 10 (firstFailing (keyRight bytes) i (63 * (blocks bytes - 1) - i))
+
+-- A check of opening lets pass, or refuses.
 abbrev pub Checked : List ℕ → Refusals.Check → Opened → Type 0
 Checked bytes check = Told bytes (check ≡ none) (λ r. check ≡ some r)
 

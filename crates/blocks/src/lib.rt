@@ -5,11 +5,11 @@ ghost use lib.Dec.{eqb};
 ghost use Prim.Native.Nat.{_+_, _*_, _-_, _%_, _<_, _≤_};
 ghost use lib.ListN.{length, drop};
 ghost use Rattle.rules.specs.Set as Rules;
-ghost use Rattle.rules.specs.Refusal.{atPlace, firstFailing};
+ghost use Rattle.rules.specs.Refusal.{firstFailing};
 ghost use Rattle.rules.specs.Letters;
 ghost use Rattle.blocks.specs.Keys.{rightFrom};
 ghost use Rattle.blocks.specs.Flat.{flat};
-ghost use Rattle.blocks.specs.Opened.{Checked, Opens};
+ghost use Rattle.blocks.specs.Opened.{Checked, Opens, wrongCheck, wrongKey};
 
 // A set's k and n, or why it is refused: its length, the check of a block, its header, or a word of the key blocks.
 pub enum Opened {
@@ -76,7 +76,7 @@ pub fn key_at(set: &[u8], i: usize) -> u64
 // Refusal 8, or what the header says.
 fn check_blocks(set: &[u8]) -> Opened
     requires { ⌜ 512 ≤ length (now set) ⌝ }
-    ensures { λ r. ⌜ Checked (now (set .entry)) (atPlace 8 (firstFailing (Rules.checkRight (now (set .entry))) 0 (Rules.blocks (now (set .entry))))) r ⌝ }
+    ensures { λ r. ⌜ Checked (now (set .entry)) (wrongCheck (now (set .entry))) r ⌝ }
 {
     let blocks = set.len() / 512;
     for block in 0..blocks {
@@ -122,12 +122,12 @@ fn key_right(key: u64, least: u64, k: usize, mask: u64) -> bool
 // Refusal 10 for the words behind the keys.
 fn check_spare(set: &[u8], k: usize, n: usize) -> Opened
     requires { ⌜ (512 ≤ length (now set)) × (n ≤ 63 * (Rules.blocks (now set) - 1)) × (k ≡ Rules.headerK (now set)) × (n ≡ Rules.headerN (now set)) ⌝ }
-    ensures { λ r. ⌜ Checked (now (set .entry)) (atPlace 10 (firstFailing (Rules.keyRight (now (set .entry))) n (63 * (Rules.blocks (now (set .entry)) - 1) - n))) r ⌝ }
+    ensures { λ r. ⌜ Checked (now (set .entry)) (wrongKey (now (set .entry)) n) r ⌝ }
 {
     let words = 63 * (set.len() / 512 - 1);
-    for i in n..words {
-        if key_at(set, i) != 0 {
-            return Opened::Key(i);
+    for word in n..words {
+        if key_at(set, word) != 0 {
+            return Opened::Key(word);
         }
     }
     Opened::Set(k, n)
@@ -136,9 +136,10 @@ fn check_spare(set: &[u8], k: usize, n: usize) -> Opened
 // Refusal 10.
 fn check_keys(set: &[u8], k: usize, n: usize) -> Opened
     requires { ⌜ (Rules.headerRight (now set) ≡ true) × (k ≡ Rules.headerK (now set)) × (n ≡ Rules.headerN (now set)) ⌝ }
-    ensures { λ r. ⌜ Checked (now (set .entry)) (atPlace 10 (firstFailing (Rules.keyRight (now (set .entry))) 0 (63 * (Rules.blocks (now (set .entry)) - 1)))) r ⌝ }
+    ensures { λ r. ⌜ Checked (now (set .entry)) (wrongKey (now (set .entry)) 0) r ⌝ }
 {
     let mask = kmer::mask(k);
+    // The least that the next key may be.
     let mut least: u64 = 0;
     for i in 0..n {
         let key = key_at(set, i);

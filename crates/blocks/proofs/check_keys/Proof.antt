@@ -1,14 +1,13 @@
 use Prim.Native.Nat.{_*_, _-_, _≤_, _<_}
 use native.Mathlib.Omega.{arith}
-use native.Mathlib.Nat.{sub-zero}
 use mathlib.Core.Path.{_≡_, refl, sym, ap, _∙_, subst}
 use borrow.Author.Needs.{needs}
 use borrow.Author.Tests.{not-true, not-false}
-use Rattle.rules.specs.Refusal.{firstFailing, atPlace}
+use Rattle.rules.specs.Refusal.{atPlace}
 use Rattle.rules.specs.Set as Rules
 use Rattle.kmer.proofs.Laws.{bound}
 use Rattle.blocks.specs.Keys.{leastKey}
-use Rattle.blocks.specs.Opened.{Checked}
+use Rattle.blocks.specs.Opened.{Checked, wrongKey}
 use Rattle.blocks.proofs.First.{passed, failed}
 use Rattle.blocks.proofs.Header.{Sized, sized}
 use Rattle.blocks.proofs.Keys.{key-test, right-small, least-next}
@@ -19,8 +18,7 @@ abbrev Inv-loop : tie.InvT-loop
 Inv-loop set k n mask least₀ i₀ least i =
     (i ≤ n)
     × (least ≡ leastKey set i)
-    × (firstFailing (Rules.keyRight set) 0 (63 * (Rules.blocks set - 1))
-    ≡ firstFailing (Rules.keyRight set) i (63 * (Rules.blocks set - 1) - i))
+    × (wrongKey set 0 ≡ wrongKey set i)
 
 abbrev μ-loop : tie.MeasureT-loop
 μ-loop set k n mask least₀ i₀ least i = n - i
@@ -47,7 +45,7 @@ mask-requires c κs = let z = header (c .before) in search needs
 
 loop-holds : tie.Need-loop-holds Inv-loop μ-loop
 unfolding leastKey
-loop-holds c = (search needs, refl, rw sub-zero)
+loop-holds c = (search needs, refl, refl)
 
 key-at-requires : tie.Need-key-at-requires Inv-loop μ-loop
 key-at-requires c κs = inside c
@@ -61,7 +59,7 @@ returns : tie.Need-returns Inv-loop μ-loop
 unfolding atPlace
 returns c =
     let l = c .before .before .before in
-    ap (atPlace 10) (l .before .loop .inv .2 ∙ failed _ _ _ (inside l) (same (c .before) ∙ not-true _ (c .if1 .taken)))
+    l .before .loop .inv .2 ∙ ap (atPlace 10) (failed _ _ _ (inside l) (same (c .before) ∙ not-true _ (c .if1 .taken)))
 
 add-least : tie.Need-add-least Inv-loop μ-loop
 add-least c =
@@ -79,7 +77,7 @@ loop-again c =
     let l = c .before .before .before in (
       search needs,
       least-next _ _ _ (c .before .before .key-at .ensures),
-      l .before .loop .inv .2 ∙ passed _ _ _ (inside l) (same (c .before) ∙ not-false _ (c .if1 .left)),
+      l .before .loop .inv .2 ∙ ap (atPlace 10) (passed _ _ _ (inside l) (same (c .before) ∙ not-false _ (c .if1 .left))),
     )
 
 check-spare-requires : tie.Need-check-spare-requires Inv-loop μ-loop
@@ -94,7 +92,7 @@ returns-2 c =
     let l = c .before .before in
     let a = l .before .before .before .args in
     let e : l .loop .i ≡ a .n = search needs in
-    subst (λ o. Checked (a .set .now) (atPlace 10 o) (c .check-spare .result)) (sym (rw e at (l .loop .inv .2))) (c .check-spare .ensures)
+    subst (λ o. Checked (a .set .now) o (c .check-spare .result)) (sym (rw e at (l .loop .inv .2))) (c .check-spare .ensures)
 
 pub check-keys-spec : {M : Type 1} → statement M
 check-keys-spec =

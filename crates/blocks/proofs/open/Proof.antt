@@ -8,8 +8,8 @@ use borrow.Author.Needs.{needs}
 use borrow.Author.Tests.{eqb-true, eqb-false, not-true, not-false}
 use Rattle.rules.specs.Set.{lengthRight}
 use Rattle.blocks.specs.declared.Opened.the-variants.{Set}
-use Rattle.blocks.specs.Opened.{Checked}
-use Rattle.blocks.proofs.Opening.{check-8, length-right, length-zero, length-odd, refused-by, at-7, at-9, at-10, not-set, refuses, opens}
+use Rattle.blocks.specs.Opened.{Checked, wrongCheck}
+use Rattle.blocks.proofs.Opening.{length-right, length-zero, length-odd, refused-by, at-7, at-9, at-10, not-set, refuses, opens}
 use Rattle.blocks.proofs.open.Statement.{statement}
 use Rattle.blocks.proofs.open.Tie as tie
 
@@ -24,7 +24,7 @@ after-7 c = length-right _ (search needs) (whole c)
 
 -- check 8 let pass
 after-8 : (c : tie.After-checked) → Checked (c .before .before .before .before .before .before .args .set .now)
-    (check-8 (c .before .before .before .before .before .before .args .set .now))
+    (wrongCheck (c .before .before .before .before .before .before .args .set .now))
     (Set (c .checked .given .0 .0) (c .checked .given .0 .1 .0))
 after-8 c = subst (Checked _ _) (c .checked .given .1) (c .before .before .check-blocks .ensures)
 
