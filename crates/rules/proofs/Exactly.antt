@@ -30,24 +30,28 @@ pub record Exactly (k : ℕ) (sol : ℕ → Bool) (s : List ℕ) (y : ℕ) (t : 
   pub if-chain : (b : Bridge k sol s y) → t .answer ≡ some (mendOf k sol s y b)
   pub only-if : (m : Mend) → t .answer ≡ some m → (b : Bridge k sol s y) × (m ≡ mendOf k sol s y b)
 
-module _ (k n : ℕ) (sol : ℕ → Bool) (few : Few k n sol) (s : List ℕ) (y : ℕ) where
-  x-good : (x : ℕ) → alternative k sol y .answer ≡ some x → SolidKmer k sol x
-  unfolding alternative SolidKmer
-  x-good x e = (sole-lt k sol (y / 4) x e, sole-is k sol (y / 4) x e .is-solid)
+-- the alternative is a solid k-mer
+pub x-good : (k : ℕ) (sol : ℕ → Bool) (y x : ℕ) → alternative k sol y .answer ≡ some x → SolidKmer k sol x
+unfolding alternative SolidKmer
+x-good k sol y x e = (sole-lt k sol (y / 4) x e, sole-is k sol (y / 4) x e .is-solid)
 
+module _ (k n : ℕ) (sol : ℕ → Bool) (few : Few k n sol) (s : List ℕ) (y : ℕ) where
   graphFrom-exactly : Exactly k sol s y (graphFrom k n sol (errorLen k sol y s) y)
   unfolding graphFrom mendOf give
   graphFrom-exactly =
-    record { if-chain = λ b.
-               bind-is (alternative k sol y) _ (b .x) (b .starts)
-               ∙ bind-is (walkFrom k n sol (sc .end) (b .x)) _ (spell (b .x ∷ b .chain .via))
-                   (chain-found k n sol few (b .x) (x-good (b .x) (b .starts)) (sc .end) (b .chain))
-           ; only-if = λ m e.
-               let w = bind-some (alternative k sol y) _ m e in
-               let v = bind-some (walkFrom k n sol (sc .end) (w .0)) _ m (w .2) in
-               let c = found-chain k n sol few (w .0) (x-good (w .0) (w .1)) (sc .end) (v .0) (v .1) in
-               ( record { x = w .0; starts = w .1; chain = c .0 }
-               , sym (Option·some-injective _ m (v .2)) ∙ ap (λ (ls : List ℕ). record { letters = ls; resume = suc (sc .index) }) (c .1) ) }
+      record {
+        if-chain = λ b.
+            bind-is (alternative k sol y) _ (b .x) (b .starts)
+            ∙ bind-is (walkFrom k n sol (sc .end) (b .x)) _ (spell (b .x ∷ b .chain .via))
+            (chain-found k n sol few (b .x) (x-good k sol y (b .x) (b .starts)) (sc .end) (b .chain));
+        only-if = λ m e.
+            let w = bind-some (alternative k sol y) _ m e in
+            let v = bind-some (walkFrom k n sol (sc .end) (w .0)) _ m (w .2) in
+            let c = found-chain k n sol few (w .0) (x-good k sol y (w .0) (w .1)) (sc .end) (v .0) (v .1) in (
+              record { x = w .0; starts = w .1; chain = c .0 },
+              sym (Option·some-injective _ m (v .2)) ∙ ap (λ (ls : List ℕ). record { letters = ls; resume = suc (sc .index) }) (c .1),
+            );
+      }
     where
       sc : Scan
       sc = errorLen k sol y s
@@ -60,5 +64,5 @@ module _ (k n : ℕ) (sol : ℕ → Bool) (few : Few k n sol) (s : List ℕ) (y 
   pub gapSize-exactly : (c : ℕ) → errorLen k sol y s .index < k → Exactly k sol s y (gapSize k n sol c s y)
   unfolding gapSize after
   gapSize-exactly c lt =
-    rw (lt-ltb (errorLen k sol y s .index) k lt, gapSize)
+      rw (lt-ltb (errorLen k sol y s .index) k lt, gapSize)
       (record { if-chain = graphFrom-exactly .if-chain; only-if = graphFrom-exactly .only-if })

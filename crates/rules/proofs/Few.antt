@@ -53,7 +53,7 @@ fewer x [] ys n end = end
 fewer x (z ∷ xs) ys n (also h hs) = go (fewer x xs ys) (eqb x z) refl n
   where
     go : (among x xs ≡ false → All (λ z. among z ys ≡ true) xs → All (λ z. among z (without x ys) ≡ true) xs) → (t : Bool) → eqb x z ≡ t → t || among x xs ≡ false
-      → All (λ z. among z (without x ys) ≡ true) (z ∷ xs)
+        → All (λ z. among z (without x ys) ≡ true) (z ∷ xs)
     go i true e n = absurd (true≢false n)
     go i false e n = also (without-among x z ys (λ q. eqb-false x z e (sym q)) h) (i n hs)
 
@@ -61,7 +61,7 @@ fewer x (z ∷ xs) ys n (also h hs) = go (fewer x xs ys) (eqb x z) refl n
 pigeonhole : (xs ys : List ℕ) → Distinct xs → All (λ z. among z ys ≡ true) xs → length xs ≤ length ys
 pigeonhole [] ys d h = omega arith
 pigeonhole (x ∷ xs) ys (also-distinct n d) (also h hs) =
-  omega (arith, pigeonhole xs (without x ys) d (fewer x xs ys n hs), without-length x ys h)
+    omega (arith, pigeonhole xs (without x ys) d (fewer x xs ys n hs), without-length x ys h)
 
 -- ---- the keys and their reverse complements
 
@@ -108,9 +108,9 @@ module _ (set : KmerSet) where
       go : (t : Bool) → evenOnes (set .k) y ≡ t → among y both ≡ true
       go true e = among-left y (set .keys) (map (revcomp (set .k)) (set .keys)) (rw (e, canonical) at h)
       go false e =
-        among-right y (set .keys) (map (revcomp (set .k)) (set .keys))
+          among-right y (set .keys) (map (revcomp (set .k)) (set .keys))
           (subst (λ (z : ℕ). among z (map (revcomp (set .k)) (set .keys)) ≡ true) (revcomp-twice (set .k) y lt)
-            (among-map (revcomp (set .k)) (revcomp (set .k) y) (set .keys) (rw (e, canonical) at h)))
+          (among-map (revcomp (set .k)) (revcomp (set .k) y) (set .keys) (rw (e, canonical) at h)))
 
   cover-all : (ys : List ℕ) → All (SolidKmer (set .k) (solid set)) ys → All (λ z. among z both ≡ true) ys
   unfolding SolidKmer
@@ -121,4 +121,4 @@ module _ (set : KmerSet) where
   pub few : Few (set .k) (length (set .keys)) (solid set)
   unfolding Few both
   few ys d h =
-    omega (arith, pigeonhole ys both d (cover-all ys h), length-append (set .keys) (map (revcomp (set .k)) (set .keys)), length-map (set .keys) (revcomp (set .k)))
+      omega (arith, pigeonhole ys both d (cover-all ys h), length-append (set .keys) (map (revcomp (set .k)) (set .keys)), length-map (set .keys) (revcomp (set .k)))

@@ -9,3 +9,5 @@ pub mod Lookups
 pub mod Walk
 pub mod Correctors
 pub mod Exactly
+pub mod Opened
+pub mod Demands

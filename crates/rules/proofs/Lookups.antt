@@ -33,9 +33,9 @@ module _ (k : ℕ) (sol : ℕ → Bool) (F : ℕ) where
   pub record FairAt (b : ℕ) (s : List ℕ) (y : ℕ) (t : Try Mend) : Type 0 where
     pub refusal : t .answer ≡ none → t .lookups + 1 ≤ F + scanCost k sol y s
     pub staying : (m : Mend) → t .answer ≡ some m → m .resume ≡ 0
-      → (t .lookups + 2 ≤ F) × (sol (add k (inPlace k y (m .letters)) (code b)) ≡ true)
+        → (t .lookups + 2 ≤ F) × (sol (add k (inPlace k y (m .letters)) (code b)) ≡ true)
     pub going : (m : Mend) (r : ℕ) → t .answer ≡ some m → m .resume ≡ suc r
-      → (r ≤ length s → t .lookups + 1 ≤ F * suc r) × (length s ≤ r → t .lookups + 1 ≤ F * suc (length s))
+        → (r ≤ length s → t .lookups + 1 ≤ F * suc r) × (length s ≤ r → t .lookups + 1 ≤ F * suc (length s))
 
 module _ (k : ℕ) (sol : ℕ → Bool) (ce : List ℕ → ℕ → Try Mend) (F : ℕ) where
   -- what a corrector may cost
@@ -72,7 +72,7 @@ module _ (k : ℕ) (sol : ℕ → Bool) (ce : List ℕ → ℕ → Try Mend) (F 
   quiet-scan h y (b ∷ s) = go (quiet-scan h (add k y (code b)) s) (sol (add k y (code b)))
     where
       go : quiet (add k y (code b)) s + scanCost k sol (add k y (code b)) s ≤ F * length s → (t : Bool)
-        → choice t (1 + F * length s) (1 + quiet (add k y (code b)) s) + scanIf t (scanCost k sol (add k y (code b)) s) ≤ F * suc (length s)
+          → choice t (1 + F * length s) (1 + quiet (add k y (code b)) s) + scanIf t (scanCost k sol (add k y (code b)) s) ≤ F * suc (length s)
       go i true = omega arith
       go i false = omega arith
 
@@ -94,70 +94,78 @@ module _ (k : ℕ) (sol : ℕ → Bool) (ce : List ℕ → ℕ → Try Mend) (F 
   split d e t h = rw (← h) (omega arith)
 
   drop-ready : 2 ≤ F → (y b : ℕ) (s : List ℕ) (l r : ℕ) → (r ≡ 0 → (l + 2 ≤ F) × (sol (add k y (code b)) ≡ true))
-    → ((r′ : ℕ) → r ≡ suc r′ → (r′ ≤ length s → l + 1 ≤ F * suc r′) × (length s ≤ r′ → l + 1 ≤ F * suc (length s)))
-    → 1 + l + ready y (drop r (b ∷ s)) ≤ F + F * length s
+      → ((r′ : ℕ) → r ≡ suc r′ → (r′ ≤ length s → l + 1 ≤ F * suc r′) × (length s ≤ r′ → l + 1 ≤ F * suc (length s)))
+      → 1 + l + ready y (drop r (b ∷ s)) ≤ F + F * length s
   unfolding ready choice
   drop-ready h y b s l zero p q = rw (p refl .1) (omega (arith, p refl .0))
   drop-ready h y b s l (suc r) p q = elim (decLe r (length s)) [ yes le ↦ inside le | no gt ↦ outside (omega arith) ]
     where
       inside : r ≤ length s → 1 + l + ready y (drop r s) ≤ F + F * length s
       inside le =
-        omega (arith, ready≤ h y (drop r s), ap (λ (x : ℕ). F * x) (length-drop r s), q r refl .0 le, split (length s - r) r (length s) (omega arith))
+          omega (arith, ready≤ h y (drop r s), ap (λ (x : ℕ). F * x) (length-drop r s), q r refl .0 le, split (length s - r) r (length s) (omega arith))
+
       outside : length s < r → 1 + l + ready y (drop r s) ≤ F + F * length s
       outside gt =
-        let e : length (drop r s) ≡ 0 = length-drop r s ∙ omega arith in
-        omega (arith, ready≤ h y (drop r s), ap (λ (x : ℕ). F * x) e, q r refl .1 (omega arith))
+          let e : length (drop r s) ≡ 0 = length-drop r s ∙ omega arith in
+          omega (arith, ready≤ h y (drop r s), ap (λ (x : ℕ). F * x) e, q r refl .1 (omega arith))
 
   -- at each turn what is done and what can still come do not grow together
   ahead-step : Fair → (st : State) (b : ℕ) (s : List ℕ)
-    → turn k sol ce st b s .done .lookups + ahead (turn k sol ce st b s .previous) (turn k sol ce st b s .kmer) (turn k sol ce st b s .rest)
+      → turn k sol ce st b s .done .lookups + ahead (turn k sol ce st b s .previous) (turn k sol ce st b s .kmer) (turn k sol ce st b s .rest)
       ≤ st .done .lookups + ahead (st .previous) (st .kmer) (b ∷ s)
   unfolding ahead quiet ready choice keepBase mendBase
   ahead-step h st b s = go (case k sol ce st b s)
     where
       Goal : Type 0
       Goal = turn k sol ce st b s .done .lookups + ahead (turn k sol ce st b s .previous) (turn k sol ce st b s .kmer) (turn k sol ce st b s .rest)
-        ≤ st .done .lookups + ahead (st .previous) (st .kmer) (b ∷ s)
+          ≤ st .done .lookups + ahead (st .previous) (st .kmer) (b ∷ s)
+
       z : ℕ
       z = add k (st .kmer) (code b)
+
       prev : (p : Bool) → sol z ≡ true → ahead p (st .kmer) (b ∷ s) ≡ 1 + F * length s
       prev true e = rw (e, ready)
       prev false e = rw (e, quiet)
+
       go : Case k sol ce st b s → Goal
       go (is-solid e) = rw (turn-solid k sol ce st b s e, prev (st .previous) e) (omega (arith, ready≤ (h .least) z s))
       go (is-quiet e p) = rw (turn-quiet k sol ce st b s e p, p, e) (omega arith)
       go (is-refused e p a) =
-        rw (turn-refused k sol ce st b s e p a, p, e) (omega (arith, h .at b s z .refusal a, quiet-scan (h .least) z s))
+          rw (turn-refused k sol ce st b s e p a, p, e) (omega (arith, h .at b s z .refusal a, quiet-scan (h .least) z s))
       go (is-mended m e p a) =
-        rw (turn-mended k sol ce st b s m e p a, p, e)
-        (let d = drop-ready (h .least) (inPlace k z (m .letters)) b s (ce (b ∷ s) z .lookups) (m .resume)
-           (h .at b s z .staying m a) (λ r e′. h .at b s z .going m r a e′) in omega arith)
+          rw (turn-mended k sol ce st b s m e p a, p, e)
+          (let d = drop-ready (h .least) (inPlace k z (m .letters)) b s (ce (b ∷ s) z .lookups) (m .resume)
+          (h .at b s z .staying m a) (λ r e′. h .at b s z .going m r a e′) in omega arith)
 
   lookups-le : Fair → (f : ℕ) (st : State)
-    → turnsOf k sol ce f st .done .lookups ≤ st .done .lookups + ahead (st .previous) (st .kmer) (st .rest)
+      → turnsOf k sol ce f st .done .lookups ≤ st .done .lookups + ahead (st .previous) (st .kmer) (st .rest)
   unfolding turnsOf
   lookups-le h zero st = omega arith
   lookups-le h (suc f) st = go (lookups-le h f) (st .rest) refl
     where
       go : ((st′ : State) → turnsOf k sol ce f st′ .done .lookups ≤ st′ .done .lookups + ahead (st′ .previous) (st′ .kmer) (st′ .rest))
-        → (r : List ℕ) → st .rest ≡ r
-        → turnsOf k sol ce (suc f) st .done .lookups ≤ st .done .lookups + ahead (st .previous) (st .kmer) (st .rest)
+          → (r : List ℕ) → st .rest ≡ r
+          → turnsOf k sol ce (suc f) st .done .lookups ≤ st .done .lookups + ahead (st .previous) (st .kmer) (st .rest)
       go ih [] e = rw (turnsOf-end k sol ce (suc f) st e) (omega arith)
       go ih (b ∷ s) e =
-        let i = ih (turn k sol ce st b s) in
-        let l = ahead-step h st b s in
-        let e′ : ahead (st .previous) (st .kmer) (st .rest) ≡ ahead (st .previous) (st .kmer) (b ∷ s) = ap (ahead (st .previous) (st .kmer)) e in
-        rw (turnsOf-step k sol ce f st b s e) (omega arith)
+          let i = ih (turn k sol ce st b s) in
+          let l = ahead-step h st b s in
+          let e′ : ahead (st .previous) (st .kmer) (st .rest) ≡ ahead (st .previous) (st .kmer) (b ∷ s) = ap (ahead (st .previous) (st .kmer)) e in
+          rw (turnsOf-step k sol ce f st b s e) (omega arith)
 
   -- ---- a pass
 
   pub drive-lookups : Fair → (read : List ℕ) → k ≤ length read → drive k sol ce read .lookups ≤ 1 + (length read - k) * F
   unfolding drive begin
   drive-lookups h read le =
-    rw (drive, le-ltb (length read) k le)
-    (let y : ℕ = kmer k (take k read) in
-     omega (arith, lookups-le h (2 * (length read - k)) (begin k sol ce read), ahead≤ (h .least) (sol y) y (drop k read)
-           , ap (λ (x : ℕ). F * x) (length-drop k read)))
+      rw (drive, le-ltb (length read) k le)
+      (let y : ℕ = kmer k (take k read) in
+      omega (
+        arith,
+        lookups-le h (2 * (length read - k)) (begin k sol ce read),
+        ahead≤ (h .least) (sol y) y (drop k read),
+        ap (λ (x : ℕ). F * x) (length-drop k read),
+      ))
 
   pub drive-short : (read : List ℕ) → length read < k → drive k sol ce read .lookups ≡ 0
   unfolding drive

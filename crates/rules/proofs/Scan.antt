@@ -48,31 +48,39 @@ only-yes j [] a e = absurd (let z : _≡_ {A = ℕ} 0 1 = cc in omega arith)
 only-yes j (true ∷ l) a e = go (yesFrom (suc j) l) refl
   where
     go : (r : List ℕ) → yesFrom (suc j) l ≡ r → (i : ℕ) × (a ≡ j + i) × OnlyYes (true ∷ l) i
-    go [] q =
-      ( 0
-      , sym (Option·some-injective j a (rw q at e)) ∙ omega arith
-      , record { inside = omega arith; says-yes = refl; alone = elim [ zero ↦ λ lt y. refl | suc m ↦ λ lt y. absurd (yes-none (suc j) l q m y) ] } )
+    go [] q = (
+      0,
+      sym (Option·some-injective j a (rw q at e)) ∙ omega arith,
+      record { inside = omega arith; says-yes = refl; alone = elim [ zero ↦ λ lt y. refl | suc m ↦ λ lt y. absurd (yes-none (suc j) l q m y) ] },
+    )
     go (b ∷ r) q = absurd (let p : none ≡ some a = rw q at e in let z : _≡_ {A = ℕ} 0 1 = cc in omega arith)
 only-yes j (false ∷ l) a e =
-  let w = only-yes (suc j) l a e in
-  ( suc (w .0)
-  , w .1 ∙ omega arith
-  , record { inside = omega (arith, w .2 .inside); says-yes = w .2 .says-yes
-           ; alone = elim [ zero ↦ λ lt y. absurd (false≢true y) | suc m ↦ λ lt y. ap suc (w .2 .alone m (omega arith) y) ] } )
+    let w = only-yes (suc j) l a e in (
+      suc (w .0),
+      w .1 ∙ omega arith,
+      record {
+        inside = omega (arith, w .2 .inside);
+        says-yes = w .2 .says-yes;
+        alone = elim [ zero ↦ λ lt y. absurd (false≢true y) | suc m ↦ λ lt y. ap suc (w .2 .alone m (omega arith) y) ];
+      },
+    )
 
 pub yes-only : (j : ℕ) (l : List Bool) (i : ℕ) → OnlyYes l i → only (yesFrom j l) ≡ some (j + i)
 unfolding yesFrom only
 yes-only j [] i o = absurd (omega (arith, o .inside))
 yes-only j (true ∷ l) zero o =
-  let q = no-yes (suc j) l (λ m lt y. absurd (omega (arith, o .alone (suc m) (omega arith) y))) in
-  rw q (let z : j ≡ j + 0 = omega arith in ap {B = Option ℕ} some z)
+    let q = no-yes (suc j) l (λ m lt y. absurd (omega (arith, o .alone (suc m) (omega arith) y))) in
+    rw q (let z : j ≡ j + 0 = omega arith in ap {B = Option ℕ} some z)
 yes-only j (true ∷ l) (suc i) o = absurd (omega (arith, o .alone 0 (omega arith) refl))
 yes-only j (false ∷ l) zero o = absurd (false≢true (o .says-yes))
 yes-only j (false ∷ l) (suc i) o =
-  yes-only (suc j) l i
-    (record { inside = omega (arith, o .inside); says-yes = o .says-yes
-            ; alone = λ m lt y. let e = o .alone (suc m) (omega arith) y in omega arith })
-  ∙ (let z : suc j + i ≡ j + suc i = omega arith in ap {B = Option ℕ} some z)
+    yes-only (suc j) l i
+    (record {
+      inside = omega (arith, o .inside);
+      says-yes = o .says-yes;
+      alone = λ m lt y. let e = o .alone (suc m) (omega arith) y in omega arith;
+    })
+    ∙ (let z : suc j + i ≡ j + suc i = omega arith in ap {B = Option ℕ} some z)
 
 -- ---- the sole successor
 
@@ -93,29 +101,36 @@ module _ (k : ℕ) (sol : ℕ → Bool) where
   pub sole-is : (y z : ℕ) → sole k sol y .answer ≡ some z → OnlySuccessor k sol y z
   unfolding sole give u
   sole-is y z e =
-    let w = bind-some (u k sol y) (λ a. give (add k y a)) z e in
-    let v = only-yes 0 (successors k sol y) (w .0) (w .1) in
-    let a : ℕ = w .0 in
-    let n = four-length y in
-    let i : v .0 ≡ a = omega (arith, v .1) in
-    let lt : a < 4 = omega (arith, v .1, v .2 .inside) in
-    let q : add k y a ≡ z = Option·some-injective (add k y a) z (w .2) in
-    let yes : sol (add k y a) ≡ true = sym (four y a lt) ∙ subst (λ (x : ℕ). getD (successors k sol y) x false ≡ true) i (v .2 .says-yes) in
-    record { by = a; by-lt = lt; is = sym q; is-solid = subst (λ (x : ℕ). sol x ≡ true) q yes
-           ; only-one = λ b lb s. v .2 .alone b (omega arith) (four y b lb ∙ s) ∙ i }
+      let w = bind-some (u k sol y) (λ a. give (add k y a)) z e in
+      let v = only-yes 0 (successors k sol y) (w .0) (w .1) in
+      let a : ℕ = w .0 in
+      let n = four-length y in
+      let i : v .0 ≡ a = omega (arith, v .1) in
+      let lt : a < 4 = omega (arith, v .1, v .2 .inside) in
+      let q : add k y a ≡ z = Option·some-injective (add k y a) z (w .2) in
+      let yes : sol (add k y a) ≡ true = sym (four y a lt) ∙ subst (λ (x : ℕ). getD (successors k sol y) x false ≡ true) i (v .2 .says-yes) in
+      record {
+        by = a;
+        by-lt = lt;
+        is = sym q;
+        is-solid = subst (λ (x : ℕ). sol x ≡ true) q yes;
+        only-one = λ b lb s. v .2 .alone b (omega arith) (four y b lb ∙ s) ∙ i;
+      }
 
   -- and the only solid successor is found
   pub sole-found : (y z : ℕ) → OnlySuccessor k sol y z → sole k sol y .answer ≡ some z
   unfolding sole give u
   sole-found y z o =
-    let n = four-length y in
-    let f = yes-only 0 (successors k sol y) (o .by)
-          (record { inside = omega (arith, o .by-lt)
-                  ; says-yes = four y (o .by) (o .by-lt) ∙ subst (λ (x : ℕ). sol x ≡ true) (o .is) (o .is-solid)
-                  ; alone = λ m lt s. let l : m < 4 = omega arith in o .only-one m l (sym (four y m l) ∙ s) }) in
-    let e : 0 + o .by ≡ o .by = omega arith in
-    bind-is (u k sol y) (λ a. give (add k y a)) (o .by) (f ∙ ap {B = Option ℕ} some e)
-    ∙ ap {B = Option ℕ} some (sym (o .is))
+      let n = four-length y in
+      let f = yes-only 0 (successors k sol y) (o .by)
+      (record {
+        inside = omega (arith, o .by-lt);
+        says-yes = four y (o .by) (o .by-lt) ∙ subst (λ (x : ℕ). sol x ≡ true) (o .is) (o .is-solid);
+        alone = λ m lt s. let l : m < 4 = omega arith in o .only-one m l (sym (four y m l) ∙ s);
+      }) in
+      let e : 0 + o .by ≡ o .by = omega arith in
+      bind-is (u k sol y) (λ a. give (add k y a)) (o .by) (f ∙ ap {B = Option ℕ} some e)
+      ∙ ap {B = Option ℕ} some (sym (o .is))
 
   pub sole-lt : (y z : ℕ) → sole k sol y .answer ≡ some z → z < 4 ^ k
   sole-lt y z e = let o = sole-is y z e in rw (o .is) (add-lt k y (o .by))
@@ -168,9 +183,18 @@ module _ (k : ℕ) (sol : ℕ → Bool) where
     where
       go : ScanIs (suc l) (suc i) (add k y (code b)) s → (t : Bool) → sol (add k y (code b)) ≡ t → ScanIs l i y (b ∷ s)
       go h true e =
-        record { cost = rw (e, scanFrom) (omega arith); low = rw (e, scanFrom) (omega arith); from = rw (e, scanFrom) (omega arith)
-               ; high = rw (e, scanFrom) (omega arith); short = rw (e, scanCost) (omega arith) }
+          record {
+            cost = rw (e, scanFrom) (omega arith);
+            low = rw (e, scanFrom) (omega arith);
+            from = rw (e, scanFrom) (omega arith);
+            high = rw (e, scanFrom) (omega arith);
+            short = rw (e, scanCost) (omega arith);
+          }
       go h false e =
-        record { cost = rw (e, scanFrom) (omega (arith, h .cost)); low = rw (e, scanFrom) (omega (arith, h .low))
-               ; from = rw (e, scanFrom) (omega (arith, h .from)); high = rw (e, scanFrom) (omega (arith, h .high))
-               ; short = rw (e, scanCost) (omega (arith, h .short)) }
+          record {
+            cost = rw (e, scanFrom) (omega (arith, h .cost));
+            low = rw (e, scanFrom) (omega (arith, h .low));
+            from = rw (e, scanFrom) (omega (arith, h .from));
+            high = rw (e, scanFrom) (omega (arith, h .high));
+            short = rw (e, scanCost) (omega (arith, h .short));
+          }

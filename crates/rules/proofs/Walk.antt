@@ -41,7 +41,7 @@ module _ (k : ℕ) (sol : ℕ → Bool) where
   same (move o) f (more o′ m) (first-more n g) = absurd (n (one-successor o′ o))
   same (more o m) (first-more n f) (move o′) g = absurd (n (one-successor o o′))
   same (more {t = t} o m) (first-more n f) (more {zs = zs′} o′ m′) (first-more n′ g) =
-    ap suc (same m f (subst (λ (w : ℕ). Moves k sol w zs′ t) (one-successor o′ o) m′) g)
+      ap suc (same m f (subst (λ (w : ℕ). Moves k sol w zs′ t) (one-successor o′ o) m′) g)
 
   record Suffix (z t l : ℕ) : Type 0 where
     rest : List ℕ
@@ -70,8 +70,8 @@ module _ (k : ℕ) (sol : ℕ → Bool) where
     where
       go : Distinct (z ∷ zs) → (b : Bool) → among y (z ∷ zs) ≡ b → Distinct (y ∷ z ∷ zs)
       go d true a =
-        let w = suffix (more o m) (first-more n′ f) y a n in
-        absurd (omega (arith, w .shorter, same (more o m) (first-more n′ f) (w .moves) (w .first)))
+          let w = suffix (more o m) (first-more n′ f) y a n in
+          absurd (omega (arith, w .shorter, same (more o m) (first-more n′ f) (w .moves) (w .first)))
       go d false a = also-distinct a d
 
   last-among : {y t : ℕ} {zs : List ℕ} → Moves k sol y zs t → among t zs ≡ true
@@ -88,7 +88,7 @@ module _ (k : ℕ) (sol : ℕ → Bool) where
 
     module _ (y : ℕ) (e : sole k sol (w .at) .answer ≡ some y) where
       walk-hit : eqb y t ≡ true
-        → walk k sol (suc f) t w ≡ record { answer = some (w .letters ++ (lastLetter y ∷ [])); lookups = w .lookups + moveCost }
+          → walk k sol (suc f) t w ≡ record { answer = some (w .letters ++ (lastLetter y ∷ [])); lookups = w .lookups + moveCost }
       unfolding walk
       walk-hit h = rw (lit, walk, e, h)
 
@@ -107,7 +107,7 @@ moved-moves w y = refl
 -- the mark after a move: set, or kept
 record Marked (w : Walk) (y : ℕ) : Type 0 where
   marks : ((suc (w .moves) ≡ w .marks-at) × (moved w y .mark ≡ y) × (moved w y .marks-at ≡ 2 * w .marks-at))
-        ⊎ ((suc (w .moves) ≡ w .marks-at → ⊥) × (moved w y .mark ≡ w .mark) × (moved w y .marks-at ≡ w .marks-at))
+      ⊎ ((suc (w .moves) ≡ w .marks-at → ⊥) × (moved w y .mark ≡ w .mark) × (moved w y .marks-at ≡ w .marks-at))
 
 marked : (w : Walk) (y : ℕ) → Marked w y
 unfolding moved
@@ -125,7 +125,7 @@ module _ (k : ℕ) (sol : ℕ → Bool) where
   walk-cost (suc f) t w = go (λ y. walk-cost f t (moved w y)) (sol (w .at)) refl (sole k sol (w .at) .answer) refl
     where
       go : ((y : ℕ) → walk k sol f t (moved w y) .lookups ≤ w .lookups + moveCost + moveCost * f)
-        → (p : Bool) → sol (w .at) ≡ p → (o : Option ℕ) → sole k sol (w .at) .answer ≡ o → walk k sol (suc f) t w .lookups ≤ w .lookups + moveCost * suc f
+          → (p : Bool) → sol (w .at) ≡ p → (o : Option ℕ) → sole k sol (w .at) .answer ≡ o → walk k sol (suc f) t w .lookups ≤ w .lookups + moveCost * suc f
       go i false e o g = rw (e, walk) (omega arith)
       go i true e none g = rw (e, walk, g) (omega arith)
       go i true e (some y) g = on (eqb y t) refl (eqb y (w .mark)) refl
@@ -137,21 +137,21 @@ module _ (k : ℕ) (sol : ℕ → Bool) where
 
   -- a chain is found: the mark is behind
   complete : (f t : ℕ) (w : Walk) (y : ℕ) (zs : List ℕ) → w .at ≡ y → sol y ≡ true → Moves k sol y zs t → Distinct zs → among (w .mark) zs ≡ false
-    → length zs ≤ f → walk k sol f t w .answer ≡ some (w .letters ++ spell zs)
+      → length zs ≤ f → walk k sol f t w .answer ≡ some (w .letters ++ spell zs)
   unfolding spell among moved
   complete zero t w y (z ∷ zs) e l m d a h = absurd (omega arith)
   complete (suc f) t w y (z ∷ []) e l (move o) d a h =
-    rw (walk-hit k sol f z w (rw e l) z (rw e (sole-found k sol y z o)) (eq-eqb z z refl))
+      rw (walk-hit k sol f z w (rw e l) z (rw e (sole-found k sol y z o)) (eq-eqb z z refl))
   complete (suc f) t w y (z ∷ zs) e l (more o m) (also-distinct nz d) a h =
-    let v = moved w z in
-    let q = marked w z in
-    let r = or-false (eqb (w .mark) z) (among (w .mark) zs) a in
-    let nt : z ≡ t → ⊥ = λ c. true≢false (sym (last-among k sol m) ∙ ap (λ (c′ : ℕ). among c′ zs) (sym c) ∙ nz) in
-    let nm : z ≡ w .mark → ⊥ = λ c. eqb-false (w .mark) z (r .0) (sym c) in
-    let behind : among (v .mark) zs ≡ false =
-          ⊎-elim (λ c. ap (λ (u : ℕ). among u zs) (c .1) ∙ nz) (λ c. ap (λ (u : ℕ). among u zs) (c .1) ∙ r .1) (q .marks) in
-    let i = complete f t v z zs refl (o .is-solid) m d behind (omega arith) in
-    rw (walk-goes k sol f t w (rw e l) z (rw e (sole-found k sol y z o)) (ne-eqb z t nt) (ne-eqb z (w .mark) nm))
+      let v = moved w z in
+      let q = marked w z in
+      let r = or-false (eqb (w .mark) z) (among (w .mark) zs) a in
+      let nt : z ≡ t → ⊥ = λ c. true≢false (sym (last-among k sol m) ∙ ap (λ (c′ : ℕ). among c′ zs) (sym c) ∙ nz) in
+      let nm : z ≡ w .mark → ⊥ = λ c. eqb-false (w .mark) z (r .0) (sym c) in
+      let behind : among (v .mark) zs ≡ false =
+      ⊎-elim (λ c. ap (λ (u : ℕ). among u zs) (c .1) ∙ nz) (λ c. ap (λ (u : ℕ). among u zs) (c .1) ∙ r .1) (q .marks) in
+      let i = complete f t v z zs refl (o .is-solid) m d behind (omega arith) in
+      rw (walk-goes k sol f t w (rw e l) z (rw e (sole-found k sol y z o)) (ne-eqb z t nt) (ne-eqb z (w .mark) nm))
       (i ∙ ap {B = Option (List ℕ)} some (append-assoc (w .letters) (lastLetter z ∷ []) (spell zs)))
 
   -- what is accepted is the way to the first t
@@ -167,23 +167,32 @@ module _ (k : ℕ) (sol : ℕ → Bool) where
   sound (suc f) t w ls l h = go (λ v. sound f t v ls) (sole k sol (w .at) .answer) refl
     where
       go : ((v : Walk) → sol (v .at) ≡ true → walk k sol f t v .answer ≡ some ls → Found t v ls)
-        → (o : Option ℕ) → sole k sol (w .at) .answer ≡ o → Found t w ls
+          → (o : Option ℕ) → sole k sol (w .at) .answer ≡ o → Found t w ls
       go ih none e = absurd (Option·none-ne-some ls (rw (walk-dead k sol f t w l e) at h))
       go ih (some y) e = on (eqb y t) refl (eqb y (w .mark)) refl
         where
           o : OnlySuccessor k sol (w .at) y
           o = sole-is k sol (w .at) y e
+
           on : (p : Bool) → eqb y t ≡ p → (q : Bool) → eqb y (w .mark) ≡ q → Found t w ls
           on true e1 q e2 =
-            let yt = eqb-true y t e1 in
-            record { via = t ∷ []; moves = move (subst (λ (z : ℕ). OnlySuccessor k sol (w .at) z) yt o); first = first-one
-                   ; spelled = sym (Option·some-injective (w .letters ++ (lastLetter y ∷ [])) ls (rw (walk-hit k sol f t w l y e e1) at h))
-                               ∙ ap (λ (z : ℕ). w .letters ++ (lastLetter z ∷ [])) yt }
+              let yt = eqb-true y t e1 in
+              record {
+                via = t ∷ [];
+                moves = move (subst (λ (z : ℕ). OnlySuccessor k sol (w .at) z) yt o);
+                first = first-one;
+                spelled = sym (Option·some-injective (w .letters ++ (lastLetter y ∷ [])) ls (rw (walk-hit k sol f t w l y e e1) at h))
+                    ∙ ap (λ (z : ℕ). w .letters ++ (lastLetter z ∷ [])) yt;
+              }
           on false e1 true e2 = absurd (Option·none-ne-some ls (rw (walk-loop k sol f t w l y e e1 e2) at h))
           on false e1 false e2 =
-            let i = ih (moved w y) (o .is-solid) (rw (walk-goes k sol f t w l y e e1 e2) at h) in
-            record { via = y ∷ i .via; moves = more o (i .moves); first = first-more (eqb-false y t e1) (i .first)
-                   ; spelled = i .spelled ∙ append-assoc (w .letters) (lastLetter y ∷ []) (spell (i .via)) }
+              let i = ih (moved w y) (o .is-solid) (rw (walk-goes k sol f t w l y e e1 e2) at h) in
+              record {
+                via = y ∷ i .via;
+                moves = more o (i .moves);
+                first = first-more (eqb-false y t e1) (i .first);
+                spelled = i .spelled ∙ append-assoc (w .letters) (lastLetter y ∷ []) (spell (i .via));
+              }
 
 -- ---- from x on, by sole successors
 
@@ -238,7 +247,7 @@ module _ (k n : ℕ) (sol : ℕ → Bool) (few : Few k n sol) (x : ℕ) (good : 
   find z (suc i) h = go (find z i) (eqb z (it (suc i))) refl h
     where
       go : (among z (firsts i) ≡ true → (a : ℕ) × (a ≤ i) × (it a ≡ z)) → (t : Bool) → eqb z (it (suc i)) ≡ t → t || among z (firsts i) ≡ true
-        → (a : ℕ) × (a ≤ suc i) × (it a ≡ z)
+          → (a : ℕ) × (a ≤ suc i) × (it a ≡ z)
       go f true e h = (suc i, omega arith, sym (eqb-true z (it (suc i)) e))
       go f false e h = let w = f h in (w .0, omega (arith, w .1), w .2)
 
@@ -267,13 +276,13 @@ module _ (k n : ℕ) (sol : ℕ → Bool) (few : Few k n sol) (x : ℕ) (good : 
   period : (q : ℕ) → 2 * n ≤ q → (d : ℕ) × (0 < d) × (d ≤ 2 * n) × (it (d + q) ≡ it q)
   unfolding Repeat
   period q h =
-    let r = repeat in
-    let a : ℕ = r .0 in
-    let b : ℕ = r .1 in
-    let e : it ((q - a) + b) ≡ it ((q - a) + a) = it-shift b a (q - a) (sym (r .4)) in
-    let e1 : (q - a) + b ≡ (b - a) + q = omega (arith, r .2, r .3) in
-    let e2 : (q - a) + a ≡ q = omega (arith, r .2, r .3) in
-    (b - a, omega (arith, r .2), omega (arith, r .3), ap it (sym e1) ∙ e ∙ ap it e2)
+      let r = repeat in
+      let a : ℕ = r .0 in
+      let b : ℕ = r .1 in
+      let e : it ((q - a) + b) ≡ it ((q - a) + a) = it-shift b a (q - a) (sym (r .4)) in
+      let e1 : (q - a) + b ≡ (b - a) + q = omega (arith, r .2, r .3) in
+      let e2 : (q - a) + a ≡ q = omega (arith, r .2, r .3) in
+      (b - a, omega (arith, r .2), omega (arith, r .3), ap it (sym e1) ∙ e ∙ ap it e2)
 
   -- ---- exactly when a chain exists
 
@@ -288,9 +297,9 @@ module _ (k n : ℕ) (sol : ℕ → Bool) (few : Few k n sol) (x : ℕ) (good : 
     where
       go : Distinct (x ∷ c .via) → walkFrom k n sol t x .answer ≡ some (spell (x ∷ c .via))
       go (also-distinct nx d) =
-        let xt : x ≡ t → ⊥ = λ e. true≢false (sym (last-among k sol (c .moves)) ∙ ap (λ (u : ℕ). among u (c .via)) (sym e) ∙ nx) in
-        let l = few (x ∷ c .via) (c .distinct) (also good (moves-good (c .moves))) in
-        rw (ne-eqb x t xt, walkFrom) (complete k sol (6 * n) t (start x) x (c .via) refl (good .1) (c .moves) d nx (omega arith))
+          let xt : x ≡ t → ⊥ = λ e. true≢false (sym (last-among k sol (c .moves)) ∙ ap (λ (u : ℕ). among u (c .via)) (sym e) ∙ nx) in
+          let l = few (x ∷ c .via) (c .distinct) (also good (moves-good (c .moves))) in
+          rw (ne-eqb x t xt, walkFrom) (complete k sol (6 * n) t (start x) x (c .via) refl (good .1) (c .moves) d nx (omega arith))
 
   pub found-chain : (t : ℕ) (ls : List ℕ) → walkFrom k n sol t x .answer ≡ some ls → (c : Chain k sol x t) × (ls ≡ spell (x ∷ c .via))
   unfolding walkFrom refuse start spell SolidKmer
@@ -299,10 +308,15 @@ module _ (k n : ℕ) (sol : ℕ → Bool) (few : Few k n sol) (x : ℕ) (good : 
       go : (b : Bool) → eqb x t ≡ b → (c : Chain k sol x t) × (ls ≡ spell (x ∷ c .via))
       go true e = absurd (Option·none-ne-some ls (rw (e, walkFrom) at h))
       go false e =
-        let w = sound k sol (6 * n) t (start x) ls (good .1) (rw (e, walkFrom) at h) in
-        ( record { via = w .via; moves = w .moves; all-solid = also (good .1) (moves-solid k sol (w .moves))
-                 ; distinct = distinct-first k sol (eqb-false x t e) (w .moves) (w .first) }
-        , w .spelled )
+          let w = sound k sol (6 * n) t (start x) ls (good .1) (rw (e, walkFrom) at h) in (
+            record {
+              via = w .via;
+              moves = w .moves;
+              all-solid = also (good .1) (moves-solid k sol (w .moves));
+              distinct = distinct-first k sol (eqb-false x t e) (w .moves) (w .first);
+            },
+            w .spelled,
+          )
 
   -- ---- the fuel is enough
 
@@ -327,8 +341,8 @@ module _ (k n : ℕ) (sol : ℕ → Bool) (few : Few k n sol) (x : ℕ) (good : 
     where
       late : 2 * n ≤ i .q → w .moves + 2 ≤ 6 * n
       late h =
-        let r = period (i .q) h in
-        elim (decLe (r .0 + i .q) (w .moves))
+          let r = period (i .q) h in
+          elim (decLe (r .0 + i .q) (w .moves))
           [ yes g ↦ absurd (i .fresh (r .0 + i .q) (omega (arith, r .1)) g (r .3)) | no g ↦ omega (arith, r .2) ]
 
   it-next : (w : Walk) (y : ℕ) → it (w .moves) ≡ w .at → sole k sol (w .at) .answer ≡ some y → it (suc (w .moves)) ≡ y
@@ -341,38 +355,49 @@ module _ (k n : ℕ) (sol : ℕ → Bool) (few : Few k n sol) (x : ℕ) (good : 
     where
       v : Walk
       v = moved w y
+
       nx : it (suc (w .moves)) ≡ y
       nx = it-next w y (i .at-is) e
+
       -- nothing since the mark is the mark, the new k-mer included
       fresh′ : (a : ℕ) → i .q < a → a ≤ suc (w .moves) → it a ≡ it (i .q) → ⊥
       fresh′ a lt le e′ =
-        elim (decLe a (w .moves))
-          [ yes g ↦ i .fresh a lt g e′
-          | no g ↦ ne (sym nx ∙ ap it (let z : suc (w .moves) ≡ a = omega arith in z) ∙ e′ ∙ i .mark-is) ]
+          elim (decLe a (w .moves)) [
+            | yes g ↦ i .fresh a lt g e′
+            | no g ↦ ne (sym nx ∙ ap it (let z : suc (w .moves) ≡ a = omega arith in z) ∙ e′ ∙ i .mark-is)
+          ]
+
       early : suc (w .moves) ≡ w .marks-at → i .q < 2 * n
-      early s = elim (decLe (2 * n) (i .q))
-        [ yes h ↦ (let r = period (i .q) h in absurd (fresh′ (r .0 + i .q) (omega (arith, r .1)) (omega (arith, r .2, i .p-is)) (r .3)))
-        | no h ↦ omega arith ]
+      early s = elim (decLe (2 * n) (i .q)) [
+        | yes h ↦ (let r = period (i .q) h in absurd (fresh′ (r .0 + i .q) (omega (arith, r .1)) (omega (arith, r .2, i .p-is)) (r .3)))
+        | no h ↦ omega arith
+      ]
+
       set : (suc (w .moves) ≡ w .marks-at) × (v .mark ≡ y) × (v .marks-at ≡ 2 * w .marks-at) → Going v
       set c =
-        record { q = suc (w .moves)
-               ; at-is = nx
-               ; mark-is = nx ∙ sym (c .1)
-               ; q-le = omega arith
-               ; m-lt = omega (arith, c .0, c .2)
-               ; p-is = omega (arith, c .0, c .2)
-               ; q-lt = omega (arith, early (c .0), c .0, i .p-is, n-pos)
-               ; fresh = λ a lt le e′. omega arith }
+          record {
+            q = suc (w .moves);
+            at-is = nx;
+            mark-is = nx ∙ sym (c .1);
+            q-le = omega arith;
+            m-lt = omega (arith, c .0, c .2);
+            p-is = omega (arith, c .0, c .2);
+            q-lt = omega (arith, early (c .0), c .0, i .p-is, n-pos);
+            fresh = λ a lt le e′. omega arith;
+          }
+
       keep : (suc (w .moves) ≡ w .marks-at → ⊥) × (v .mark ≡ w .mark) × (v .marks-at ≡ w .marks-at) → Going v
       keep c =
-        record { q = i .q
-               ; at-is = nx
-               ; mark-is = i .mark-is ∙ sym (c .1)
-               ; q-le = omega (arith, i .q-le)
-               ; m-lt = omega (arith, c .0, c .2, i .m-lt)
-               ; p-is = omega (arith, c .2, i .p-is)
-               ; q-lt = i .q-lt
-               ; fresh = λ a lt le e′. fresh′ a lt le e′ }
+          record {
+            q = i .q;
+            at-is = nx;
+            mark-is = i .mark-is ∙ sym (c .1);
+            q-le = omega (arith, i .q-le);
+            m-lt = omega (arith, c .0, c .2, i .m-lt);
+            p-is = omega (arith, c .2, i .p-is);
+            q-lt = i .q-lt;
+            fresh = λ a lt le e′. fresh′ a lt le e′;
+          }
 
   walk-enough : (f g t : ℕ) (w : Walk) → Going w → 6 * n ≤ w .moves + f + 1 → 6 * n ≤ w .moves + g + 1 → walk k sol f t w ≡ walk k sol g t w
   unfolding SolidKmer
@@ -382,8 +407,9 @@ module _ (k n : ℕ) (sol : ℕ → Bool) (few : Few k n sol) (x : ℕ) (good : 
     where
       lit : sol (w .at) ≡ true
       lit = subst (λ (y : ℕ). sol y ≡ true) (i .at-is) (it-good (w .moves) .1)
+
       go : ((v : Walk) → Going v → 6 * n ≤ v .moves + f + 1 → 6 * n ≤ v .moves + g + 1 → walk k sol f t v ≡ walk k sol g t v)
-        → (o : Option ℕ) → sole k sol (w .at) .answer ≡ o → walk k sol (suc f) t w ≡ walk k sol (suc g) t w
+          → (o : Option ℕ) → sole k sol (w .at) .answer ≡ o → walk k sol (suc f) t w ≡ walk k sol (suc g) t w
       go ih none e = walk-dead k sol f t w lit e ∙ sym (walk-dead k sol g t w lit e)
       go ih (some y) e = on (eqb y t) refl (eqb y (w .mark)) refl
         where
@@ -391,16 +417,24 @@ module _ (k n : ℕ) (sol : ℕ → Bool) (few : Few k n sol) (x : ℕ) (good : 
           on true e1 b e2 = walk-hit k sol f t w lit y e e1 ∙ sym (walk-hit k sol g t w lit y e e1)
           on false e1 true e2 = walk-loop k sol f t w lit y e e1 e2 ∙ sym (walk-loop k sol g t w lit y e e1 e2)
           on false e1 false e2 =
-            let m = moved-moves w y in
-            walk-goes k sol f t w lit y e e1 e2
-            ∙ ih (moved w y) (going-step w y i e (eqb-false y (w .mark) e2)) (omega arith) (omega arith)
-            ∙ sym (walk-goes k sol g t w lit y e e1 e2)
+              let m = moved-moves w y in
+              walk-goes k sol f t w lit y e e1 e2
+              ∙ ih (moved w y) (going-step w y i e (eqb-false y (w .mark) e2)) (omega arith) (omega arith)
+              ∙ sym (walk-goes k sol g t w lit y e e1 e2)
 
   -- Any fuel from 6n − 1 on gives the same walk: it makes fewer than 6n moves.
   pub walk-fuel : (f t : ℕ) → 6 * n ≤ f + 1 → walk k sol f t (start x) ≡ walk k sol (6 * n) t (start x)
   unfolding start it
   walk-fuel f t h =
-    walk-enough f (6 * n) t (start x)
-      (record { q = 0; at-is = refl; mark-is = refl; q-le = omega arith; m-lt = omega arith; p-is = omega arith; q-lt = omega (arith, n-pos)
-              ; fresh = λ i lt le e. omega arith })
+      walk-enough f (6 * n) t (start x)
+      (record {
+        q = 0;
+        at-is = refl;
+        mark-is = refl;
+        q-le = omega arith;
+        m-lt = omega arith;
+        p-is = omega arith;
+        q-lt = omega (arith, n-pos);
+        fresh = λ i lt le e. omega arith;
+      })
       (omega arith) (omega arith)
