@@ -1,0 +1,3 @@
+pub mod Kmer
+pub mod Ready
+pub mod Bracket
