@@ -1,3 +1,2 @@
-pub mod Kmer
 pub mod Ready
 pub mod Bracket

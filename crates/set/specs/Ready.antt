@@ -5,8 +5,8 @@ use mathlib.Core.Option.{none}
 use mathlib.Core.List.{List}
 use lib.ListN.{length, getD}
 use Rattle.rules.specs.Set.{setCheck, headerK, headerN, keyWord}
-use Rattle.set.specs.declared.Header.{Header}
-use Rattle.set.specs.Kmer.{Shifts}
+use Rattle.kmer.specs.declared.Header.{Header}
+use Rattle.kmer.specs.Kmer.{Shifts}
 
 -- The entries that a table of starts has room for: one for each prefix of up to 16 bits, and one for the end.
 abbrev pub tableLength : ℕ

@@ -1,37 +1,17 @@
 // The lookup: a k-mer's canonical code among a set's keys.
+use kmer::{Header, Kmer};
 ghost use mathlib.Core.Path.{_≡_};
 ghost use mathlib.Core.Option.{none};
 ghost use Prim.Native.Nat.{_-_, _*_, _≤_, _<_};
 ghost use lib.ListN.{length, getD};
-ghost use Rattle.rules.specs.Letters.{canonical};
 ghost use Rattle.rules.specs.Set.{blocks, headerN, keyWord, keysFrom, among, setCheck, setOf, solid};
-ghost use Rattle.set.specs.Kmer.{IsKmer};
+ghost use Rattle.kmer.specs.Kmer.{IsKmer};
 ghost use Rattle.set.specs.Ready.{Ready};
 ghost use Rattle.set.specs.Bracket.{Bracket};
-
-pub struct Header {
-    pub k: usize,
-    pub n: usize,
-    pub mask: u64,
-    pub top: u64,
-    pub shift: u32,
-}
-
-pub struct Kmer {
-    pub code: u64,
-    pub rev: u64,
-}
 
 fn key_at(set: &[u8], i: usize) -> u64
     requires { ⌜ i < 63 * (blocks (now set) - 1) ⌝ }
     ensures { λ r. ⌜ r ≡ keyWord (now (set .entry)) i ⌝ }
-{
-    0
-}
-
-fn kcanonical(kmer: Kmer, head: Header) -> u64
-    requires { ⌜ IsKmer (head .k) kmer ⌝ }
-    ensures { λ r. ⌜ r ≡ canonical (head .k) (kmer .code) ⌝ }
 {
     0
 }
@@ -108,7 +88,7 @@ pub fn get(set: &[u8], starts: &[u32], head: Header, kmer: Kmer) -> bool
     requires { ⌜ Ready (now set) (now starts) head × IsKmer (head .k) kmer ⌝ }
     ensures { λ r. ⌜ r ≡ solid (setOf (now (set .entry))) (kmer .code) ⌝ }
 {
-    let key = kcanonical(kmer, head);
+    let key = kmer::canonical(kmer, head);
     let shift = head.shift;
     let prefix = (key >> shift) as usize;
     search(set, key, shift, start(starts, prefix), start(starts, prefix + 1))

@@ -1,6 +1,7 @@
 use mathlib.Core.Path.{_≡_, _∙_, sym}
 use Prim.Native.Nat.{_+_, _≤_, _<_}
 use native.Mathlib.Nat.{le-of-lt}
+use native.Mathlib.Numerals.{add-one-le}
 use native.Mathlib.Omega.{arith}
 use borrow.Author.Needs.{needs}
 use lib.ListN.{length}
@@ -11,12 +12,12 @@ use Rattle.set.proofs.get.Statement.{statement}
 use Rattle.set.proofs.get.Tie as tie
 use Rattle.set.proofs.get.Reads as reads
 use Rattle.set.proofs.get.Lts as lts
-use Rattle.set.proofs.kcanonical.Reads as kcanonical-reads
+use Rattle.kmer.proofs.canonical.Reads as canonical-reads
 use Rattle.set.proofs.search.Reads as search-reads
 use Rattle.set.proofs.start.Reads as start-reads
 
-kcanonical-requires : tie.Need-kcanonical-requires
-kcanonical-requires c κs = search needs
+canonical-requires : tie.Need-canonical-requires
+canonical-requires c κs = search needs
 
 cast-prefix : tie.Need-cast-prefix
 cast-prefix c = search needs
@@ -25,11 +26,11 @@ shr-prefix : tie.Need-shr-prefix
 shr-prefix c = search needs
 
 -- The key's prefix is one of the table's.
-known : (c : tie.After-kcanonical) → let s = c .before .before .before in
-    prefix (s .args .head .shift) (c .kcanonical .result) < prefixes (s .args .head .k) (s .args .head .shift)
+known : (c : tie.After-canonical) → let s = c .before .before .before in
+    prefix (s .args .head .shift) (c .canonical .result) < prefixes (s .args .head .k) (s .args .head .shift)
 known c =
     let s = c .before .before .before in
-    prefix-lt _ _ _ (s .pre .0 .shift-le) (rw (c .kcanonical .ensures) (canonical-lt _ _ (s .pre .1 .small)))
+    prefix-lt _ _ _ (s .pre .0 .shift-le) (rw (c .canonical .ensures) (canonical-lt _ _ (s .pre .1 .small)))
 
 start-requires : tie.Need-start-requires
 unfolding prefix
@@ -49,20 +50,20 @@ search-requires c κs =
     let k = c .before .before in
     let ready = k .before .before .before .pre .0 in
     let lo = rw (← (c .before .start .ensures)) at (ready .starts-right _ (le-of-lt (known k))) in
-    let hi = rw (← (c .start2 .ensures)) at (ready .starts-right _ (omega (arith, known k))) in
+    let hi = rw (← (c .start2 .ensures)) at (ready .starts-right _ (add-one-le (known k))) in
     (ready .opens, bracket-table _ _ lo hi, starts-in-order lo hi, search needs)
 
 returns : tie.Need-returns
 unfolding solid setOf
 returns c =
     let s = c .before .before .before .before .before .before in
-    c .search .ensures ∙ rw (← (s .pre .0 .k-is), c .before .before .before .kcanonical .ensures)
+    c .search .ensures ∙ rw (← (s .pre .0 .k-is), c .before .before .before .canonical .ensures)
 
 pub get-spec : {M : Type 1} → statement M
 get-spec =
     tie.close
     (tie.spec
-    kcanonical-requires
+    canonical-requires
     cast-prefix
     shr-prefix
     start-requires
