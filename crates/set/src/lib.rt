@@ -2,18 +2,39 @@
 use kmer::{Header, Kmer};
 ghost use mathlib.Core.Path.{_≡_};
 ghost use mathlib.Core.Option.{none};
-ghost use Prim.Native.Nat.{_-_, _*_, _≤_, _<_};
+ghost use Prim.Native.Nat.{_+_, _-_, _*_, _≤_, _<_};
 ghost use lib.ListN.{length, getD};
 ghost use Rattle.rules.specs.Set.{blocks, headerN, keyWord, keysFrom, among, setCheck, setOf, solid};
 ghost use Rattle.kmer.specs.Kmer.{IsKmer};
+ghost use Rattle.set.specs.Standin.{flat};
 ghost use Rattle.set.specs.Ready.{Ready};
 ghost use Rattle.set.specs.Bracket.{Bracket};
+
+fn byte(x: u8) -> u64
+    ensures { λ r. ⌜ (r ≡ x) × (r < 256) ⌝ }
+{
+    x as u64
+}
+
+fn word_at(s: &[u8], at: usize) -> u64
+    requires { ⌜ at + 8 ≤ length (now s) ⌝ }
+    ensures { λ r. ⌜ r ≡ flat (now (s .entry)) at ⌝ }
+{
+    byte(s[at])
+        + byte(s[at + 1]) * 256
+        + byte(s[at + 2]) * 65536
+        + byte(s[at + 3]) * 16777216
+        + byte(s[at + 4]) * 4294967296
+        + byte(s[at + 5]) * 1099511627776
+        + byte(s[at + 6]) * 281474976710656
+        + byte(s[at + 7]) * 72057594037927936
+}
 
 fn key_at(set: &[u8], i: usize) -> u64
     requires { ⌜ i < 63 * (blocks (now set) - 1) ⌝ }
     ensures { λ r. ⌜ r ≡ keyWord (now (set .entry)) i ⌝ }
 {
-    0
+    word_at(set, 512 + 8 * (i + i / 63))
 }
 
 // How many of a bucket's `count` keys a distance is expected to pass: the part of 2^shift that it is, of them.
