@@ -1,0 +1,118 @@
+-- Laws of the shifts, the reverse complement and the parity that the code computes.
+use Prim.Native.Nat.{ℕ, zero, suc, _+_, _*_, _-_, _/_, _%_, _^_, _≤_, _<_}
+use native.Mathlib.Omega.{arith}
+use native.Mathlib.Numerals.{add-one}
+use native.Mathlib.Nat.{mod-eq-of-lt, mod-lt, pow-suc, pow-le-pow-right, mul-comm, add-comm, div-lt-iff-lt-mul, div-add-mod'}
+use mathlib.Core.Path.{_≡_, refl, sym, ap, _∙_}
+use mathlib.Core.Bool.{true, false}
+use mathlib.Core.List.{List}
+use lib.Dec.{eqb, lit<, lit≤}
+use lib.ListN.{length, getD}
+use lib.Seq.{slice, slice-cons}
+use lib.Arith.{digits-div, digits-mod, mod-mul}
+use lib.Bits.{bitAnd, bitXor, and-mask, xor-shifted}
+use Rattle.rules.specs.Letters.{mask, add, addAll, code, complement, revcomp, evenOnes, canonical}
+use Rattle.rules.proofs.Kmer.{four-pos, add-is, complement-lt, revcomp-lt, revcomp-first, ones-in, two-four}
+use Rattle.kmer.specs.declared.Header.{Header}
+use Rattle.kmer.specs.declared.Kmer.{Kmer}
+use Rattle.kmer.specs.Kmer.{Shifts, IsKmer}
+
+-- k is at most 31, so a k-mer is below 2 ^ 62
+pub bound : (k : ℕ) → k ≤ 31 → 4 ^ k ≤ 2 ^ 62
+bound k h = pow-le-pow-right {n = 4} (lit≤ tt) {i = k} {j = 31} h
+
+pub mask-fits : (k : ℕ) → k ≤ 31 → mask k < 2 ^ 62
+unfolding mask
+mask-fits k h = omega (arith, bound k h)
+
+and-mask-of : (y k : ℕ) → bitAnd y (mask k) ≡ y % 4 ^ k
+unfolding mask
+and-mask-of y k = rw (← (two-four k)) (and-mask y (2 * k))
+
+-- the shift under the mask
+pub shifted : (head : Header) (y a : ℕ) → Shifts head → y < 4 ^ head .k → a < 4 → bitXor (bitAnd (y * 4 % 2 ^ 64) (head .mask)) a ≡ add (head .k) y a
+shifted head y a s l h = rw (s .mask-is) (go (head .k) (s .k-low) (s .k-high) l)
+  where
+    go : (k : ℕ) → 1 ≤ k → k ≤ 31 → y < 4 ^ k → bitXor (bitAnd (y * 4 % 2 ^ 64) (mask k)) a ≡ add k y a
+    go zero low high l = absurd (omega arith)
+    go (suc j) low high l =
+        let fits : y * 4 < 2 ^ 64 = omega (arith, bound (suc j) high) in
+        let d : y * 4 / 4 ≡ y = omega arith in
+        let m : y * 4 % 4 ≡ 0 = omega arith in
+        let kept : y * 4 % 4 ^ suc j ≡ y % 4 ^ j * 4 = rw (pow-suc, mod-mul (y * 4) (four-pos j) (lit< tt), d, m) (omega arith) in
+        rw (mod-eq-of-lt fits, and-mask-of, kept) (xor-shifted (y % 4 ^ j) 2 a h ∙ sym (add-is j y a h))
+
+-- ---- the reverse complement, carried along
+
+complement-xor : (a : ℕ) → a < 4 → bitXor a 2 ≡ complement a
+unfolding complement
+complement-xor zero h = refl
+complement-xor (suc zero) h = refl
+complement-xor (suc (suc zero)) h = refl
+complement-xor (suc (suc (suc zero))) h = refl
+complement-xor (suc (suc (suc (suc a)))) h = absurd (omega arith)
+
+-- y+a turned round: y's first letter is the last and goes, and a's complement comes first
+revcomp-add : (k y a : ℕ) → 1 ≤ k → y < 4 ^ k → a < 4 → revcomp k y / 4 + complement a * 4 ^ (k - 1) ≡ revcomp k (add k y a)
+unfolding revcomp
+revcomp-add zero y a l s h = absurd (omega arith)
+revcomp-add (suc j) y a l s h =
+    let P = 4 ^ j in
+    let t : y / P < 4 = div-lt-iff-lt-mul (four-pos j) .1 (rw (mul-comm 4 P, ← (pow-suc 4 j)) s) in
+    let turned : revcomp (suc j) y ≡ 4 * revcomp j (y % P) + complement (y / P) =
+    ap (revcomp (suc j)) (sym (div-add-mod' y P)) ∙ revcomp-first j (y / P) (y % P) t (mod-lt y (four-pos j)) in
+    let quarter : revcomp (suc j) y / 4 ≡ revcomp j (y % P) = omega (arith, complement-lt (y / P)) in
+    let e : suc j - 1 ≡ j = omega arith in
+    rw (quarter, e, add-is j y a h, revcomp, digits-mod (y % P) h, digits-div (y % P) h) (add-comm (revcomp j (y % P)) (complement a * P))
+
+module _ (head : Header) (y : Kmer) (s : Shifts head) (is : IsKmer (head .k) y) where
+  pub rev-add : (a : ℕ) → a < 4 → y .rev / 4 + bitXor a 2 * head .top ≡ revcomp (head .k) (add (head .k) (y .code) a)
+  rev-add a h = rw (is .turned, s .top-is, complement-xor a h) (revcomp-add (head .k) (y .code) a (s .k-low) (is .small) h)
+
+  pub rev-fits : (a : ℕ) → a < 4 → y .rev / 4 + bitXor a 2 * head .top < 2 ^ 62
+  rev-fits a h = rw (rev-add a h) (omega (arith, revcomp-lt (head .k) (add (head .k) (y .code) a), bound (head .k) (s .k-high)))
+
+-- an A in front of y without its last letter: turned round, a T comes last
+pub revcomp-drop : (k y : ℕ) → 1 ≤ k → y < 4 ^ k → add k (revcomp k y) 2 ≡ revcomp k (y / 4)
+unfolding revcomp complement
+revcomp-drop zero y l s = absurd (omega arith)
+revcomp-drop (suc j) y l s =
+    let p = pow-suc 4 j in
+    let front : 0 * 4 ^ j + y / 4 ≡ y / 4 = omega arith in
+    let last : revcomp (suc j) (y / 4) ≡ 4 * revcomp j (y / 4) + 2 = ap (revcomp (suc j)) (sym front) ∙ revcomp-first j 0 (y / 4) (lit< tt) (omega arith) in
+    rw (last, add-is j (revcomp (suc j) y) 2 (lit< tt), digits-mod (complement (y % 4)) (revcomp-lt j (y / 4))) (omega arith)
+
+letters-T : (k : ℕ) → (q : ℕ) × (4 ^ k ≡ 3 * q + 1) × (revcomp k 0 ≡ 2 * q)
+unfolding revcomp complement
+letters-T zero = (0, refl, refl)
+letters-T (suc k) = let t = letters-T k in (4 * t .0 + 1, omega (arith, pow-suc 4 k), omega arith)
+
+-- k letters A, turned round k letters T
+pub revcomp-zero : (k : ℕ) → mask k / 3 * 2 ≡ revcomp k 0
+unfolding mask
+revcomp-zero k =
+    let t = letters-T k in
+    let e : 4 ^ k - 1 ≡ 3 * t .0 = omega arith in
+    rw (e, t .2) (omega arith)
+
+-- ---- the parity
+
+-- the count over all 64 bits says the same as that over k letters
+pub even-wide : (k y : ℕ) → y < 2 ^ 64 → y < 4 ^ k → evenOnes 32 y ≡ evenOnes k y
+unfolding evenOnes
+even-wide k y h g = ap (λ (n : ℕ). eqb (n % 2) 0) (ones-in 64 y h ∙ sym (ones-in (2 * k) y (rw (two-four k) g)))
+
+pub canonical-even : (k y : ℕ) → evenOnes k y ≡ true → canonical k y ≡ y
+unfolding canonical
+canonical-even k y e = rw (e, canonical)
+
+pub canonical-odd : (k y : ℕ) → evenOnes k y ≡ false → canonical k y ≡ revcomp k y
+unfolding canonical
+canonical-odd k y e = rw (e, canonical)
+
+-- ---- a k-mer of the bases of a read
+
+pub next-base : (k i y : ℕ) (seq : List ℕ) → i < k → k ≤ length seq
+    → addAll k y (slice i k seq) ≡ addAll k (add k y (code (getD seq i 0))) (slice (i + 1) k seq)
+unfolding addAll
+next-base k i y seq l h = rw (slice-cons i k seq 0 l h, add-one)

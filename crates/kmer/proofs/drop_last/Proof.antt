@@ -1,0 +1,26 @@
+use mathlib.Core.Path.{refl}
+use lib.Dec.{lit<}
+use borrow.Author.Needs.{needs}
+use Rattle.rules.proofs.Kmer.{revcomp-lt}
+use Rattle.kmer.proofs.Laws.{revcomp-drop}
+use Rattle.kmer.proofs.drop_last.Statement.{statement}
+use Rattle.kmer.proofs.drop_last.Tie as tie
+
+shift-in-requires : tie.Need-shift-in-requires
+shift-in-requires c κs =
+    let b = c .before in
+    (b .pre .0, rw (b .pre .1 .turned) (revcomp-lt _ _), lit< tt)
+
+returns : tie.Need-returns
+returns c =
+    let b = c .before .before in
+    record {
+      is = refl;
+      kmer = record {
+        small = search needs;
+        turned = rw (c .shift-in .ensures, b .pre .1 .turned) (revcomp-drop _ _ (b .pre .0 .k-low) (b .pre .1 .small));
+      };
+    }
+
+pub drop-last-spec : {M : Type 1} → statement M
+drop-last-spec = tie.close (tie.spec shift-in-requires returns)

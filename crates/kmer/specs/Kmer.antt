@@ -1,0 +1,27 @@
+-- What the functions over k-mers ask and give.
+use Prim.Native.Nat.{ℕ, _-_, _^_, _≤_, _<_}
+use mathlib.Core.Path.{_≡_}
+use Rattle.rules.specs.Letters.{mask, add, revcomp}
+use Rattle.kmer.specs.declared.Header.{Header}
+use Rattle.kmer.specs.declared.Kmer.{Kmer}
+
+-- The header's masks belong to its k.
+pub record Shifts (head : Header) : Type 0 where
+  pub k-low : 1 ≤ head .k
+  pub k-high : head .k ≤ 31
+  pub mask-is : head .mask ≡ mask (head .k)
+  pub top-is : head .top ≡ 4 ^ (head .k - 1)
+
+-- The code of a k-mer, and beside it that of its reverse complement.
+pub record IsKmer (k : ℕ) (y : Kmer) : Type 0 where
+  pub small : y .code < 4 ^ k
+  pub turned : y .rev ≡ revcomp k (y .code)
+
+-- r is the k-mer of code y.
+pub record HasCode (k y : ℕ) (r : Kmer) : Type 0 where
+  pub is : r .code ≡ y
+  pub kmer : IsKmer k r
+
+-- r is y+a.
+abbrev pub Added : ℕ → ℕ → ℕ → Kmer → Type 0
+Added k y a r = HasCode k (add k y a) r

@@ -1,0 +1,146 @@
+// Document 01, "Letters": codes of bases, and k-mers as numbers in base four. Ports `mask` and `add_nuc_to_end` of src/correct/mod.rs, and
+// `nuc2bit`, `bit2nuc`, `seq2bit` and `canonical` of the crate cocktail.
+ghost use mathlib.Core.Path.{_≡_};
+ghost use Prim.Native.Nat.{_/_, _<_, _≤_, _^_};
+ghost use lib.ListN.{length, take};
+ghost use Rattle.rules.specs.Letters;
+ghost use Rattle.kmer.specs.Kmer.{Shifts, IsKmer, HasCode, Added};
+
+// What a set's header says, k and n, with what lookups and shifts need beside it.
+pub struct Header {
+    pub k: usize,
+    pub n: usize,
+    pub mask: u64,
+    pub top: u64,
+    pub shift: u32,
+}
+
+// A k-mer's code, and beside it the code of its reverse complement, so that a lookup never has to turn the letters round.
+pub struct Kmer {
+    pub code: u64,
+    pub rev: u64,
+}
+
+// Entry k is 4^k − 1.
+const MASK_LOOKUP: [u64; 32] = [
+    0,
+    3,
+    15,
+    63,
+    255,
+    1023,
+    4095,
+    16383,
+    65535,
+    262143,
+    1048575,
+    4194303,
+    16777215,
+    67108863,
+    268435455,
+    1073741823,
+    4294967295,
+    17179869183,
+    68719476735,
+    274877906943,
+    1099511627775,
+    4398046511103,
+    17592186044415,
+    70368744177663,
+    281474976710655,
+    1125899906842623,
+    4503599627370495,
+    18014398509481983,
+    72057594037927935,
+    288230376151711743,
+    1152921504606846975,
+    4611686018427387903,
+];
+
+pub fn nuc2bit(nuc: u8) -> u64
+    ensures { λ r. ⌜ r ≡ Letters.code nuc ⌝ }
+{
+    ((nuc as u64) >> 1) & 3
+}
+
+pub fn bit2nuc(bit: u64) -> u8
+    requires { ⌜ bit < 4 ⌝ }
+    ensures { λ r. ⌜ r ≡ Letters.letter bit ⌝ }
+{
+    match bit {
+        0 => b'A',
+        1 => b'C',
+        2 => b'T',
+        _ => b'G',
+    }
+}
+
+pub fn mask(k: usize) -> u64
+    requires { ⌜ k < 32 ⌝ }
+    ensures { λ r. ⌜ r ≡ Letters.mask k ⌝ }
+{
+    MASK_LOOKUP[k]
+}
+
+// The first letter out at the mask, another in at the end.
+fn shift_in(code: u64, nuc: u64, head: Header) -> u64
+    requires { ⌜ Shifts head × (code < 4 ^ head .k) × (nuc < 4) ⌝ }
+    ensures { λ r. ⌜ r ≡ Letters.add (head .k) code nuc ⌝ }
+{
+    ((code << 2) & head.mask) ^ nuc
+}
+
+pub fn add_nuc_to_end(kmer: Kmer, nuc: u64, head: Header) -> Kmer
+    requires { ⌜ Shifts head × IsKmer (head .k) kmer × (nuc < 4) ⌝ }
+    ensures { λ r. ⌜ Added (head .k) (kmer .code) nuc r ⌝ }
+{
+    Kmer {
+        code: shift_in(kmer.code, nuc, head),
+        rev: kmer.rev / 4 + (nuc ^ 2) * head.top,
+    }
+}
+
+// The source's `kmer >>= 2`: an A comes in front, so its complement T comes last on the other side.
+pub fn drop_last(kmer: Kmer, head: Header) -> Kmer
+    requires { ⌜ Shifts head × IsKmer (head .k) kmer ⌝ }
+    ensures { λ r. ⌜ HasCode (head .k) (kmer .code / 4) r ⌝ }
+{
+    Kmer {
+        code: kmer.code >> 2,
+        rev: shift_in(kmer.rev, 2, head),
+    }
+}
+
+pub fn seq2bit(seq: &[u8], head: Header) -> Kmer
+    requires { ⌜ Shifts head × (head .k ≤ length (now seq)) ⌝ }
+    ensures { λ r. ⌜ HasCode (head .k) (Letters.kmer (head .k) (take (head .k) (now (seq .entry)))) r ⌝ }
+{
+    let k = head.k;
+    // k letters A, turned k letters T.
+    let mut kmer = Kmer {
+        code: 0,
+        rev: head.mask / 3 * 2,
+    };
+    for i in 0..k {
+        kmer = add_nuc_to_end(kmer, nuc2bit(seq[i]), head);
+    }
+    kmer
+}
+
+// Over all 64 bits; a k-mer has none above its own 2k.
+pub fn parity_even(code: u64) -> bool
+    ensures { λ r. ⌜ r ≡ Letters.evenOnes 32 code ⌝ }
+{
+    u64::count_ones(code) % 2 == 0
+}
+
+pub fn canonical(kmer: Kmer, head: Header) -> u64
+    requires { ⌜ IsKmer (head .k) kmer ⌝ }
+    ensures { λ r. ⌜ r ≡ Letters.canonical (head .k) (kmer .code) ⌝ }
+{
+    if parity_even(kmer.code) {
+        kmer.code
+    } else {
+        kmer.rev
+    }
+}
