@@ -1,0 +1,122 @@
+// The lookup: a k-mer's canonical code among a set's keys.
+use kmer::Header;
+use kmer::Kmer;
+ghost use mathlib.Core.Path.{_≡_};
+ghost use mathlib.Core.Option.{none};
+ghost use Prim.Native.Nat.{_+_, _-_, _*_, _≤_, _<_};
+ghost use lib.ListN.{length, getD};
+ghost use Rattle.rules.specs.Set.{blocks, headerN, keyWord, keysFrom, among, setCheck, setOf, solid};
+ghost use Rattle.kmer.specs.Kmer.{IsKmer};
+ghost use Rattle.set.specs.Standin.{flat};
+ghost use Rattle.set.specs.Ready.{Ready};
+ghost use Rattle.set.specs.Bracket.{Bracket};
+
+fn byte(x: u8) -> u64
+    ensures { λ r. ⌜ (r ≡ x) × (r < 256) ⌝ }
+{
+    x as u64
+}
+
+fn word_at(s: &[u8], at: usize) -> u64
+    requires { ⌜ at + 8 ≤ length (now s) ⌝ }
+    ensures { λ r. ⌜ r ≡ flat (now (s .entry)) at ⌝ }
+{
+    byte(s[at])
+        + byte(s[at + 1]) * 256
+        + byte(s[at + 2]) * 65536
+        + byte(s[at + 3]) * 16777216
+        + byte(s[at + 4]) * 4294967296
+        + byte(s[at + 5]) * 1099511627776
+        + byte(s[at + 6]) * 281474976710656
+        + byte(s[at + 7]) * 72057594037927936
+}
+
+fn key_at(set: &[u8], i: usize) -> u64
+    requires { ⌜ i < 63 * (blocks (now set) - 1) ⌝ }
+    ensures { λ r. ⌜ r ≡ keyWord (now (set .entry)) i ⌝ }
+{
+    word_at(set, 512 + 8 * (i + i / 63))
+}
+
+// How many of a bucket's `count` keys a distance is expected to pass: the part of 2^shift that it is, of them.
+fn expected(distance: u64, shift: u32, count: usize) -> usize
+    requires { ⌜ (shift < 64) × (count ≤ 16777216) ⌝ }
+    ensures { λ r. ⌜ r ≤ count ⌝ }
+{
+    let part = ((distance << (63 - shift)) << 1) >> 32;
+    ((part * (count as u64)) >> 32) as usize
+}
+
+// Where to look next: any place in the range is right, the guess where it lies there, or the middle.
+fn probe(lo: usize, hi: usize, guess: usize, guesses: u32) -> usize
+    requires { ⌜ lo < hi ⌝ }
+    ensures { λ r. ⌜ (lo ≤ r) × (r < hi) ⌝ }
+{
+    if guesses == 0 {
+        return lo + (hi - lo) / 2;
+    }
+    if guess < lo {
+        return lo;
+    }
+    if guess < hi { guess } else { hi - 1 }
+}
+
+fn less(a: usize, b: usize) -> usize {
+    if b < a { a - b } else { 0 }
+}
+
+fn search(set: &[u8], key: u64, shift: u32, from: usize, end: usize) -> bool
+    requires { ⌜ (setCheck (now set) ≡ none) × Bracket (now set) key from end × (from ≤ end) × (shift < 64) ⌝ }
+    ensures { λ r. ⌜ r ≡ among key (keysFrom (now (set .entry)) 0 (headerN (now (set .entry)))) ⌝ }
+{
+    let count = end - from;
+    let mut guess = from + expected(key, shift, count);
+    let mut guesses = 8;
+    let mut lo = from;
+    let mut hi = end;
+    while lo < hi {
+        let at = probe(lo, hi, guess, guesses);
+        let word = key_at(set, at);
+        guesses /= 2;
+        if word == key {
+            return true;
+        }
+        if word < key {
+            lo = at + 1;
+            guess = lo + expected(key - word, shift, count);
+        } else {
+            hi = at;
+            guess = less(hi, 1 + expected(word - key, shift, count));
+        }
+    }
+    false
+}
+
+fn wide(x: u32) -> usize
+    ensures { λ r. ⌜ r ≡ x ⌝ }
+{
+    x as usize
+}
+
+fn start(starts: &[u32], prefix: usize) -> usize
+    requires { ⌜ prefix < length (now starts) ⌝ }
+    ensures { λ r. ⌜ r ≡ getD (now (starts .entry)) prefix 0 ⌝ }
+{
+    wide(starts[prefix])
+}
+
+pub fn get(set: &[u8], starts: &[u32], head: Header, kmer: Kmer) -> bool
+    requires { ⌜ Ready (now set) (now starts) head × IsKmer (head .k) kmer ⌝ }
+    ensures { λ r. ⌜ r ≡ solid (setOf (now (set .entry))) (kmer .code) ⌝ }
+{
+    let key = kmer::canonical(kmer, head);
+    let shift = head.shift;
+    let prefix = (key >> shift) as usize;
+    search(
+        set,
+        key,
+        shift,
+        start(starts, prefix),
+        start(starts, prefix + 1),
+    )
+}
