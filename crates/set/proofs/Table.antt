@@ -1,50 +1,39 @@
 -- Laws of the table of starts.
 use Prim.Native.Nat.{ℕ, zero, suc, _+_, _*_, _-_, _/_, _%_, _^_, _≤_, _<_}
 use native.Mathlib.Omega.{arith}
-use native.Mathlib.Nat.{div-lt-iff-lt-mul, div-mul-le-self, lt-of-lt-of-le, mul-le-mul-right, le-refl}
+use native.Mathlib.Nat.{div-lt-iff-lt-mul, div-mul-le-self, lt-of-lt-of-le, mul-le-mul-right, le-refl, le-trans, pow-le-pow-right, eq-or-lt-of-le}
 use native.Mathlib.Decide.{decLe}
 use mathlib.Core.Bool.{Bool, true, false}
-use mathlib.Core.Path.{_≡_, sym}
+use mathlib.Core.Path.{_≡_, refl}
 use mathlib.Core.List.{List}
+use mathlib.Core.Option.{none}
+use mathlib.Core.Logic.{_⊎_, inl, inr}
+use borrow.Author.Count.{below-more}
+use lib.ListN.{length, getD, set}
+use lib.Seq.{getD-set-same, getD-set-other}
+use lib.Dec.{lit<}
 use lib.Pow.{pow-pos, shr-lt}
-use Rattle.rules.specs.Set.{keyWord, headerN}
+use Rattle.rules.specs.Set.{keyWord, headerN, setCheck}
+use Rattle.kmer.specs.declared.Header.{Header}
 use Rattle.rules.specs.Letters.{canonical, revcomp, evenOnes}
 use Rattle.rules.proofs.Kmer.{two-four, revcomp-lt}
-use Rattle.set.specs.Ready.{prefix, prefixes, StartsAt}
+use Rattle.set.specs.Ready.{tableLength, prefix, prefixes, Below, StartsAt, Filled, Ready}
 use Rattle.set.specs.Bracket.{Bracket}
+use Rattle.set.proofs.Opened.{opened-keys-rising}
 
 -- A lower prefix is a lower key.
-pub prefix-below : (shift a b : ℕ) → prefix shift a < prefix shift b → a < b
-unfolding prefix
+prefix-below : (shift a b : ℕ) → prefix shift a < prefix shift b → a < b
 prefix-below shift a b h = lt-of-lt-of-le (div-lt-iff-lt-mul (pow-pos shift) .0 h) (div-mul-le-self b (2 ^ shift))
 
 -- A key's prefix is one of the prefixes.
-pub prefix-lt : (k shift a : ℕ) → shift ≤ 2 * k → a < 4 ^ k → prefix shift a < prefixes k shift
-unfolding prefix prefixes
+prefix-lt : (k shift a : ℕ) → shift ≤ 2 * k → a < 4 ^ k → prefix shift a < prefixes k shift
 prefix-lt k shift a l h =
     let e : 2 * k ≡ 2 * k - shift + shift = omega arith in
     shr-lt (2 * k - shift) shift (rw (← e, two-four k) h)
 
--- Where a key's prefix starts and the next one starts bracket the key.
-pub bracket-table : {bytes : List ℕ} (shift x : ℕ) {lo hi : ℕ}
-    → StartsAt bytes shift (prefix shift x) lo → StartsAt bytes shift (prefix shift x + 1) hi → Bracket bytes x lo hi
-bracket-table shift x l h = record {
-  within = h .within;
-  below = λ j g. prefix-below shift _ _ (l .before j g);
-  above = λ j g n. prefix-below shift _ _ (omega (arith, h .after j g n));
-}
-
 -- A part of 2^32, of a count.
 pub part-le : (y count : ℕ) → y % 2 ^ 64 / 2 ^ 32 * count ≤ 2 ^ 32 * count
 part-le y count = mul-le-mul-right count (omega arith)
-
--- Prefixes start in order.
-pub starts-in-order : {bytes : List ℕ} {shift v a b : ℕ} → StartsAt bytes shift v a → StartsAt bytes shift (v + 1) b → a ≤ b
-starts-in-order {a = a} {b = b} l h = go (decLe a b)
-  where
-    go : Dec (a ≤ b) → a ≤ b
-    go (yes g) = g
-    go (no f) = absurd (omega (arith, l .within, l .before b (omega arith), h .after b (le-refl b) (omega (arith, l .within))))
 
 -- The canonical code of a k-mer is below 4^k too.
 pub canonical-lt : (k y : ℕ) → y < 4 ^ k → canonical k y < 4 ^ k
@@ -54,3 +43,79 @@ canonical-lt k y h = go (evenOnes k y)
     go : (t : Bool) → elim t [ true ↦ y | false ↦ revcomp k y ] < 4 ^ k
     go true = h
     go false = revcomp-lt k y
+
+module _ {bytes : List ℕ} {shift v lo hi : ℕ} (l : StartsAt bytes shift v lo) (h : StartsAt bytes shift (v + 1) hi) where
+  -- Prefixes start in order.
+  starts-in-order : lo ≤ hi
+  starts-in-order = go (decLe lo hi)
+    where
+      go : Dec (lo ≤ hi) → lo ≤ hi
+      go (yes g) = g
+      go (no f) = absurd (omega (arith, l .within, l .before hi (omega arith), h .after hi (le-refl hi) (omega (arith, l .within))))
+
+  -- A key of prefix v can stand only where v starts or behind, and before the next prefix starts.
+  starts-bracket : (x : ℕ) → v ≡ prefix shift x → Bracket bytes x lo hi
+  starts-bracket x e = record {
+    within = h .within;
+    below = λ j g. prefix-below shift _ _ (rw (← e) (l .before j g));
+    above = λ j g n. prefix-below shift _ _ (rw (← e) (omega (arith, h .after j g n)));
+  }
+
+-- The table's two entries for key x of prefix v.
+pub record Entries (bytes starts : List ℕ) (v x : ℕ) : Type 0 where
+  pub room : v + 1 < length starts
+  pub in-order : getD starts v 0 ≤ getD starts (v + 1) 0
+  pub bracket : Bracket bytes x (getD starts v 0) (getD starts (v + 1) 0)
+
+pub ready-entries : {bytes starts : List ℕ} {head : Header} → Ready bytes starts head → (x : ℕ) → x < 4 ^ head .k
+    → Entries bytes starts (prefix (head .shift) x) x
+ready-entries {head = head} ready x h =
+    let v : ℕ = prefix (head .shift) x in
+    let known : v < prefixes (head .k) (head .shift) = prefix-lt _ _ x (ready .shift-le) h in
+    let l = ready .starts-right v (omega arith) in
+    let g = ready .starts-right (v + 1) (omega arith) in
+    record { room = omega (arith, ready .starts-length); in-order = starts-in-order l g; bracket = starts-bracket l g x refl }
+
+-- ---- filling
+
+prefix-le : (shift a b : ℕ) → a ≤ b → prefix shift a ≤ prefix shift b
+prefix-le shift a b h = go (decLe (prefix shift a) (prefix shift b))
+  where
+    go : Dec (prefix shift a ≤ prefix shift b) → prefix shift a ≤ prefix shift b
+    go (yes g) = g
+    go (no f) = absurd (omega (arith, prefix-below shift b a (omega arith)))
+
+-- The first key that has prefix v or a higher one.
+pub starts-here : {bytes : List ℕ} (shift v i : ℕ) → setCheck bytes ≡ none → i < headerN bytes
+    → Below bytes shift v i → v ≤ prefix shift (keyWord bytes i) → StartsAt bytes shift v i
+starts-here {bytes} shift v i opens h below g = record {
+  within = omega arith;
+  before = below;
+  after = λ j l n. le-trans g (prefix-le shift _ _ (later j n (eq-or-lt-of-le l)));
+}
+  where
+    later : (j : ℕ) → j < headerN bytes → (i ≡ j) ⊎ (i < j) → keyWord bytes i ≤ keyWord bytes j
+    later j n (inl e) = rw e (le-refl _)
+    later j n (inr l) = omega (arith, opened-keys-rising bytes opens i j l n)
+
+-- No key has prefix v or a higher one.
+pub starts-last : {bytes : List ℕ} (shift v i : ℕ) → i ≤ headerN bytes → headerN bytes ≤ i → Below bytes shift v i → StartsAt bytes shift v i
+starts-last shift v i l g below = record { within = l; before = below; after = λ j h n. absurd (omega arith) }
+
+-- Entry v is stored.
+pub filled-more : {bytes : List ℕ} (shift v start : ℕ) (starts : List ℕ) → v < length starts
+    → Filled bytes shift v starts → StartsAt bytes shift v start → Filled bytes shift (v + 1) (set starts v start)
+filled-more {bytes} shift v start starts h f here =
+    below-more (λ (u : ℕ). StartsAt bytes shift u (getD (set starts v start) u 0)) v
+    (λ u l. rw (getD-set-other starts v u start 0 (λ e. omega arith)) (f u l))
+    (rw (getD-set-same starts v start 0 h) here)
+
+-- ---- how many entries
+
+-- Prefixes of 16 bits at most: as many as the code counts, and the table has room.
+pub prefixes-are : (k bits : ℕ) (head : Header) → head .k ≡ k → head .shift ≡ 2 * k - bits → bits ≤ 16 → bits ≤ 2 * k
+    → (1 * 2 ^ bits % 2 ^ 64 ≡ prefixes (head .k) (head .shift)) × (prefixes (head .k) (head .shift) < tableLength)
+prefixes-are k bits head k-is shift-is h g =
+    let e : 2 * k - (2 * k - bits) ≡ bits = omega arith in
+    let l : 2 ^ bits ≤ 65536 = pow-le-pow-right (lit< tt) h in
+    rw (k-is, shift-is, e) (omega arith)

@@ -1,0 +1,59 @@
+use Prim.Native.Nat.{_*_, _-_, _≤_}
+use borrow.Author.Needs.{needs}
+use Rattle.set.proofs.prefix_bits.Statement.{statement}
+use Rattle.set.proofs.prefix_bits.Tie as tie
+use Rattle.set.proofs.prefix_bits.Reads as reads
+use Rattle.set.proofs.prefix_bits.Lts as lts
+
+abbrev Inv-loop : tie.InvT-loop
+Inv-loop k n bits₀ keys₀ bits keys = (bits ≤ 16) × (bits ≤ 2 * k)
+
+abbrev μ-loop : tie.MeasureT-loop
+μ-loop k n bits₀ keys₀ bits keys = 16 - bits
+
+-- src/lib.rt:125:5
+loop-holds : tie.Need-loop-holds Inv-loop μ-loop
+loop-holds c = search needs
+
+-- src/lib.rt:127:13
+returns : tie.Need-returns Inv-loop μ-loop
+returns c = search needs
+
+-- src/lib.rt:129:12
+mul-if2 : tie.Need-mul-if2 Inv-loop μ-loop
+mul-if2 c = search needs
+
+-- src/lib.rt:130:13
+returns-2 : tie.Need-returns-2 Inv-loop μ-loop
+returns-2 c = search needs
+
+-- src/lib.rt:132:9
+add-bits : tie.Need-add-bits Inv-loop μ-loop
+add-bits c = search needs
+
+-- src/lib.rt:125:5
+loop-less : tie.Need-loop-less Inv-loop μ-loop
+loop-less c = search needs
+
+-- src/lib.rt:125:5
+loop-again : tie.Need-loop-again Inv-loop μ-loop
+loop-again c = search needs
+
+-- src/lib.rt:119:1
+returns-3 : tie.Need-returns-3 Inv-loop μ-loop
+returns-3 c = search needs
+
+pub prefix-bits-spec : {M : Type 1} → statement M
+prefix-bits-spec =
+    tie.close
+    (tie.spec
+    Inv-loop
+    μ-loop
+    loop-holds
+    returns
+    mul-if2
+    returns-2
+    add-bits
+    loop-less
+    loop-again
+    returns-3)
