@@ -1,17 +1,18 @@
 -- Laws of the table of starts.
 use Prim.Native.Nat.{ℕ, zero, suc, _+_, _*_, _-_, _/_, _%_, _^_, _≤_, _<_}
 use native.Mathlib.Omega.{arith}
-use native.Mathlib.Nat.{div-lt-iff-lt-mul, div-mul-le-self, lt-of-lt-of-le, mul-le-mul-right, le-refl, le-trans, pow-le-pow-right, eq-or-lt-of-le}
+use native.Mathlib.Nat.{div-lt-iff-lt-mul, div-mul-le-self, lt-of-lt-of-le, le-refl, le-of-lt, le-trans, pow-le-pow-right, eq-or-lt-of-le}
 use native.Mathlib.Decide.{decLe}
-use mathlib.Core.Bool.{Bool, true, false}
+use mathlib.Core.Bool.{Bool, true, false, _&&_}
 use mathlib.Core.Path.{_≡_, refl}
 use mathlib.Core.List.{List}
 use mathlib.Core.Option.{none}
 use mathlib.Core.Logic.{_⊎_, inl, inr}
+use borrow.Author.Tests.{ltb-true, ltb-false, lt-ltb}
 use borrow.Author.Count.{below-more}
 use lib.ListN.{length, getD, set}
 use lib.Seq.{getD-set-same, getD-set-other}
-use lib.Dec.{lit<}
+use lib.Dec.{ltb, lit<}
 use lib.Pow.{pow-pos, shr-lt}
 use Rattle.rules.specs.Set.{keyWord, headerN, setCheck}
 use Rattle.kmer.specs.declared.Header.{Header}
@@ -19,7 +20,7 @@ use Rattle.rules.specs.Letters.{canonical, revcomp, evenOnes}
 use Rattle.rules.proofs.Kmer.{two-four, revcomp-lt}
 use Rattle.set.specs.Ready.{tableLength, prefix, prefixes, Below, StartsAt, Filled, Ready}
 use Rattle.set.specs.Bracket.{Bracket}
-use Rattle.set.proofs.Opened.{opened-keys-rising}
+use Rattle.set.proofs.Opened.{both-true, opened-keys-rising}
 
 -- A lower prefix is a lower key.
 prefix-below : (shift a b : ℕ) → prefix shift a < prefix shift b → a < b
@@ -31,10 +32,6 @@ prefix-lt k shift a l h =
     let e : 2 * k ≡ 2 * k - shift + shift = omega arith in
     shr-lt (2 * k - shift) shift (rw (← e, two-four k) h)
 
--- A part of 2^32, of a count.
-pub part-le : (y count : ℕ) → y % 2 ^ 64 / 2 ^ 32 * count ≤ 2 ^ 32 * count
-part-le y count = mul-le-mul-right count (omega arith)
-
 -- The canonical code of a k-mer is below 4^k too.
 pub canonical-lt : (k y : ℕ) → y < 4 ^ k → canonical k y < 4 ^ k
 unfolding canonical
@@ -45,14 +42,6 @@ canonical-lt k y h = go (evenOnes k y)
     go false = revcomp-lt k y
 
 module _ {bytes : List ℕ} {shift v lo hi : ℕ} (l : StartsAt bytes shift v lo) (h : StartsAt bytes shift (v + 1) hi) where
-  -- Prefixes start in order.
-  starts-in-order : lo ≤ hi
-  starts-in-order = go (decLe lo hi)
-    where
-      go : Dec (lo ≤ hi) → lo ≤ hi
-      go (yes g) = g
-      go (no f) = absurd (omega (arith, l .within, l .before hi (omega arith), h .after hi (le-refl hi) (omega (arith, l .within))))
-
   -- A key of prefix v can stand only where v starts or behind, and before the next prefix starts.
   starts-bracket : (x : ℕ) → v ≡ prefix shift x → Bracket bytes x lo hi
   starts-bracket x e = record {
@@ -64,7 +53,6 @@ module _ {bytes : List ℕ} {shift v lo hi : ℕ} (l : StartsAt bytes shift v lo
 -- The table's two entries for key x of prefix v.
 pub record Entries (bytes starts : List ℕ) (v x : ℕ) : Type 0 where
   pub room : v + 1 < length starts
-  pub in-order : getD starts v 0 ≤ getD starts (v + 1) 0
   pub bracket : Bracket bytes x (getD starts v 0) (getD starts (v + 1) 0)
 
 pub ready-entries : {bytes starts : List ℕ} {head : Header} → Ready bytes starts head → (x : ℕ) → x < 4 ^ head .k
@@ -74,7 +62,7 @@ ready-entries {head = head} ready x h =
     let known : v < prefixes (head .k) (head .shift) = prefix-lt _ _ x (ready .shift-le) h in
     let l = ready .starts-right v (omega arith) in
     let g = ready .starts-right (v + 1) (omega arith) in
-    record { room = omega (arith, ready .starts-length); in-order = starts-in-order l g; bracket = starts-bracket l g x refl }
+    record { room = omega (arith, ready .starts-length); bracket = starts-bracket l g x refl }
 
 -- ---- filling
 
@@ -85,29 +73,35 @@ prefix-le shift a b h = go (decLe (prefix shift a) (prefix shift b))
     go (yes g) = g
     go (no f) = absurd (omega (arith, prefix-below shift b a (omega arith)))
 
--- The first key that has prefix v or a higher one.
-pub starts-here : {bytes : List ℕ} (shift v i : ℕ) → setCheck bytes ≡ none → i < headerN bytes
-    → Below bytes shift v i → v ≤ prefix shift (keyWord bytes i) → StartsAt bytes shift v i
-starts-here {bytes} shift v i opens h below g = record {
-  within = omega arith;
-  before = below;
-  after = λ j l n. le-trans g (prefix-le shift _ _ (later j n (eq-or-lt-of-le l)));
-}
+-- Prefix v starts at i where the keys before have passed and key i, if there is one, has not.
+pub starts-here : {bytes : List ℕ} (shift v i : ℕ) → setCheck bytes ≡ none → i ≤ headerN bytes → Below bytes shift v i
+    → (ltb i (headerN bytes) && ltb (prefix shift (keyWord bytes i)) v) ≡ false → StartsAt bytes shift v i
+starts-here {bytes} shift v i opens h below e = record { within = h; before = below; after = λ j l n. later j n (eq-or-lt-of-le l) }
   where
-    later : (j : ℕ) → j < headerN bytes → (i ≡ j) ⊎ (i < j) → keyWord bytes i ≤ keyWord bytes j
-    later j n (inl e) = rw e (le-refl _)
-    later j n (inr l) = omega (arith, opened-keys-rising bytes opens i j l n)
+    here : i < headerN bytes → v ≤ prefix shift (keyWord bytes i)
+    here g = ltb-false _ _ (rw (lt-ltb _ _ g) at e)
 
--- No key has prefix v or a higher one.
-pub starts-last : {bytes : List ℕ} (shift v i : ℕ) → i ≤ headerN bytes → headerN bytes ≤ i → Below bytes shift v i → StartsAt bytes shift v i
-starts-last shift v i l g below = record { within = l; before = below; after = λ j h n. absurd (omega arith) }
+    later : (j : ℕ) → j < headerN bytes → (i ≡ j) ⊎ (i < j) → v ≤ prefix shift (keyWord bytes j)
+    later j n (inl d) = rw (← d) (here (rw d n))
+    later j n (inr l) = le-trans (here (omega arith)) (prefix-le shift _ _ (le-of-lt (opened-keys-rising bytes opens i j l n)))
+
+-- Key i has passed.
+pub below-next : (bytes : List ℕ) (shift v i n : ℕ) → Below bytes shift v i
+    → (ltb i n && ltb (prefix shift (keyWord bytes i)) v) ≡ true → (i < n) × Below bytes shift v (i + 1)
+below-next bytes shift v i n below e =
+    let b = both-true _ _ e in
+    (ltb-true _ _ (b .0), below-more (λ (j : ℕ). prefix shift (keyWord bytes j) < v) i below (ltb-true _ _ (b .1)))
+
+-- A store to an entry that is not filled yet.
+pub filled-same : {bytes : List ℕ} (shift v start : ℕ) (starts : List ℕ) → Filled bytes shift v starts → Filled bytes shift v (set starts v start)
+filled-same shift v start starts f u l = rw (getD-set-other starts v u start 0 (λ e. omega arith)) (f u l)
 
 -- Entry v is stored.
 pub filled-more : {bytes : List ℕ} (shift v start : ℕ) (starts : List ℕ) → v < length starts
     → Filled bytes shift v starts → StartsAt bytes shift v start → Filled bytes shift (v + 1) (set starts v start)
 filled-more {bytes} shift v start starts h f here =
     below-more (λ (u : ℕ). StartsAt bytes shift u (getD (set starts v start) u 0)) v
-    (λ u l. rw (getD-set-other starts v u start 0 (λ e. omega arith)) (f u l))
+    (filled-same shift v start starts f)
     (rw (getD-set-same starts v start 0 h) here)
 
 -- ---- how many entries

@@ -1,13 +1,15 @@
 // The lookup: a k-mer's canonical code among a set's keys.
 use kmer::{Header, Kmer};
 ghost use mathlib.Core.Path.{_≡_};
+ghost use mathlib.Core.Bool.{_&&_};
 ghost use mathlib.Core.Option.{none};
 ghost use Prim.Native.Nat.{_+_, _-_, _*_, _≤_, _<_};
+ghost use lib.Dec.{ltb};
 ghost use lib.ListN.{length, getD};
-ghost use Rattle.rules.specs.Set.{blocks, headerK, headerN, keyWord, keysFrom, among, setCheck, setOf, solid};
+ghost use Rattle.rules.specs.Set.{blocks, headerK, headerN, keyWord, keysFrom, among, setCheck, setOf, solid, maxK, maxKeys};
 ghost use Rattle.kmer.specs.Kmer.{Shifts, IsKmer};
 ghost use Rattle.set.specs.Standin.{flat};
-ghost use Rattle.set.specs.Ready.{tableLength, Below, StartsAt, Filled, Ready};
+ghost use Rattle.set.specs.Ready.{tableLength, prefix, Filled, Ready};
 ghost use Rattle.set.specs.Bracket.{Bracket};
 
 fn byte(x: u8) -> u64
@@ -37,59 +39,24 @@ fn key_at(set: &[u8], i: usize) -> u64
     word_at(set, 512 + 8 * (i + i / 63))
 }
 
-// How many of a bucket's `count` keys a distance is expected to pass: the part of 2^shift that it is, of them.
-fn expected(distance: u64, shift: u32, count: usize) -> usize
-    requires { ⌜ (shift < 64) × (count ≤ 16777216) ⌝ }
-    ensures { λ r. ⌜ r ≤ count ⌝ }
-{
-    let part = ((distance << (63 - shift)) << 1) >> 32;
-    ((part * (count as u64)) >> 32) as usize
-}
-
-// Where to look next: any place in the range is right, the guess where it lies there, or the middle.
-fn probe(lo: usize, hi: usize, guess: usize, guesses: u32) -> usize
-    requires { ⌜ lo < hi ⌝ }
-    ensures { λ r. ⌜ (lo ≤ r) × (r < hi) ⌝ }
-{
-    if guesses == 0 {
-        return lo + (hi - lo) / 2;
-    }
-    if guess < lo {
-        return lo;
-    }
-    if guess < hi { guess } else { hi - 1 }
-}
-
-fn less(a: usize, b: usize) -> usize
-{
-    if b < a { a - b } else { 0 }
-}
-
-fn search(set: &[u8], key: u64, shift: u32, from: usize, end: usize) -> bool
-    requires { ⌜ (setCheck (now set) ≡ none) × Bracket (now set) key from end × (from ≤ end) × (shift < 64) ⌝ }
+// Halves what can hold the key: the first half goes where the key is not below its end, the second where it is. No branch hangs on the keys.
+fn search(set: &[u8], key: u64, lo: usize, hi: usize) -> bool
+    requires { ⌜ (setCheck (now set) ≡ none) × Bracket (now set) key lo hi ⌝ }
     ensures { λ r. ⌜ r ≡ among key (keysFrom (now (set .entry)) 0 (headerN (now (set .entry)))) ⌝ }
 {
-    let count = end - from;
-    let mut guess = from + expected(key, shift, count);
-    let mut guesses = 8;
-    let mut lo = from;
-    let mut hi = end;
-    while lo < hi {
-        let at = probe(lo, hi, guess, guesses);
-        let word = key_at(set, at);
-        guesses /= 2;
-        if word == key {
-            return true;
-        }
-        if word < key {
-            lo = at + 1;
-            guess = lo + expected(key - word, shift, count);
-        } else {
-            hi = at;
-            guess = less(hi, 1 + expected(word - key, shift, count));
+    if hi <= lo {
+        return false;
+    }
+    let mut at = lo;
+    let mut size = hi - lo;
+    while 1 < size {
+        let half = size / 2;
+        size -= half;
+        if key_at(set, at + half) <= key {
+            at += half;
         }
     }
-    false
+    key_at(set, at) == key
 }
 
 fn wide(x: u32) -> usize
@@ -110,54 +77,55 @@ pub fn get(set: &[u8], starts: &[u32], head: Header, kmer: Kmer) -> bool
     ensures { λ r. ⌜ r ≡ solid (setOf (now (set .entry))) (kmer .code) ⌝ }
 {
     let key = kmer::canonical(kmer, head);
-    let shift = head.shift;
-    let prefix = (key >> shift) as usize;
-    search(set, key, shift, start(starts, prefix), start(starts, prefix + 1))
+    let prefix = (key >> head.shift) as usize;
+    search(set, key, start(starts, prefix), start(starts, prefix + 1))
 }
 
-// How many bits a prefix has: at most 16, at most a key's 2k, and so that there are no more prefixes than keys.
+// How many bits a prefix has: at most 16, at most a key's 2k, and no more than four prefixes to a key.
 fn prefix_bits(k: usize, n: usize) -> usize
-    requires { ⌜ k ≤ 31 ⌝ }
+    requires { ⌜ (k ≤ maxK) × (n ≤ maxKeys) ⌝ }
     ensures { λ r. ⌜ (r ≤ 16) × (r ≤ 2 * k) ⌝ }
 {
     let mut bits = 0;
-    let mut keys = n;
+    let mut most = 4 * n;
     while bits < 16 {
-        if keys < 2 {
+        if most < 2 {
             return bits;
         }
         if 2 * k <= bits {
             return bits;
         }
         bits += 1;
-        keys /= 2;
+        most /= 2;
     }
     bits
 }
 
-// Where prefix v starts, when no key before `from` has it or a higher one.
-fn start_from(set: &[u8], n: usize, shift: u32, from: usize, v: usize) -> usize
-    requires { ⌜ (setCheck (now set) ≡ none) × (n ≡ headerN (now set)) × (shift < 64) × (from ≤ n) × Below (now set) shift v from ⌝ }
-    ensures { λ r. ⌜ StartsAt (now (set .entry)) shift v r ⌝ }
+// Key i is there, and has a prefix below v.
+fn has_passed(set: &[u8], n: usize, shift: u32, i: usize, v: usize) -> bool
+    requires { ⌜ (n ≤ 63 * (blocks (now set) - 1)) × (shift < 64) ⌝ }
+    ensures { λ r. ⌜ r ≡ (ltb i n && ltb (prefix shift (keyWord (now (set .entry)) i)) v) ⌝ }
 {
-    let mut i = from;
-    while i < n {
-        if v <= (key_at(set, i) >> shift) as usize {
-            return i;
-        }
-        i += 1;
+    if n <= i {
+        return false;
     }
-    i
+    ((key_at(set, i) >> shift) as usize) < v
 }
 
+// One pass over the keys. Entry v is stored again until the key at i has prefix v or a higher one, so that no branch hangs on the keys.
 fn fill(set: &[u8], n: usize, shift: u32, entries: usize, starts: &mut [u32])
     requires { ⌜ (setCheck (now set) ≡ none) × (n ≡ headerN (now set)) × (shift < 64) × (entries ≤ length (now starts)) ⌝ }
     ensures { λ _. ⌜ Filled (now (set .entry)) shift entries (now (starts .exit)) ⌝ }
 {
     let mut i = 0;
-    for v in 0..entries {
-        i = start_from(set, n, shift, i, v);
+    let mut v = 0;
+    while v < entries {
         starts[v] = i as u32;
+        if has_passed(set, n, shift, i, v) {
+            i += 1;
+        } else {
+            v += 1;
+        }
     }
 }
 

@@ -30,30 +30,28 @@ entries c =
     ready-entries (s .pre .0) (c .canonical .result) (rw (c .canonical .ensures) (canonical-lt _ _ (s .pre .1 .small)))
 
 start-requires : tie.Need-start-requires
-start-requires c κs = omega (arith, entries c .room)
+start-requires c κs = omega (arith, entries (c .before) .room)
 
 add-start : tie.Need-add-start
-add-start c = omega (arith, entries (c .before) .room)
+add-start c = omega (arith, entries (c .before .before) .room)
 
 start-requires-2 : tie.Need-start-requires-2
-start-requires-2 c κs = entries (c .before) .room
+start-requires-2 c κs = entries (c .before .before) .room
 
 search-requires : tie.Need-search-requires
 search-requires c κs =
-    let k = c .before .before in
+    let k = c .before .before .before in
     let e = entries k in
     (
       k .before .before .before .pre .0 .opens,
       rw (c .before .start .ensures, c .start2 .ensures) (e .bracket),
-      rw (c .before .start .ensures, c .start2 .ensures) (e .in-order),
-      search needs,
     )
 
 returns : tie.Need-returns
 unfolding solid setOf
 returns c =
-    let s = c .before .before .before .before .before .before in
-    c .search .ensures ∙ rw (← (s .pre .0 .k-is), c .before .before .before .canonical .ensures)
+    let s = c .before .before .before .before .before .before .before in
+    c .search .ensures ∙ rw (← (s .pre .0 .k-is), c .before .before .before .before .canonical .ensures)
 
 pub get-spec : {M : Type 1} → statement M
 get-spec =

@@ -6,12 +6,14 @@ use Rattle.set.proofs.prefix_bits.Reads as reads
 use Rattle.set.proofs.prefix_bits.Lts as lts
 
 abbrev Inv-loop : tie.InvT-loop
-Inv-loop k n bits₀ keys₀ bits keys = (bits ≤ 16) × (bits ≤ 2 * k)
+Inv-loop k n bits₀ most₀ bits most = (bits ≤ 16) × (bits ≤ 2 * k)
 
 abbrev μ-loop : tie.MeasureT-loop
-μ-loop k n bits₀ keys₀ bits keys = 16 - bits
+μ-loop k n bits₀ most₀ bits most = 16 - bits
 
--- src/lib.rt:125:5
+mul-most : tie.Need-mul-most Inv-loop μ-loop
+mul-most c = search needs
+
 loop-holds : tie.Need-loop-holds Inv-loop μ-loop
 loop-holds c = search needs
 
@@ -49,6 +51,7 @@ prefix-bits-spec =
     (tie.spec
     Inv-loop
     μ-loop
+    mul-most
     loop-holds
     returns
     mul-if2

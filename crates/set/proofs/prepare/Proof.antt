@@ -2,7 +2,7 @@ use mathlib.Core.Path.{_≡_, _∙_}
 use Prim.Native.Nat.{_*_, _%_, _^_, _<_}
 use native.Mathlib.Omega.{arith}
 use Rattle.set.specs.Ready.{tableLength, prefixes}
-use Rattle.set.proofs.Opened.{opened-k-low, opened-k-high}
+use Rattle.set.proofs.Opened.{opened-k-low, opened-k-high, opened-n-le}
 use Rattle.set.proofs.Table.{prefixes-are}
 use borrow.Author.Needs.{needs}
 use Rattle.set.proofs.prepare.Statement.{statement}
@@ -15,7 +15,7 @@ use Rattle.set.proofs.prefix_bits.Reads as prefix-bits-reads
 
 -- src/lib.rt:181:9
 prefix-bits-requires : tie.Need-prefix-bits-requires
-prefix-bits-requires c κs = let s = c .before .before in omega (arith, opened-k-high _ (s .pre .0))
+prefix-bits-requires c κs = let s = c .before .before in omega (arith, opened-k-high _ (s .pre .0), opened-n-le _ (s .pre .0))
 
 -- src/lib.rt:182:9
 header-requires : tie.Need-header-requires
