@@ -1,8 +1,8 @@
 -- Laws of a search: how a bracket begins, narrows and ends, and what the table's entries say of a key.
 use Prim.Native.Nat.{ℕ, zero, suc, _+_, _*_, _-_, _/_, _^_, _≤_, _<_, zero-le, suc-le-suc}
 use native.Mathlib.Omega.{arith}
-use native.Mathlib.Nat.{add-zero, zero-add, le-of-suc-le-suc, not-suc-le-zero, eq-or-lt-of-le, lt-of-lt-of-le}
-use native.Mathlib.Decide.{decLe, decLt, ℕ-discrete}
+use native.Mathlib.Nat.{add-zero, zero-add, le-of-suc-le-suc, not-suc-le-zero, eq-or-lt-of-le}
+use native.Mathlib.Decide.{decLt}
 use mathlib.Core.Path.{_≡_, refl, sym, ap, ap₂, _∙_}
 use mathlib.Core.Bool.{Bool, true, false, _||_, or-true}
 use mathlib.Core.Option.{none}
@@ -40,49 +40,26 @@ not-from bytes x i (suc n) f =
 -- ---- brackets
 
 module _ {bytes : List ℕ} {x lo hi : ℕ} (b : Bracket bytes x lo hi) where
-  -- Where x stands, if it is a key.
-  inside : (j : ℕ) → j < headerN bytes → keyWord bytes j ≡ x → (lo ≤ j) × (j < hi)
-  inside j l e = (from (decLe lo j), before (decLt j hi))
-    where
-      from : Dec (lo ≤ j) → lo ≤ j
-      from (yes g) = g
-      from (no f) = absurd (omega (arith, b .below j (omega arith)))
-
-      before : Dec (j < hi) → j < hi
-      before (yes g) = g
-      before (no f) = absurd (omega (arith, b .above j (omega arith) l))
-
   -- An empty bracket: x is no key.
-  pub bracket-empty : hi ≤ lo → among x (keysFrom bytes 0 (headerN bytes)) ≡ false
-  bracket-empty h = not-from bytes x 0 (headerN bytes) (λ j l g e. omega (arith, inside j (omega arith) e))
-
-  -- A bracket of one key: x is that key or none.
-  pub bracket-one : hi ≡ lo + 1 → among x (keysFrom bytes 0 (headerN bytes)) ≡ eqb (keyWord bytes lo) x
-  bracket-one h = go (ℕ-discrete (keyWord bytes lo) x)
+  pub bracket-end : hi ≤ lo → among x (keysFrom bytes 0 (headerN bytes)) ≡ false
+  bracket-end h = not-from bytes x 0 (headerN bytes) (λ j l g e. out j (omega arith) e (decLt j lo))
     where
-      go : Dec (keyWord bytes lo ≡ x) → among x (keysFrom bytes 0 (headerN bytes)) ≡ eqb (keyWord bytes lo) x
-      go (yes e) = among-keys bytes x lo (omega (arith, b .within)) e ∙ sym (eq-eqb _ _ e)
-      go (no f) =
-          not-from bytes x 0 (headerN bytes)
-          (λ j l g e. let only : j ≡ lo = omega (arith, inside j (omega arith) e) in f (rw (← only) e))
-          ∙ sym (ne-eqb _ _ f)
+      out : (j : ℕ) → j < headerN bytes → keyWord bytes j ≡ x → Dec (j < lo) → ⊥
+      out j l e (yes g) = omega (arith, b .below j g)
+      out j l e (no f) = omega (arith, b .above j (omega arith) l)
 
-  module _ (opens : setCheck bytes ≡ none) (m end : ℕ) (mh : m < hi) where
-    -- Key m is not above x: x is none before m.
-    pub bracket-up : hi ≡ end → keyWord bytes m ≤ x → Bracket bytes x m end
-    bracket-up e h = record {
-      within = rw (← e) (b .within);
-      below = λ j l. lt-of-lt-of-le (opened-keys-rising bytes opens j m l (omega (arith, b .within))) h;
-      above = λ j l. b .above j (rw e l);
-    }
+  module _ (opens : setCheck bytes ≡ none) (m : ℕ) (mh : m < hi) where
+    -- Key m is below x: on behind it.
+    pub bracket-up : keyWord bytes m < x → Bracket bytes x (m + 1) hi
+    bracket-up h = record { within = b .within; below = λ j l. up j (eq-or-lt-of-le {n = j} {m = m} (omega arith)); above = b .above }
+      where
+        up : (j : ℕ) → (j ≡ m) ⊎ (j < m) → keyWord bytes j < x
+        up j (inl e) = rw e h
+        up j (inr l) = omega (arith, opened-keys-rising bytes opens j m l (omega (arith, b .within)))
 
-    -- Key m is above x: x is none from m on.
-    pub bracket-down : m ≤ end → end ≤ hi → x < keyWord bytes m → Bracket bytes x lo end
-    bracket-down me eh h = record {
-      within = omega (arith, b .within);
-      below = b .below;
-      above = λ j l l′. down j l′ (eq-or-lt-of-le {n = m} {m = j} (omega arith));
-    }
+    -- Key m is above x: on before it.
+    pub bracket-down : x < keyWord bytes m → Bracket bytes x lo m
+    bracket-down h = record { within = omega (arith, b .within); below = b .below; above = λ j l l′. down j l′ (eq-or-lt-of-le l) }
       where
         down : (j : ℕ) → j < headerN bytes → (m ≡ j) ⊎ (m < j) → x < keyWord bytes j
         down j l (inl e) = rw (← e) h

@@ -39,7 +39,7 @@ unfolding isNone
 found-none none e = refl
 found-none (some i) e = absurd (false≢true e)
 
-pub both-true : (a b : Bool) → (a && b) ≡ true → (a ≡ true) × (b ≡ true)
+both-true : (a b : Bool) → (a && b) ≡ true → (a ≡ true) × (b ≡ true)
 both-true true b e = (refl, e)
 both-true false b e = absurd (false≢true e)
 

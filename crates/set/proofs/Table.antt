@@ -14,13 +14,13 @@ use lib.ListN.{length, getD, set}
 use lib.Seq.{getD-set-same, getD-set-other}
 use lib.Dec.{ltb, lit<}
 use lib.Pow.{pow-pos, shr-lt}
-use Rattle.rules.specs.Set.{keyWord, headerN, setCheck}
+use Rattle.rules.specs.Set.{keyWord, headerK, headerN, setCheck}
 use Rattle.kmer.specs.declared.Header.{Header}
 use Rattle.rules.specs.Letters.{canonical, revcomp, evenOnes}
 use Rattle.rules.proofs.Kmer.{two-four, revcomp-lt}
 use Rattle.set.specs.Ready.{tableLength, prefix, prefixes, Below, StartsAt, Filled, Ready}
 use Rattle.set.specs.Bracket.{Bracket}
-use Rattle.set.proofs.Opened.{both-true, opened-keys-rising}
+use Rattle.set.proofs.Opened.{opened-key-lt}
 
 -- A lower prefix is a lower key.
 prefix-below : (shift a b : ℕ) → prefix shift a < prefix shift b → a < b
@@ -64,47 +64,13 @@ ready-entries {head = head} ready x h =
     let g = ready .starts-right (v + 1) (omega arith) in
     record { room = omega (arith, ready .starts-length); bracket = starts-bracket l g x refl }
 
--- ---- filling
-
-prefix-le : (shift a b : ℕ) → a ≤ b → prefix shift a ≤ prefix shift b
+-- A lower key has no higher prefix.
+pub prefix-le : (shift a b : ℕ) → a ≤ b → prefix shift a ≤ prefix shift b
 prefix-le shift a b h = go (decLe (prefix shift a) (prefix shift b))
   where
     go : Dec (prefix shift a ≤ prefix shift b) → prefix shift a ≤ prefix shift b
     go (yes g) = g
     go (no f) = absurd (omega (arith, prefix-below shift b a (omega arith)))
-
--- Prefix v starts at i where the keys before have passed and key i, if there is one, has not.
-pub starts-here : {bytes : List ℕ} (shift v i : ℕ) → setCheck bytes ≡ none → i ≤ headerN bytes → Below bytes shift v i
-    → (ltb i (headerN bytes) && ltb (prefix shift (keyWord bytes i)) v) ≡ false → StartsAt bytes shift v i
-starts-here {bytes} shift v i opens h below e = record { within = h; before = below; after = λ j l n. later j n (eq-or-lt-of-le l) }
-  where
-    here : i < headerN bytes → v ≤ prefix shift (keyWord bytes i)
-    here g = ltb-false _ _ (rw (lt-ltb _ _ g) at e)
-
-    later : (j : ℕ) → j < headerN bytes → (i ≡ j) ⊎ (i < j) → v ≤ prefix shift (keyWord bytes j)
-    later j n (inl d) = rw (← d) (here (rw d n))
-    later j n (inr l) = le-trans (here (omega arith)) (prefix-le shift _ _ (le-of-lt (opened-keys-rising bytes opens i j l n)))
-
--- Key i has passed.
-pub below-next : (bytes : List ℕ) (shift v i n : ℕ) → Below bytes shift v i
-    → (ltb i n && ltb (prefix shift (keyWord bytes i)) v) ≡ true → (i < n) × Below bytes shift v (i + 1)
-below-next bytes shift v i n below e =
-    let b = both-true _ _ e in
-    (ltb-true _ _ (b .0), below-more (λ (j : ℕ). prefix shift (keyWord bytes j) < v) i below (ltb-true _ _ (b .1)))
-
--- A store to an entry that is not filled yet.
-pub filled-same : {bytes : List ℕ} (shift v start : ℕ) (starts : List ℕ) → Filled bytes shift v starts → Filled bytes shift v (set starts v start)
-filled-same shift v start starts f u l = rw (getD-set-other starts v u start 0 (λ e. omega arith)) (f u l)
-
--- Entry v is stored.
-pub filled-more : {bytes : List ℕ} (shift v start : ℕ) (starts : List ℕ) → v < length starts
-    → Filled bytes shift v starts → StartsAt bytes shift v start → Filled bytes shift (v + 1) (set starts v start)
-filled-more {bytes} shift v start starts h f here =
-    below-more (λ (u : ℕ). StartsAt bytes shift u (getD (set starts v start) u 0)) v
-    (filled-same shift v start starts f)
-    (rw (getD-set-same starts v start 0 h) here)
-
--- ---- how many entries
 
 -- Prefixes of 16 bits at most: as many as the code counts, and the table has room.
 pub prefixes-are : (k bits : ℕ) (head : Header) → head .k ≡ k → head .shift ≡ 2 * k - bits → bits ≤ 16 → bits ≤ 2 * k
@@ -113,3 +79,8 @@ prefixes-are k bits head k-is shift-is h g =
     let e : 2 * k - (2 * k - bits) ≡ bits = omega arith in
     let l : 2 ^ bits ≤ 65536 = pow-le-pow-right (lit< tt) h in
     rw (k-is, shift-is, e) (omega arith)
+
+-- Every key's prefix is one of the prefixes.
+pub below-all : (bytes : List ℕ) (head : Header) → setCheck bytes ≡ none → head .k ≡ headerK bytes → head .shift ≤ 2 * head .k
+    → Below bytes (head .shift) (prefixes (head .k) (head .shift)) (headerN bytes)
+below-all bytes head opens k-is h i l = prefix-lt _ _ _ h (rw k-is (opened-key-lt bytes opens i l))

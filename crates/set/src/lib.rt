@@ -1,62 +1,42 @@
-// The lookup: a k-mer's canonical code among a set's keys.
+// The lookup, port of src/set.rs: whether a k-mer is solid. A table says where the keys of each prefix start, and a search among those does the rest.
 use kmer::{Header, Kmer};
 ghost use mathlib.Core.Path.{_≡_};
-ghost use mathlib.Core.Bool.{_&&_};
 ghost use mathlib.Core.Option.{none};
-ghost use Prim.Native.Nat.{_+_, _-_, _*_, _≤_, _<_};
-ghost use lib.Dec.{ltb};
+ghost use Prim.Native.Nat.{ℕ, _+_, _-_, _*_, _≤_, _<_, max};
 ghost use lib.ListN.{length, getD};
-ghost use Rattle.rules.specs.Set.{blocks, headerK, headerN, keyWord, keysFrom, among, setCheck, setOf, solid, maxK, maxKeys};
+ghost use Rattle.rules.specs.Set.{maxK, maxKeys, headerK, headerN, keysFrom, among, setCheck, setOf, solid};
 ghost use Rattle.kmer.specs.Kmer.{Shifts, IsKmer};
-ghost use Rattle.set.specs.Standin.{flat};
-ghost use Rattle.set.specs.Ready.{tableLength, prefix, Filled, Ready};
+ghost use Rattle.set.specs.Ready.{tableLength, prefixes, Below, Filled, Ready};
+ghost use Rattle.set.specs.Ends.{Marked, highest};
 ghost use Rattle.set.specs.Bracket.{Bracket};
 
-fn byte(x: u8) -> u64
-    ensures { λ r. ⌜ (r ≡ x) × (r < 256) ⌝ }
+// Any place in the range is right.
+fn probe(lo: usize, hi: usize) -> usize
+    requires { ⌜ lo < hi ⌝ }
+    ensures { λ r. ⌜ (lo ≤ r) × (r < hi) ⌝ }
 {
-    x as u64
+    lo + (hi - lo) / 2
 }
 
-fn word_at(s: &[u8], at: usize) -> u64
-    requires { ⌜ at + 8 ≤ length (now s) ⌝ }
-    ensures { λ r. ⌜ r ≡ flat (now (s .entry)) at ⌝ }
-{
-    byte(s[at])
-        + byte(s[at + 1]) * 256
-        + byte(s[at + 2]) * 65536
-        + byte(s[at + 3]) * 16777216
-        + byte(s[at + 4]) * 4294967296
-        + byte(s[at + 5]) * 1099511627776
-        + byte(s[at + 6]) * 281474976710656
-        + byte(s[at + 7]) * 72057594037927936
-}
-
-fn key_at(set: &[u8], i: usize) -> u64
-    requires { ⌜ i < 63 * (blocks (now set) - 1) ⌝ }
-    ensures { λ r. ⌜ r ≡ keyWord (now (set .entry)) i ⌝ }
-{
-    word_at(set, 512 + 8 * (i + i / 63))
-}
-
-// Halves what can hold the key: the first half goes where the key is not below its end, the second where it is. No branch hangs on the keys.
-fn search(set: &[u8], key: u64, lo: usize, hi: usize) -> bool
-    requires { ⌜ (setCheck (now set) ≡ none) × Bracket (now set) key lo hi ⌝ }
+fn search(set: &[u8], key: u64, from: usize, end: usize) -> bool
+    requires { ⌜ (setCheck (now set) ≡ none) × Bracket (now set) key from end ⌝ }
     ensures { λ r. ⌜ r ≡ among key (keysFrom (now (set .entry)) 0 (headerN (now (set .entry)))) ⌝ }
 {
-    if hi <= lo {
-        return false;
-    }
-    let mut at = lo;
-    let mut size = hi - lo;
-    while 1 < size {
-        let half = size / 2;
-        size -= half;
-        if key_at(set, at + half) <= key {
-            at += half;
+    let mut lo = from;
+    let mut hi = end;
+    while lo < hi {
+        let at = probe(lo, hi);
+        let word = blocks::key_at(set, at);
+        if word == key {
+            return true;
+        }
+        if word < key {
+            lo = at + 1;
+        } else {
+            hi = at;
         }
     }
-    key_at(set, at) == key
+    false
 }
 
 fn wide(x: u32) -> usize
@@ -101,36 +81,8 @@ fn prefix_bits(k: usize, n: usize) -> usize
     bits
 }
 
-// Key i is there, and has a prefix below v.
-fn has_passed(set: &[u8], n: usize, shift: u32, i: usize, v: usize) -> bool
-    requires { ⌜ (n ≤ 63 * (blocks (now set) - 1)) × (shift < 64) ⌝ }
-    ensures { λ r. ⌜ r ≡ (ltb i n && ltb (prefix shift (keyWord (now (set .entry)) i)) v) ⌝ }
-{
-    if n <= i {
-        return false;
-    }
-    ((key_at(set, i) >> shift) as usize) < v
-}
-
-// One pass over the keys. Entry v is stored again until the key at i has prefix v or a higher one, so that no branch hangs on the keys.
-fn fill(set: &[u8], n: usize, shift: u32, entries: usize, starts: &mut [u32])
-    requires { ⌜ (setCheck (now set) ≡ none) × (n ≡ headerN (now set)) × (shift < 64) × (entries ≤ length (now starts)) ⌝ }
-    ensures { λ _. ⌜ Filled (now (set .entry)) shift entries (now (starts .exit)) ⌝ }
-{
-    let mut i = 0;
-    let mut v = 0;
-    while v < entries {
-        starts[v] = i as u32;
-        if has_passed(set, n, shift, i, v) {
-            i += 1;
-        } else {
-            v += 1;
-        }
-    }
-}
-
 fn header(k: usize, n: usize, bits: usize) -> Header
-    requires { ⌜ (1 ≤ k) × (k ≤ 31) × (bits ≤ 2 * k) ⌝ }
+    requires { ⌜ (1 ≤ k) × (k ≤ maxK) × (bits ≤ 2 * k) ⌝ }
     ensures { λ r. ⌜ Shifts r × (r .k ≡ k) × (r .n ≡ n) × (r .shift ≡ 2 * k - bits) ⌝ }
 {
     Header {
@@ -142,12 +94,64 @@ fn header(k: usize, n: usize, bits: usize) -> Header
     }
 }
 
+fn clear(starts: &mut [u32], entries: usize)
+    requires { ⌜ entries ≤ length (now starts) ⌝ }
+    ensures { λ _. ⌜ ((v : ℕ) → v < entries → getD (now (starts .exit)) v 0 ≡ 0) ⌝ }
+{
+    for v in 0..entries {
+        starts[v] = 0;
+    }
+}
+
+// Entry v + 1: where prefix v ends. The last key of a prefix is the last to store.
+fn mark_ends(set: &[u8], n: usize, shift: u32, last: usize, starts: &mut [u32])
+    requires {
+        ⌜ (setCheck (now set) ≡ none) × (n ≡ headerN (now set)) × (shift < 64) × (last < length (now starts)) × Below (now set) shift last n
+            × ((v : ℕ) → v < last + 1 → getD (now starts) v 0 ≡ 0) ⌝
+    }
+    ensures { λ _. ⌜ Marked (now (set .entry)) shift n last (now (starts .exit)) ⌝ }
+{
+    for i in 0..n {
+        let prefix = (blocks::key_at(set, i) >> shift) as usize;
+        starts[prefix + 1] = (i + 1) as u32;
+    }
+}
+
+fn higher(a: u32, b: u32) -> u32
+    ensures { λ r. ⌜ r ≡ max a b ⌝ }
+{
+    if a < b { b } else { a }
+}
+
+// A prefix starts where the last one before it that has keys ends.
+fn carry_ends(starts: &mut [u32], entries: usize)
+    requires { ⌜ entries ≤ length (now starts) ⌝ }
+    ensures { λ _. ⌜ ((v : ℕ) → v < entries → getD (now (starts .exit)) v 0 ≡ highest (now (starts .entry)) v) ⌝ }
+{
+    let mut most: u32 = 0;
+    for v in 0..entries {
+        most = higher(most, starts[v]);
+        starts[v] = most;
+    }
+}
+
+fn fill(set: &[u8], n: usize, shift: u32, last: usize, starts: &mut [u32])
+    requires {
+        ⌜ (setCheck (now set) ≡ none) × (n ≡ headerN (now set)) × (shift < 64) × (last < length (now starts)) × Below (now set) shift last n ⌝
+    }
+    ensures { λ _. ⌜ Filled (now (set .entry)) shift (last + 1) (now (starts .exit)) ⌝ }
+{
+    clear(starts, last + 1);
+    mark_ends(set, n, shift, last, starts);
+    carry_ends(starts, last + 1);
+}
+
 pub fn prepare(set: &[u8], k: usize, n: usize, starts: &mut [u32]) -> Header
     requires { ⌜ (setCheck (now set) ≡ none) × (k ≡ headerK (now set)) × (n ≡ headerN (now set)) × (length (now starts) ≡ tableLength) ⌝ }
     ensures { λ r. ⌜ Ready (now (set .entry)) (now (starts .exit)) r ⌝ }
 {
     let bits = prefix_bits(k, n);
     let head = header(k, n, bits);
-    fill(set, n, head.shift, (1 << bits) + 1, starts);
+    fill(set, n, head.shift, 1 << bits, starts);
     head
 }

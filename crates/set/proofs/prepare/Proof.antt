@@ -3,7 +3,7 @@ use Prim.Native.Nat.{_*_, _%_, _^_, _<_}
 use native.Mathlib.Omega.{arith}
 use Rattle.set.specs.Ready.{tableLength, prefixes}
 use Rattle.set.proofs.Opened.{opened-k-low, opened-k-high, opened-n-le}
-use Rattle.set.proofs.Table.{prefixes-are}
+use Rattle.set.proofs.Table.{prefixes-are, below-all}
 use borrow.Author.Needs.{needs}
 use Rattle.set.proofs.prepare.Statement.{statement}
 use Rattle.set.proofs.prepare.Tie as tie
@@ -33,13 +33,18 @@ entries c =
 shl-fill : tie.Need-shl-fill
 shl-fill c = search needs
 
-add-fill : tie.Need-add-fill
-add-fill c = omega (arith, entries c)
-
 fill-requires : tie.Need-fill-requires
 fill-requires c κs =
-    let s = c .before .before .before .before .before in
-    (s .pre .0, s .pre .2, omega (arith, opened-k-high _ (s .pre .0)), omega (arith, entries (c .before)))
+    let h = c .before in
+    let s = h .before .before .before .before in
+    let all = below-all _ (h .header .result) (s .pre .0) (h .header .ensures .1 ∙ s .pre .1) (omega arith) in
+    (
+      s .pre .0,
+      s .pre .2,
+      omega (arith, opened-k-high _ (s .pre .0)),
+      omega (arith, entries h),
+      rw (entries h .0, s .pre .2) all,
+    )
 
 same-length : tie.Need-same-length
 same-length c = search needs
@@ -65,7 +70,6 @@ prepare-spec =
     prefix-bits-requires
     header-requires
     shl-fill
-    add-fill
     fill-requires
     same-length
     returns)
