@@ -1,24 +1,20 @@
 -- Laws of the table of starts.
-use Prim.Native.Nat.{ℕ, zero, suc, _+_, _*_, _-_, _/_, _%_, _^_, _≤_, _<_}
+use Prim.Native.Nat.{ℕ, _+_, _*_, _-_, _%_, _^_, _≤_, _<_}
 use native.Mathlib.Omega.{arith}
-use native.Mathlib.Nat.{div-lt-iff-lt-mul, div-mul-le-self, lt-of-lt-of-le, le-refl, le-of-lt, le-trans, pow-le-pow-right, eq-or-lt-of-le}
+use native.Mathlib.Nat.{div-lt-iff-lt-mul, div-mul-le-self, lt-of-lt-of-le, pow-le-pow-right}
 use native.Mathlib.Decide.{decLe}
-use mathlib.Core.Bool.{Bool, true, false, _&&_}
+use mathlib.Core.Bool.{Bool, true, false}
 use mathlib.Core.Path.{_≡_, refl}
 use mathlib.Core.List.{List}
 use mathlib.Core.Option.{none}
-use mathlib.Core.Logic.{_⊎_, inl, inr}
-use borrow.Author.Tests.{ltb-true, ltb-false, lt-ltb}
-use borrow.Author.Count.{below-more}
-use lib.ListN.{length, getD, set}
-use lib.Seq.{getD-set-same, getD-set-other}
-use lib.Dec.{ltb, lit<}
+use lib.ListN.{length, getD}
+use lib.Dec.{lit<}
 use lib.Pow.{pow-pos, shr-lt}
-use Rattle.rules.specs.Set.{keyWord, headerK, headerN, setCheck}
+use Rattle.rules.specs.Set.{headerK, headerN, setCheck}
 use Rattle.kmer.specs.declared.Header.{Header}
 use Rattle.rules.specs.Letters.{canonical, revcomp, evenOnes}
 use Rattle.rules.proofs.Kmer.{two-four, revcomp-lt}
-use Rattle.set.specs.Ready.{tableLength, prefix, prefixes, Below, StartsAt, Filled, Ready}
+use Rattle.set.specs.Ready.{tableLength, prefix, prefixes, Below, StartsAt, Ready}
 use Rattle.set.specs.Bracket.{Bracket}
 use Rattle.set.proofs.Opened.{opened-key-lt}
 

@@ -1,5 +1,6 @@
 // The lookup, port of src/set.rs: whether a k-mer is solid. A table says where the keys of each prefix start, and a search among those does the rest.
-use kmer::{Header, Kmer};
+use kmer::Header;
+use kmer::Kmer;
 ghost use mathlib.Core.Path.{_≡_};
 ghost use mathlib.Core.Option.{none};
 ghost use Prim.Native.Nat.{ℕ, _+_, _-_, _*_, _≤_, _<_, max};
@@ -105,10 +106,8 @@ fn clear(starts: &mut [u32], entries: usize)
 
 // Entry v + 1: where prefix v ends. The last key of a prefix is the last to store.
 fn mark_ends(set: &[u8], n: usize, shift: u32, last: usize, starts: &mut [u32])
-    requires {
-        ⌜ (setCheck (now set) ≡ none) × (n ≡ headerN (now set)) × (shift < 64) × (last < length (now starts)) × Below (now set) shift last n
-            × ((v : ℕ) → v < last + 1 → getD (now starts) v 0 ≡ 0) ⌝
-    }
+    requires { ⌜ (setCheck (now set) ≡ none) × (n ≡ headerN (now set)) × (shift < 64) × (last < length (now starts)) × Below (now set) shift last n
+        × ((v : ℕ) → v < last + 1 → getD (now starts) v 0 ≡ 0) ⌝ }
     ensures { λ _. ⌜ Marked (now (set .entry)) shift n last (now (starts .exit)) ⌝ }
 {
     for i in 0..n {
@@ -136,9 +135,7 @@ fn carry_ends(starts: &mut [u32], entries: usize)
 }
 
 fn fill(set: &[u8], n: usize, shift: u32, last: usize, starts: &mut [u32])
-    requires {
-        ⌜ (setCheck (now set) ≡ none) × (n ≡ headerN (now set)) × (shift < 64) × (last < length (now starts)) × Below (now set) shift last n ⌝
-    }
+    requires { ⌜ (setCheck (now set) ≡ none) × (n ≡ headerN (now set)) × (shift < 64) × (last < length (now starts)) × Below (now set) shift last n ⌝ }
     ensures { λ _. ⌜ Filled (now (set .entry)) shift (last + 1) (now (starts .exit)) ⌝ }
 {
     clear(starts, last + 1);

@@ -7,8 +7,6 @@ use lib.ListN.{length, getD, length-set}
 use Rattle.set.proofs.Ends.{entries-more}
 use Rattle.set.proofs.clear.Statement.{statement}
 use Rattle.set.proofs.clear.Tie as tie
-use Rattle.set.proofs.clear.Reads as reads
-use Rattle.set.proofs.clear.Lts as lts
 
 abbrev Inv-loop : tie.InvT-loop
 Inv-loop starts₀ entries v₀ starts v = (v ≤ entries) × (length starts ≡ length starts₀) × ((u : ℕ) → u < v → getD starts u 0 ≡ 0)
@@ -16,37 +14,29 @@ Inv-loop starts₀ entries v₀ starts v = (v ≤ entries) × (length starts ≡
 abbrev μ-loop : tie.MeasureT-loop
 μ-loop starts₀ entries v₀ starts v = entries - v
 
--- src/lib.rt:101:5
 loop-holds : tie.Need-loop-holds Inv-loop μ-loop
 loop-holds c = (search needs, refl, λ u l. absurd (not-suc-le-zero l))
 
--- src/lib.rt:102:9
 mul-starts : tie.Need-mul-starts Inv-loop μ-loop
 mul-starts c = search needs
 
--- src/lib.rt:102:9
 slice-write-starts : tie.Need-slice-write-starts Inv-loop μ-loop
 slice-write-starts c = search needs
 
--- src/lib.rt:101:9
 add-v : tie.Need-add-v Inv-loop μ-loop
 add-v c = search needs
 
--- src/lib.rt:101:5
 loop-less : tie.Need-loop-less Inv-loop μ-loop
 loop-less c = search needs
 
--- src/lib.rt:101:5
 loop-again : tie.Need-loop-again Inv-loop μ-loop
 loop-again c =
     let l = c .before .loop in
     (search needs, length-set (l .starts) (l .v) 0 ∙ l .inv .1, entries-more (λ (u x : ℕ). x ≡ 0) (l .starts) (l .v) 0 (search needs) (l .inv .2) refl)
 
--- src/lib.rt:97:1
 same-length : tie.Need-same-length Inv-loop μ-loop
 same-length c = search needs
 
--- src/lib.rt:97:1
 returns : tie.Need-returns Inv-loop μ-loop
 returns c = λ v h. c .before .loop .inv .2 v (omega arith)
 

@@ -1,5 +1,4 @@
-use mathlib.Core.Path.{_≡_, _∙_, sym}
-use Prim.Native.Nat.{_+_, _≤_, _<_}
+use mathlib.Core.Path.{_∙_}
 use native.Mathlib.Omega.{arith}
 use borrow.Author.Needs.{needs}
 use Rattle.rules.specs.Set.{solid, setOf}
@@ -7,11 +6,6 @@ use Rattle.set.proofs.Table.{Entries, ready-entries, canonical-lt}
 use Rattle.set.specs.Ready.{prefix}
 use Rattle.set.proofs.get.Statement.{statement}
 use Rattle.set.proofs.get.Tie as tie
-use Rattle.set.proofs.get.Reads as reads
-use Rattle.set.proofs.get.Lts as lts
-use Rattle.kmer.proofs.canonical.Reads as canonical-reads
-use Rattle.set.proofs.search.Reads as search-reads
-use Rattle.set.proofs.start.Reads as start-reads
 
 canonical-requires : tie.Need-canonical-requires
 canonical-requires c κs = search needs
@@ -41,8 +35,7 @@ start-requires-2 c κs = entries (c .before .before) .room
 search-requires : tie.Need-search-requires
 search-requires c κs =
     let k = c .before .before .before in
-    let e = entries k in
-    (
+    let e = entries k in (
       k .before .before .before .pre .0 .opens,
       rw (c .before .start .ensures, c .start2 .ensures) (e .bracket),
     )

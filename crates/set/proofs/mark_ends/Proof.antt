@@ -1,18 +1,14 @@
-use mathlib.Core.Path.{_≡_, refl, ap, _∙_, sym}
-use Prim.Native.Nat.{ℕ, _+_, _-_, _<_, _≤_}
+use mathlib.Core.Path.{_≡_, refl, _∙_}
+use Prim.Native.Nat.{_-_, _<_, _≤_}
 use native.Mathlib.Omega.{arith}
 use borrow.Author.Needs.{needs}
 use lib.ListN.{length, length-set}
-use Rattle.rules.specs.Set.{keyWord}
 use Rattle.set.specs.Ready.{prefix}
 use Rattle.set.specs.Ends.{Marked}
 use Rattle.set.proofs.Opened.{opened-n-le, opened-room}
 use Rattle.set.proofs.Ends.{marked-none, marked-more}
 use Rattle.set.proofs.mark_ends.Statement.{statement}
 use Rattle.set.proofs.mark_ends.Tie as tie
-use Rattle.set.proofs.mark_ends.Reads as reads
-use Rattle.set.proofs.mark_ends.Lts as lts
-use Rattle.blocks.proofs.key_at.Reads as key-at-reads
 
 abbrev Inv-loop : tie.InvT-loop
 Inv-loop set n shift last starts₀ i₀ starts i = (i ≤ n) × (length starts ≡ length starts₀) × Marked set shift i last starts
@@ -20,15 +16,12 @@ Inv-loop set n shift last starts₀ i₀ starts i = (i ≤ n) × (length starts 
 abbrev μ-loop : tie.MeasureT-loop
 μ-loop set n shift last starts₀ i₀ starts i = n - i
 
--- src/lib.rt:114:5
 loop-holds : tie.Need-loop-holds Inv-loop μ-loop
 loop-holds c = (search needs, refl, marked-none _ _ _ (c .before .before .args .starts .now) (c .before .before .pre .5))
 
--- src/lib.rt:115:23
 key-at-requires : tie.Need-key-at-requires Inv-loop μ-loop
 key-at-requires c κs = let s = c .before .before .before .before in omega (arith, opened-room _ (s .pre .0))
 
--- src/lib.rt:115:23
 shr-prefix : tie.Need-shr-prefix Inv-loop μ-loop
 shr-prefix c = search needs
 
@@ -40,49 +33,38 @@ known c =
     let pre = l .before .before .before .pre in
     rw (c .key-at .ensures) (pre .4 _ (search needs))
 
--- src/lib.rt:116:31
 add-starts : tie.Need-add-starts Inv-loop μ-loop
 add-starts c = search needs
 
--- src/lib.rt:116:30
 cast-starts : tie.Need-cast-starts Inv-loop μ-loop
 cast-starts c = let s = c .before .before .before .before .before in omega (arith, opened-n-le _ (s .pre .0))
 
--- src/lib.rt:116:16
 add-starts-2 : tie.Need-add-starts-2 Inv-loop μ-loop
 add-starts-2 c = omega (arith, known c)
 
--- src/lib.rt:116:9
 mul-starts : tie.Need-mul-starts Inv-loop μ-loop
 mul-starts c = omega (arith, known c)
 
--- src/lib.rt:116:9
 slice-write-starts : tie.Need-slice-write-starts Inv-loop μ-loop
 slice-write-starts c = omega (arith, known c)
 
--- src/lib.rt:114:9
 add-i : tie.Need-add-i Inv-loop μ-loop
 add-i c = search needs
 
--- src/lib.rt:114:5
 loop-less : tie.Need-loop-less Inv-loop μ-loop
 loop-less c = search needs
 
--- src/lib.rt:114:5
 loop-again : tie.Need-loop-again Inv-loop μ-loop
 loop-again c =
-    let l = c .before .before .loop in
-    (
+    let l = c .before .before .loop in (
       search needs,
       length-set (l .starts) _ _ ∙ l .inv .1,
       rw (c .key-at .ensures) (marked-more _ _ _ _ (l .starts) (rw (← (c .key-at .ensures)) (omega (arith, known c))) (l .inv .2)),
     )
 
--- src/lib.rt:107:1
 same-length : tie.Need-same-length Inv-loop μ-loop
 same-length c = search needs
 
--- src/lib.rt:107:1
 returns : tie.Need-returns Inv-loop μ-loop
 returns c = let l = c .before .loop in let all : l .i ≡ c .before .before .before .before .args .n = omega arith in rw (← all) (l .inv .2)
 

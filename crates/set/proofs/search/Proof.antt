@@ -8,10 +8,6 @@ use Rattle.set.proofs.Opened.{opened-n-le, opened-room}
 use Rattle.set.proofs.Narrowing.{among-keys, bracket-up, bracket-down, bracket-end}
 use Rattle.set.proofs.search.Statement.{statement}
 use Rattle.set.proofs.search.Tie as tie
-use Rattle.set.proofs.search.Reads as reads
-use Rattle.set.proofs.search.Lts as lts
-use Rattle.blocks.proofs.key_at.Reads as key-at-reads
-use Rattle.set.proofs.probe.Reads as probe-reads
 
 abbrev Inv-loop : tie.InvT-loop
 Inv-loop set key from end lo₀ hi₀ lo hi = Bracket set key lo hi
@@ -19,44 +15,35 @@ Inv-loop set key from end lo₀ hi₀ lo hi = Bracket set key lo hi
 abbrev μ-loop : tie.MeasureT-loop
 μ-loop set key from end lo₀ hi₀ lo hi = hi - lo
 
--- src/lib.rt:27:5
 loop-holds : tie.Need-loop-holds Inv-loop μ-loop
 loop-holds c = c .before .pre .1
 
--- src/lib.rt:28:13
 probe-requires : tie.Need-probe-requires Inv-loop μ-loop
 probe-requires c κs = search needs
 
--- src/lib.rt:29:13
 key-at-requires : tie.Need-key-at-requires Inv-loop μ-loop
 key-at-requires c κs = let l = c .before .before in omega (arith, l .loop .inv .within, opened-room _ (l .before .before .pre .0))
 
--- src/lib.rt:31:13
 returns : tie.Need-returns Inv-loop μ-loop
 returns c =
     let l = c .before .before .before .before in
     sym (among-keys _ _ (c .before .before .probe .result) (omega (arith, l .loop .inv .within)) (sym (c .before .key-at .ensures) ∙ c .if1 .taken))
 
--- src/lib.rt:34:18
 add-lo : tie.Need-add-lo Inv-loop μ-loop
 add-lo c = let l = c .before .before .before .before .before in omega (arith, l .loop .inv .within, opened-n-le _ (l .before .before .pre .0))
 
--- src/lib.rt:27:5
 loop-less : tie.Need-loop-less Inv-loop μ-loop
 loop-less c = search needs
 
--- src/lib.rt:27:5
 loop-again : tie.Need-loop-again Inv-loop μ-loop
 loop-again c =
     let w = c .before .before in
     let l = w .before .before .before in
     bracket-up (l .loop .inv) (l .before .before .pre .0) (w .before .probe .result) (search needs) (rw (← (w .key-at .ensures)) (c .if2 .taken))
 
--- src/lib.rt:27:5
 loop-less-2 : tie.Need-loop-less-2 Inv-loop μ-loop
 loop-less-2 c = search needs
 
--- src/lib.rt:27:5
 loop-again-2 : tie.Need-loop-again-2 Inv-loop μ-loop
 loop-again-2 c =
     let w = c .before .before in
@@ -64,7 +51,6 @@ loop-again-2 c =
     let above : l .before .before .args .key < w .key-at .result = lt-of-le-ne (c .if2 .left) (λ e. c .before .if1 .left (sym e)) in
     bracket-down (l .loop .inv) (l .before .before .pre .0) (w .before .probe .result) (search needs) (rw (← (w .key-at .ensures)) above)
 
--- src/lib.rt:21:1
 returns-2 : tie.Need-returns-2 Inv-loop μ-loop
 returns-2 c = sym (bracket-end (c .before .loop .inv) (c .loop-test .left))
 
