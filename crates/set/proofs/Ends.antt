@@ -27,15 +27,16 @@ entries-more P starts v x h f here =
     (rw (getD-set-same starts v x 0 h) here)
 
 -- Before the first key: all entries are 0.
-pub marked-none : (bytes : List ℕ) (shift last : ℕ) (starts : List ℕ) → ((v : ℕ) → v < last + 1 → getD starts v 0 ≡ 0) → Marked bytes shift 0 last starts
-marked-none bytes shift last starts zeros = (
+pub marked-none : (bytes : List ℕ) (shift prefixes : ℕ) (starts : List ℕ) → ((v : ℕ) → v < prefixes + 1 → getD starts v 0 ≡ 0)
+    → Marked bytes shift 0 prefixes starts
+marked-none bytes shift prefixes starts zeros = (
   zeros 0 (omega arith),
   λ v l. rw (zeros (v + 1) (omega arith))
       (record { within = zero-le; last = λ i e. absurd (omega arith); rest = λ i h g. absurd (omega arith) }),
 )
 
 -- Key i is marked.
-module _ (bytes : List ℕ) (shift i last : ℕ) (starts : List ℕ) where
+module _ (bytes : List ℕ) (shift i prefixes : ℕ) (starts : List ℕ) where
   marked-key : (v : ℕ) → prefix shift (keyWord bytes i) ≡ v → EndsAt bytes shift (i + 1) v (i + 1)
   marked-key v e = record {
     within = omega arith;
@@ -50,8 +51,8 @@ module _ (bytes : List ℕ) (shift i last : ℕ) (starts : List ℕ) where
       out j h (inl d) e = f (rw (← d) e)
       out j h (inr g) e = ends .rest j h g e
 
-  pub marked-more : prefix shift (keyWord bytes i) + 1 < length starts → Marked bytes shift i last starts
-      → Marked bytes shift (i + 1) last (set starts (prefix shift (keyWord bytes i) + 1) (i + 1))
+  pub marked-more : prefix shift (keyWord bytes i) + 1 < length starts → Marked bytes shift i prefixes starts
+      → Marked bytes shift (i + 1) prefixes (set starts (prefix shift (keyWord bytes i) + 1) (i + 1))
   marked-more h marked = (
     getD-set-other starts (p + 1) 0 (i + 1) 0 (λ e. omega arith) ∙ marked .0,
     λ v l. go v l (ℕ-discrete p v),
@@ -60,7 +61,7 @@ module _ (bytes : List ℕ) (shift i last : ℕ) (starts : List ℕ) where
       p : ℕ
       p = prefix shift (keyWord bytes i)
 
-      go : (v : ℕ) → v < last → Dec (p ≡ v) → EndsAt bytes shift (i + 1) v (getD (set starts (p + 1) (i + 1)) (v + 1) 0)
+      go : (v : ℕ) → v < prefixes → Dec (p ≡ v) → EndsAt bytes shift (i + 1) v (getD (set starts (p + 1) (i + 1)) (v + 1) 0)
       go v l (yes e) = rw (← e, getD-set-same starts (p + 1) (i + 1) 0 h) (marked-key p refl)
       go v l (no f) = rw (getD-set-other starts (p + 1) (v + 1) (i + 1) 0 (λ e. f (omega arith))) (marked-other v _ f (marked .1 v l))
 
@@ -86,14 +87,14 @@ module _ (bytes : List ℕ) (shift v : ℕ) (opens : setCheck bytes ≡ none) wh
       passed j l (no f) = omega (arith, up-to end ends j (omega arith))
 
 -- The highest end up to a prefix is where it starts.
-pub starts-highest : (bytes : List ℕ) (shift last : ℕ) (ends : List ℕ) → setCheck bytes ≡ none → Marked bytes shift (headerN bytes) last ends
-    → (v : ℕ) → v < last + 1 → StartsAt bytes shift v (highest ends v)
+pub starts-highest : (bytes : List ℕ) (shift prefixes : ℕ) (ends : List ℕ) → setCheck bytes ≡ none → Marked bytes shift (headerN bytes) prefixes ends
+    → (v : ℕ) → v < prefixes + 1 → StartsAt bytes shift v (highest ends v)
 unfolding highest
-starts-highest bytes shift last ends opens marked zero l =
+starts-highest bytes shift prefixes ends opens marked zero l =
     rw (marked .0) (record { within = zero-le; before = λ j h. absurd (not-suc-le-zero h); after = λ j h n. zero-le })
-starts-highest bytes shift last ends opens marked (suc v) l =
+starts-highest bytes shift prefixes ends opens marked (suc v) l =
     rw (← (add-one v)) (starts-next bytes shift v opens (highest ends v) (getD ends (v + 1) 0)
-    (starts-highest bytes shift last ends opens marked v (omega arith)) (marked .1 v (omega arith)))
+    (starts-highest bytes shift prefixes ends opens marked v (omega arith)) (marked .1 v (omega arith)))
 
 -- The first entry is carried, and one more.
 pub highest-first : (starts : List ℕ) → max 0 (getD starts 0 0) ≡ highest starts 0

@@ -1,4 +1,4 @@
-// The lookup, port of src/set.rs: whether a k-mer is solid. A table says where the keys of each prefix start, and a search among those does the rest.
+// The lookup, port of src/set.rs: whether a k-mer is solid. A table says where the keys of each prefix start; a search among those decides.
 use kmer::Header;
 use kmer::Kmer;
 ghost use mathlib.Core.Path.{_≡_};
@@ -7,7 +7,7 @@ ghost use Prim.Native.Nat.{ℕ, _+_, _-_, _*_, _≤_, _<_, max};
 ghost use lib.ListN.{length, getD};
 ghost use Rattle.rules.specs.Set.{maxK, maxKeys, headerK, headerN, keysFrom, among, setCheck, setOf, solid};
 ghost use Rattle.kmer.specs.Kmer.{Shifts, IsKmer};
-ghost use Rattle.set.specs.Ready.{tableLength, prefixes, Below, Filled, Ready};
+ghost use Rattle.set.specs.Ready.{tableLength, Below, Filled, Ready};
 ghost use Rattle.set.specs.Ends.{Marked, highest};
 ghost use Rattle.set.specs.Bracket.{Bracket};
 
@@ -105,10 +105,10 @@ fn clear(starts: &mut [u32], entries: usize)
 }
 
 // Entry v + 1: where prefix v ends. The last key of a prefix is the last to store.
-fn mark_ends(set: &[u8], n: usize, shift: u32, last: usize, starts: &mut [u32])
-    requires { ⌜ (setCheck (now set) ≡ none) × (n ≡ headerN (now set)) × (shift < 64) × (last < length (now starts)) × Below (now set) shift last n
-        × ((v : ℕ) → v < last + 1 → getD (now starts) v 0 ≡ 0) ⌝ }
-    ensures { λ _. ⌜ Marked (now (set .entry)) shift n last (now (starts .exit)) ⌝ }
+fn mark_ends(set: &[u8], n: usize, shift: u32, prefixes: usize, starts: &mut [u32])
+    requires { ⌜ (setCheck (now set) ≡ none) × (n ≡ headerN (now set)) × (shift < 64) × (prefixes < length (now starts)) × Below (now set) shift prefixes n
+        × ((v : ℕ) → v < prefixes + 1 → getD (now starts) v 0 ≡ 0) ⌝ }
+    ensures { λ _. ⌜ Marked (now (set .entry)) shift n prefixes (now (starts .exit)) ⌝ }
 {
     for i in 0..n {
         let prefix = (blocks::key_at(set, i) >> shift) as usize;
@@ -134,13 +134,13 @@ fn carry_ends(starts: &mut [u32], entries: usize)
     }
 }
 
-fn fill(set: &[u8], n: usize, shift: u32, last: usize, starts: &mut [u32])
-    requires { ⌜ (setCheck (now set) ≡ none) × (n ≡ headerN (now set)) × (shift < 64) × (last < length (now starts)) × Below (now set) shift last n ⌝ }
-    ensures { λ _. ⌜ Filled (now (set .entry)) shift (last + 1) (now (starts .exit)) ⌝ }
+fn fill(set: &[u8], n: usize, shift: u32, prefixes: usize, starts: &mut [u32])
+    requires { ⌜ (setCheck (now set) ≡ none) × (n ≡ headerN (now set)) × (shift < 64) × (prefixes < length (now starts)) × Below (now set) shift prefixes n ⌝ }
+    ensures { λ _. ⌜ Filled (now (set .entry)) shift (prefixes + 1) (now (starts .exit)) ⌝ }
 {
-    clear(starts, last + 1);
-    mark_ends(set, n, shift, last, starts);
-    carry_ends(starts, last + 1);
+    clear(starts, prefixes + 1);
+    mark_ends(set, n, shift, prefixes, starts);
+    carry_ends(starts, prefixes + 1);
 }
 
 pub fn prepare(set: &[u8], k: usize, n: usize, starts: &mut [u32]) -> Header

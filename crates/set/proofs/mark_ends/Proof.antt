@@ -11,10 +11,10 @@ use Rattle.set.proofs.mark_ends.Statement.{statement}
 use Rattle.set.proofs.mark_ends.Tie as tie
 
 abbrev Inv-loop : tie.InvT-loop
-Inv-loop set n shift last starts₀ i₀ starts i = (i ≤ n) × (length starts ≡ length starts₀) × Marked set shift i last starts
+Inv-loop set n shift prefixes starts₀ i₀ starts i = (i ≤ n) × (length starts ≡ length starts₀) × Marked set shift i prefixes starts
 
 abbrev μ-loop : tie.MeasureT-loop
-μ-loop set n shift last starts₀ i₀ starts i = n - i
+μ-loop set n shift prefixes starts₀ i₀ starts i = n - i
 
 loop-holds : tie.Need-loop-holds Inv-loop μ-loop
 loop-holds c = (search needs, refl, marked-none _ _ _ (c .before .before .args .starts .now) (c .before .before .pre .5))
@@ -27,7 +27,7 @@ shr-prefix c = search needs
 
 -- The key's prefix is one of the table's.
 known : (c : tie.After-key-at Inv-loop μ-loop) → let a = c .before .before .before .before .before .args in
-    prefix (a .shift) (c .key-at .result) < a .last
+    prefix (a .shift) (c .key-at .result) < a .prefixes
 known c =
     let l = c .before .before in
     let pre = l .before .before .before .pre in
