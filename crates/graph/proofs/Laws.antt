@@ -1,22 +1,27 @@
 -- A walk move by move, its letters in a lent output, and the attempt that it makes.
-use Prim.Native.Nat.{ℕ, zero, suc, _+_, _*_, _-_, _/_, _≤_, _<_}
+use Prim.Native.Nat.{ℕ, zero, suc, _+_, _*_, _-_, _/_, _^_, _≤_, _<_}
 use native.Mathlib.Omega.{arith}
 use native.Mathlib.Decide.{decLe}
 use native.Mathlib.Nat.{sub-zero}
 use native.Mathlib.Numerals.{add-one}
 use borrow.Author.Tests.{eq-eqb, ne-eqb}
-use mathlib.Core.Path.{_≡_, refl, sym, ap, _∙_}
+use mathlib.Core.Path.{_≡_, refl, sym, ap, _∙_, subst}
 use mathlib.Core.Bool.{Bool, true, false}
 use mathlib.Core.Option.{Option, none, some, Option·some-injective, Option·none-ne-some}
 use mathlib.Core.List.{List, [], _∷_, _++_}
-use lib.ListN.{length, take, set, length-append, length-set}
+use lib.ListN.{length, take, drop, set, length-drop, length-append, length-set}
 use lib.Seq.{take-append-le, take-all, take-nil, take-suc-set, set-out}
 use Rattle.rules.specs.Letters.{lastLetter}
 use Rattle.rules.specs.Counted.{Counted, Try, after, refuse, give, next, _>>=_}
 use Rattle.rules.specs.Scan as rules
-use Rattle.rules.specs.Scan.{sole, alternative}
+use Rattle.rules.specs.Scan.{sole, alternative, errorLen}
 use Rattle.rules.specs.Exist.{Mend}
-use Rattle.rules.specs.Graph.{Walk, moveCost, start, moved, halt, walk, walkFrom, graphFrom}
+use Rattle.rules.specs.Graph.{Walk, moveCost, start, moved, halt, walk, walkFrom, graphFrom, graph}
+use Rattle.rules.proofs.Scan.{scan-is}
+use Rattle.scan.specs.declared.Attempt.{Attempt}
+use Rattle.scan.specs.declared.Scan.{Scan}
+use Rattle.scan.specs.Scan.{scanOf}
+use Rattle.scan.specs.Attempt.{Attempted}
 use Rattle.scan.proofs.Laws.{sole-lookups, alternative-is}
 use Rattle.graph.specs.Walk.{Holds, mendFrom}
 
@@ -172,7 +177,7 @@ module _ (k n : ℕ) (sol : ℕ → Bool) (sc : rules.Scan) (x m : ℕ) where
     walk-mends l′ q h =
         let c = w .count in (
           rw (w .is, mendFrom, add-one, ← c)
-          (ap (λ (ls : List ℕ). some (record { letters = ls; resume = suc (sc .index) })) (holds-all (w .letters) out (omega arith) (w .holds))),
+              (ap (λ (ls : List ℕ). some (record { letters = ls; resume = suc (sc .index) })) (holds-all (w .letters) out (omega arith) (w .holds))),
           h,
           rw (w .is, mendFrom) (omega arith),
         )
@@ -213,3 +218,25 @@ module _ (k n : ℕ) (sol : ℕ → Bool) (sc : rules.Scan) (y : ℕ) where
       → after (sc .lookups) (graphFrom k n sol sc y) ≡ after (sc .lookups + 4) (mendFrom k n sol sc x)
   unfolding graphFrom mendFrom
   from-alternative x e = bind-some (alternative k sol y) _ (sc .lookups) x e ∙ rw four
+
+-- ---- the scan
+
+-- it ends within s
+pub scan-within : (k : ℕ) (sol : ℕ → Bool) (y : ℕ) (s : List ℕ) (r : Scan) → scanOf r ≡ errorLen k sol y s → 1 ≤ length s
+    → (r .index ≤ length s) × (r .lookups ≤ length s)
+unfolding errorLen
+scan-within k sol y s r e h =
+    let i = scan-is k sol 0 1 y (drop 1 s) in
+    let l = length-drop 1 s in
+    (omega (arith, i .high, ap (λ (sc : rules.Scan). sc .index) e), omega (arith, i .cost, i .short, ap (λ (sc : rules.Scan). sc .lookups) e))
+
+pub scan-fits : (k : ℕ) (sol : ℕ → Bool) (y : ℕ) (s : List ℕ) (r : Scan) → scanOf r ≡ errorLen k sol y s → 1 ≤ length s → length s < 2 ^ 63
+    → (r .index < 2 ^ 63) × (r .lookups < 2 ^ 63)
+scan-fits k sol y s r e h l = let w = scan-within k sol y s r e h in (omega arith, omega arith)
+
+-- Graph is Graph from its scan
+pub graph-scanned : (k n : ℕ) (sol : ℕ → Bool) (s : List ℕ) (y : ℕ) {sc : rules.Scan} {out out′ : List ℕ} {r : Attempt} → sc ≡ errorLen k sol y s
+    → Attempted (sc .index) out out′ (after (sc .lookups) (graphFrom k n sol sc y)) r → Attempted (errorLen k sol y s .index) out out′ (graph k n sol s y) r
+unfolding graph
+graph-scanned k n sol s y {sc} {out} {out′} {r} e h =
+    subst (λ (sc′ : rules.Scan). Attempted (sc′ .index) out out′ (after (sc′ .lookups) (graphFrom k n sol sc′ y)) r) e h

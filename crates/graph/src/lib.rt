@@ -1,6 +1,9 @@
 // Document 01, "Graph": ports src/correct/graph.rs. The mark takes the place of the source's hash set.
-use kmer::{Header, Kmer};
-use scan::{Attempt, Next, Scan};
+use kmer::Header;
+use kmer::Kmer;
+use scan::Attempt;
+use scan::Next;
+use scan::Scan;
 ghost use mathlib.Core.Path.{_≡_};
 ghost use Prim.Native.Nat.{_+_, _^_, _≤_, _<_};
 ghost use lib.ListN.{length, set as put};
@@ -70,7 +73,14 @@ fn walk(set: &[u8], starts: &[u32], head: Header, scan: Scan, x: Kmer, out: &mut
 }
 
 // Graph from a scan already made.
-pub fn from_scan(set: &[u8], starts: &[u32], head: Header, scan: Scan, kmer: Kmer, out: &mut [u8]) -> Attempt
+pub fn from_scan(
+    set: &[u8],
+    starts: &[u32],
+    head: Header,
+    scan: Scan,
+    kmer: Kmer,
+    out: &mut [u8],
+) -> Attempt
     requires { ⌜ Ready (now set) (now starts) head × IsKmer (head .k) kmer × (scan .index < 2 ^ 63) × (scan .lookups < 2 ^ 63) ⌝ }
     ensures { λ r. ⌜ Attempted (scan .index) (now (out .entry)) (now (out .exit)) (after (scan .lookups) (graphFrom (head .k) (head .n) (solid (setOf (now (set .entry)))) (scanOf scan) (kmer .code))) r ⌝ }
 {
@@ -81,9 +91,23 @@ pub fn from_scan(set: &[u8], starts: &[u32], head: Header, scan: Scan, kmer: Kme
 }
 
 // kmer is the bad k-mer, s the rest of the read at its bad base.
-pub fn correct_error(set: &[u8], starts: &[u32], head: Header, kmer: Kmer, s: &[u8], out: &mut [u8]) -> Attempt
+pub fn correct_error(
+    set: &[u8],
+    starts: &[u32],
+    head: Header,
+    kmer: Kmer,
+    s: &[u8],
+    out: &mut [u8],
+) -> Attempt
     requires { ⌜ Ready (now set) (now starts) head × IsKmer (head .k) kmer × (1 ≤ length (now s)) ⌝ }
     ensures { λ r. ⌜ Attempted (rules.errorLen (head .k) (solid (setOf (now (set .entry)))) (kmer .code) (now (s .entry)) .index) (now (out .entry)) (now (out .exit)) (graph (head .k) (head .n) (solid (setOf (now (set .entry)))) (now (s .entry)) (kmer .code)) r ⌝ }
 {
-    from_scan(set, starts, head, scan::error_len(set, starts, head, kmer, s), kmer, out)
+    from_scan(
+        set,
+        starts,
+        head,
+        scan::error_len(set, starts, head, kmer, s),
+        kmer,
+        out,
+    )
 }

@@ -17,11 +17,6 @@ use Rattle.scan.specs.Scan.{NextIs, scanOf}
 use Rattle.graph.proofs.Laws.{Arrived, Going, going-start, walk-dark, walk-dead, walk-arrives, walk-meets, walk-marks, walk-goes, walk-stays, walk-over, walk-refused, walk-mends, walk-full}
 use Rattle.graph.proofs.walk.Statement.{statement}
 use Rattle.graph.proofs.walk.Tie as tie
-use Rattle.graph.proofs.walk.Reads as reads
-use Rattle.graph.proofs.walk.Lts as lts
-use Rattle.graph.proofs.write_last.Reads as write-last-reads
-use Rattle.scan.proofs.sole_next.Reads as sole-next-reads
-use Rattle.set.proofs.get.Reads as get-reads
 
 abbrev Inv-loop : tie.InvT-loop
 Inv-loop set starts head scan out₀ end lookups₀ at₀ mark₀ marks-at₀ fuel moves₀ out lookups at mark marks-at moves =
