@@ -194,30 +194,30 @@ module _ (k n : ℕ) (sol : ℕ → Bool) (sc : rules.Scan) (x m : ℕ) where
 -- ---- from the bad k-mer to x
 
 module _ {A B : Type 0} (t : Try A) (f : A → Try B) (s : ℕ) where
-  bind-none : t .answer ≡ none → (after s (t >>= f) .answer ≡ none) × (after s (t >>= f) .lookups ≡ s + t .lookups)
+  pub bind-none : t .answer ≡ none → (after s (t >>= f) .answer ≡ none) × (after s (t >>= f) .lookups ≡ s + t .lookups)
   unfolding after _>>=_ next refuse
   bind-none e = (rw e, rw e (omega arith))
 
-  bind-some : (a : A) → t .answer ≡ some a → after s (t >>= f) ≡ after (s + t .lookups) (f a)
+  pub bind-some : (a : A) → t .answer ≡ some a → after s (t >>= f) ≡ after (s + t .lookups) (f a)
   unfolding after _>>=_ next
   bind-some a e =
       rw e
       (let l : s + (t .lookups + f a .lookups) ≡ s + t .lookups + f a .lookups = omega arith in
       λ i. record { answer = f a .answer; lookups = l i })
 
-module _ (k n : ℕ) (sol : ℕ → Bool) (sc : rules.Scan) (y : ℕ) where
-  four : alternative k sol y .lookups ≡ 4
-  four = ap (λ (t : Try ℕ). t .lookups) (alternative-is k sol y) ∙ sole-lookups k sol (y / 4)
+pub alternative-lookups : (k : ℕ) (sol : ℕ → Bool) (y : ℕ) → alternative k sol y .lookups ≡ 4
+alternative-lookups k sol y = ap (λ (t : Try ℕ). t .lookups) (alternative-is k sol y) ∙ sole-lookups k sol (y / 4)
 
+module _ (k n : ℕ) (sol : ℕ → Bool) (sc : rules.Scan) (y : ℕ) where
   pub no-alternative : alternative k sol y .answer ≡ none
       → (after (sc .lookups) (graphFrom k n sol sc y) .answer ≡ none) × (after (sc .lookups) (graphFrom k n sol sc y) .lookups ≡ sc .lookups + 4)
   unfolding graphFrom
-  no-alternative e = let w = bind-none (alternative k sol y) _ (sc .lookups) e in (w .0, w .1 ∙ rw four)
+  no-alternative e = let w = bind-none (alternative k sol y) _ (sc .lookups) e in (w .0, w .1 ∙ rw (alternative-lookups k sol y))
 
   pub from-alternative : (x : ℕ) → alternative k sol y .answer ≡ some x
       → after (sc .lookups) (graphFrom k n sol sc y) ≡ after (sc .lookups + 4) (mendFrom k n sol sc x)
   unfolding graphFrom mendFrom
-  from-alternative x e = bind-some (alternative k sol y) _ (sc .lookups) x e ∙ rw four
+  from-alternative x e = bind-some (alternative k sol y) _ (sc .lookups) x e ∙ rw (alternative-lookups k sol y)
 
 -- ---- the scan
 

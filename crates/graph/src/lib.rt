@@ -10,7 +10,7 @@ ghost use lib.ListN.{length, set as put};
 ghost use Rattle.rules.specs.Letters.{lastLetter};
 ghost use Rattle.rules.specs.Set.{solid, setOf};
 ghost use Rattle.rules.specs.Counted.{after};
-ghost use Rattle.rules.specs.Scan as rules;
+ghost use Rattle.rules.specs.Scan.{errorLen};
 ghost use Rattle.rules.specs.Graph.{graphFrom, graph};
 ghost use Rattle.kmer.specs.Kmer.{IsKmer};
 ghost use Rattle.set.specs.Ready.{Ready};
@@ -31,7 +31,10 @@ fn write_last(out: &mut [u8], at: usize, kmer: Kmer)
 // yet be refused.
 fn walk(set: &[u8], starts: &[u32], head: Header, scan: Scan, x: Kmer, out: &mut [u8]) -> Attempt
     requires { ⌜ Ready (now set) (now starts) head × IsKmer (head .k) x × (scan .index < 2 ^ 63) × (scan .lookups < 2 ^ 63) ⌝ }
-    ensures { λ r. ⌜ Attempted (scan .index) (now (out .entry)) (now (out .exit)) (after (scan .lookups + 4) (mendFrom (head .k) (head .n) (solid (setOf (now (set .entry)))) (scanOf scan) (x .code))) r ⌝ }
+    ensures { λ r. ⌜
+        Attempted (scan .index) (now (out .entry)) (now (out .exit))
+        (after (scan .lookups + 4) (mendFrom (head .k) (head .n) (solid (setOf (now (set .entry)))) (scanOf scan) (x .code)))
+        r ⌝ }
 {
     let end = scan.end;
     let mut lookups = scan.lookups + 4;
@@ -42,6 +45,7 @@ fn walk(set: &[u8], starts: &[u32], head: Header, scan: Scan, x: Kmer, out: &mut
     let mut at = x;
     let mut mark = x.code;
     let mut marks_at = 1;
+    // It never runs out (the rules' theorem walk-moves).
     let fuel = 6 * head.n;
     for moves in 0..fuel {
         lookups += 1;
@@ -82,7 +86,10 @@ pub fn from_scan(
     out: &mut [u8],
 ) -> Attempt
     requires { ⌜ Ready (now set) (now starts) head × IsKmer (head .k) kmer × (scan .index < 2 ^ 63) × (scan .lookups < 2 ^ 63) ⌝ }
-    ensures { λ r. ⌜ Attempted (scan .index) (now (out .entry)) (now (out .exit)) (after (scan .lookups) (graphFrom (head .k) (head .n) (solid (setOf (now (set .entry)))) (scanOf scan) (kmer .code))) r ⌝ }
+    ensures { λ r. ⌜
+        Attempted (scan .index) (now (out .entry)) (now (out .exit))
+        (after (scan .lookups) (graphFrom (head .k) (head .n) (solid (setOf (now (set .entry)))) (scanOf scan) (kmer .code)))
+        r ⌝ }
 {
     let Next::Kmer(x) = scan::sole_alt(set, starts, head, kmer) else {
         return Attempt::Refused(scan.lookups + 4);
@@ -100,7 +107,10 @@ pub fn correct_error(
     out: &mut [u8],
 ) -> Attempt
     requires { ⌜ Ready (now set) (now starts) head × IsKmer (head .k) kmer × (1 ≤ length (now s)) ⌝ }
-    ensures { λ r. ⌜ Attempted (rules.errorLen (head .k) (solid (setOf (now (set .entry)))) (kmer .code) (now (s .entry)) .index) (now (out .entry)) (now (out .exit)) (graph (head .k) (head .n) (solid (setOf (now (set .entry)))) (now (s .entry)) (kmer .code)) r ⌝ }
+    ensures { λ r. ⌜
+        Attempted (errorLen (head .k) (solid (setOf (now (set .entry)))) (kmer .code) (now (s .entry)) .index) (now (out .entry)) (now (out .exit))
+        (graph (head .k) (head .n) (solid (setOf (now (set .entry)))) (now (s .entry)) (kmer .code))
+        r ⌝ }
 {
     from_scan(
         set,

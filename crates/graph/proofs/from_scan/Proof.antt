@@ -30,8 +30,10 @@ add-t9 c = search needs
 
 returns : tie.Need-returns
 returns c =
+    let b = c .before .before .before .before .before .before .before in
     record {
-      is = no-alternative _ _ _ (scanOf (c .before .before .before .before .before .before .before .args .scan)) _ (subst (NextIs _ _) (c .before .enum-told .given .1) (c .before .before .before .sole-alt .ensures));
+      is = no-alternative _ _ _ (scanOf (b .args .scan)) _
+          (subst (NextIs _ _) (c .before .enum-told .given .1) (c .before .before .before .sole-alt .ensures));
       room = refl;
     }
 
@@ -45,7 +47,9 @@ same-length c = search needs
 
 returns-2 : tie.Need-returns-2
 returns-2 c =
-    rw (from-alternative _ _ _ (scanOf (c .before .before .before .before .before .before .before .before .before .before .before .args .scan)) _ _ (told (c .before .before .before .before .before) .0)) (c .before .before .walk .ensures)
+    let x = c .before .before .before .before .before in
+    let b = x .before .before .before .before .before .before in
+    rw (from-alternative _ _ _ (scanOf (b .args .scan)) _ _ (told x .0)) (c .before .before .walk .ensures)
 
 pub from-scan-spec : {M : Type 1} → statement M
 from-scan-spec =

@@ -1,13 +1,12 @@
-use Prim.Native.Nat.{ℕ, _+_, _-_, _*_, _^_, _≤_, _<_}
+use Prim.Native.Nat.{ℕ, _+_, _-_, _*_, _≤_}
 use native.Mathlib.Omega.{arith}
-use mathlib.Core.Path.{_≡_, refl, sym, ap, _∙_, subst}
-use mathlib.Core.Bool.{Bool, true, false}
-use mathlib.Core.Option.{none, some}
+use mathlib.Core.Path.{_≡_, refl, sym, _∙_, subst}
+use mathlib.Core.Bool.{Bool, true}
+use mathlib.Core.Option.{some}
 use mathlib.Core.Logic.{⊎-elim}
-use lib.ListN.{length, set}
+use lib.ListN.{length}
 use borrow.Author.Needs.{needs}
 use borrow.Author.Tests.{not-true, not-false}
-use Rattle.rules.specs.Letters.{lastLetter}
 use Rattle.rules.specs.Set.{maxKeys, solid, setOf}
 use Rattle.rules.specs.Scan.{sole}
 use Rattle.kmer.specs.declared.Kmer.{Kmer}
@@ -49,29 +48,37 @@ lit c = sym (c .before .get .ensures) ∙ not-false _ (c .if2 .left)
 abbrev next : tie.After-next Inv-loop μ-loop → Kmer
 next c = c .next .given .0 .0
 
+abbrev turn : tie.After-next Inv-loop μ-loop → tie.At-loop Inv-loop μ-loop
+turn c = c .before .before .before .before .before .before
+
 told : (c : tie.After-next Inv-loop μ-loop)
-    → let l = c .before .before .before .before .before .before in
-    (sole (entry l .args .head .k) (sol l) (l .loop .at .code) .answer ≡ some (next c .code)) × IsKmer (entry l .args .head .k) (next c)
+    → let b = entry (turn c) in
+    (sole (b .args .head .k) (sol (turn c)) (turn c .loop .at .code) .answer ≡ some (next c .code)) × IsKmer (b .args .head .k) (next c)
 told c = subst (NextIs _ _) (c .next .given .1) (c .before .before .sole-next .ensures)
 
-room-after : (c : tie.After-write-last2 Inv-loop μ-loop) → length (c .write-last2 .last .0) ≡ length (entry (c .before .before .before .before .before .before .before .before .before) .args .out .now)
-room-after c = c .write-last2 .kept .0 ∙ room (c .before .before .before .before .before .before .before .before .before)
+-- its letter written
+abbrev move : tie.After-write-last2 Inv-loop μ-loop → tie.After-next Inv-loop μ-loop
+move c = c .before .before .before
+
+room-after : (c : tie.After-write-last2 Inv-loop μ-loop) → length (c .write-last2 .last .0) ≡ length (entry (turn (move c)) .args .out .now)
+room-after c = c .write-last2 .kept .0 ∙ room (turn (move c))
 
 came : (c : tie.Then3 Inv-loop μ-loop)
-    → let l = c .before .before .before .before .before .before .before .before .before .before .before .before in
+    → let l = turn (c .before .before .before .before .before .before) in
     let b = entry l in
     Arrived (b .args .head .k) (b .args .head .n) (sol l) (b .args .scan .end) (b .args .x .code) (5 * l .loop .moves + 5) (l .loop .moves + 2)
     (c .before .before .before .write-last2 .last .0)
 came c =
+    let m = c .before .before .before .before .before .before in
     rw (c .before .before .before .write-last2 .ensures)
-    (walk-arrives (c .before .before .before .before .before .before .before .before .before .before .before .before .loop .inv .6) (c .before .before .before .before .before .before .before .before .before .before .before .loop-test .taken) (lit (c .before .before .before .before .before .before .before .before .before)) _ (told (c .before .before .before .before .before .before) .0) (c .if3 .taken))
+    (walk-arrives (turn m .loop .inv .6) (m .before .before .before .before .before .loop-test .taken) (lit (m .before .before .before)) _ (told m .0) (c .if3 .taken))
 
 -- n is bounded
 keys : (c : tie.Start Inv-loop μ-loop) → c .args .head .n ≤ maxKeys
 keys c = rw (c .pre .0 .n-is) (opened-n-le _ (c .pre .0 .opens))
 
 add-lookups : tie.Need-add-lookups Inv-loop μ-loop
-add-lookups c = search needs
+add-lookups c = omega (arith, c .before .before .before .before .pre)
 
 returns : tie.Need-returns Inv-loop μ-loop
 returns c =
@@ -103,7 +110,7 @@ get-requires : tie.Need-get-requires Inv-loop μ-loop
 get-requires c κs = (entry (c .before) .pre .0, c .before .loop .inv .5)
 
 same-length : tie.Need-same-length Inv-loop μ-loop
-same-length c = search needs
+same-length c = room (c .before .before .before)
 
 returns-2 : tie.Need-returns-2 Inv-loop μ-loop
 returns-2 c =
@@ -111,7 +118,7 @@ returns-2 c =
     record {
       is = walk-refused _ _ _ (scanOf (entry l .args .scan)) _ _ _ _
           (walk-dark (l .loop .inv .6) (c .before .before .loop-test .taken) (sym (c .before .get .ensures) ∙ not-true _ (c .if2 .taken)))
-          (omega arith);
+          (omega (arith, l .loop .inv .3));
       room = room l;
     }
 
@@ -128,7 +135,7 @@ enum-told : tie.Need-enum-told Inv-loop μ-loop
 enum-told c = search needs
 
 same-length-2 : tie.Need-same-length-2 Inv-loop μ-loop
-same-length-2 c = search needs
+same-length-2 c = room (c .before .before .before .before .before .before)
 
 returns-3 : tie.Need-returns-3 Inv-loop μ-loop
 returns-3 c =
@@ -137,7 +144,7 @@ returns-3 c =
       is = walk-refused _ _ _ (scanOf (entry l .args .scan)) _ _ _ _
           (walk-dead (l .loop .inv .6) (c .before .before .before .before .before .loop-test .taken) (lit (c .before .before .before))
           (subst (NextIs _ _) (c .enum-told .given .1) (c .before .before .sole-next .ensures)))
-          (omega arith);
+          (omega (arith, l .loop .inv .3));
       room = room l;
     }
 
@@ -161,10 +168,11 @@ same-length-3 c = room-after (c .before .before .before .before .before)
 
 returns-4 : tie.Need-returns-4 Inv-loop μ-loop
 returns-4 c =
-    let l = c .before .before .before .before .before .before .before .before .before .before .before .before .before .before in
+    let w = c .before .before .before .before .before in
+    let l = turn (move w) in
     record {
       is = walk-mends _ _ _ (scanOf (entry l .args .scan)) _ _ (came (c .before .before)) _ (omega (arith, l .loop .inv .3)) (c .before .if4 .taken);
-      room = room-after (c .before .before .before .before .before);
+      room = room-after w;
     }
 
 same-length-4 : tie.Need-same-length-4 Inv-loop μ-loop
@@ -172,10 +180,10 @@ same-length-4 c = room-after (c .before .before .before .before)
 
 returns-5 : tie.Need-returns-5 Inv-loop μ-loop
 returns-5 c =
-    let l = c .before .before .before .before .before .before .before .before .before .before .before .before .before in
-    let r = room-after (c .before .before .before .before) in
+    let w = c .before .before .before .before in
+    let r = room-after w in
     record {
-      is = walk-full _ _ _ (scanOf (entry l .args .scan)) _ _ (came (c .before)) _ (omega (arith, c .if4 .left));
+      is = walk-full _ _ _ (scanOf (entry (turn (move w)) .args .scan)) _ _ (came (c .before)) _ (omega (arith, c .if4 .left));
       room = r;
     }
 
@@ -184,12 +192,14 @@ same-length-5 c = room-after (c .before .before .before .before)
 
 returns-6 : tie.Need-returns-6 Inv-loop μ-loop
 returns-6 c =
-    let l = c .before .before .before .before .before .before .before .before .before .before .before .before .before in
+    let w = c .before .before .before .before in
+    let m = move w in
+    let l = turn m in
     record {
       is = walk-refused _ _ _ (scanOf (entry l .args .scan)) _ _ _ _
-          (walk-meets (l .loop .inv .6) (c .before .before .before .before .before .before .before .before .before .before .before .before .loop-test .taken) (lit (c .before .before .before .before .before .before .before .before .before .before)) _ (told (c .before .before .before .before .before .before .before) .0) (c .before .if3 .left) (c .if5 .taken))
+          (walk-meets (l .loop .inv .6) (m .before .before .before .before .before .loop-test .taken) (lit (m .before .before .before)) _ (told m .0) (c .before .if3 .left) (c .if5 .taken))
           (omega (arith, l .loop .inv .3));
-      room = room-after (c .before .before .before .before);
+      room = room-after w;
     }
 
 add-if6 : tie.Need-add-if6 Inv-loop μ-loop
@@ -206,32 +216,32 @@ loop-less c = omega (arith, c .before .before .before .before .before .before .b
 
 loop-again : tie.Need-loop-again Inv-loop μ-loop
 loop-again c =
-    let l = c .before .before .before .before .before .before .before .before .before .before .before .before .before .before in
-    let i = l .loop .inv in
-    let lt = c .before .before .before .before .before .before .before .before .before .before .before .before .before .loop-test .taken in
-    let m = told (c .before .before .before .before .before .before .before .before) in
-    let out = c .before .before .before .before .before .write-last2 .ensures in
-    let same = c .before .before .before .before .before .write-last2 .kept .0 ∙ i .4 in
+    let w = c .before .before .before .before .before in
+    let m = move w in
+    let i = turn m .loop .inv in
+    let lt = m .before .before .before .before .before .loop-test .taken in
+    let same = w .write-last2 .kept .0 ∙ i .4 in
+    let solid-at = lit (m .before .before .before) in
     let ne = c .before .before .if3 .left in
     let new = c .before .if5 .left in
     ⊎-elim
-    (λ w. (
+    (λ v. (
       omega arith,
       i .1,
-      omega (arith, w .0 .taken, w .2, i .2),
+      omega (arith, v .0 .taken, v .2, i .2),
       omega (arith, i .3),
       same,
-      m .1,
-      rw (w .1, w .2, out) (walk-marks (i .6) lt (lit (c .before .before .before .before .before .before .before .before .before .before .before)) _ (m .0) ne new (w .0 .taken)),
+      told m .1,
+      rw (v .1, v .2, w .write-last2 .ensures) (walk-marks (i .6) lt solid-at _ (told m .0) ne new (v .0 .taken)),
     ))
-    (λ w. (
+    (λ v. (
       omega arith,
       i .1,
-      omega (arith, w .2, i .2),
+      omega (arith, v .2, i .2),
       omega (arith, i .3),
       same,
-      m .1,
-      rw (w .1, w .2, out) (walk-goes (i .6) lt (lit (c .before .before .before .before .before .before .before .before .before .before .before)) _ (m .0) ne new (w .0 .left)),
+      told m .1,
+      rw (v .1, v .2, w .write-last2 .ensures) (walk-goes (i .6) lt solid-at _ (told m .0) ne new (v .0 .left)),
     ))
     (c .if6 .came)
 
