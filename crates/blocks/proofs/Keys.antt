@@ -11,7 +11,7 @@ use Rattle.rules.specs.Letters.{canonical, evenOnes, mask}
 use Rattle.rules.specs.Set.{keyRight, keyWord, headerK, headerN}
 use Rattle.rules.proofs.Kmer.{four-pos, canonical-one}
 use Rattle.kmer.proofs.Laws.{canonical-even, canonical-odd, even-wide}
-use Rattle.blocks.specs.Keys.{leastKey, rightFrom}
+use Rattle.blocks.specs.Keys.{rightFrom}
 use Rattle.blocks.proofs.Tests.{both}
 
 -- for odd k the canonical k-mers are those with an even count of one bits
@@ -38,6 +38,11 @@ right-test k mask₀ least y odd e fits = at (ltb y (4 ^ k)) refl
 pub right-small : (k least y : ℕ) → rightFrom k least y ≡ true → y < 4 ^ k
 unfolding rightFrom
 right-small k least y e = ltb-true y (4 ^ k) (both (eqb (canonical k y) y) (ltb y (4 ^ k)) (both _ (leb least y) e .0) .1)
+
+-- the least that key i may be: one more than the key before it
+unfoldable pub leastKey : List ℕ → ℕ → ℕ
+leastKey bytes zero = 0
+leastKey bytes (suc i) = suc (keyWord bytes i)
 
 rising : (bytes : List ℕ) (i : ℕ) → (eqb i 0 || ltb (keyWord bytes (i - 1)) (keyWord bytes i)) ≡ leb (leastKey bytes i) (keyWord bytes i)
 unfolding leastKey

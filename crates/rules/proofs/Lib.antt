@@ -1,2 +1,13 @@
 pub mod Samples
 pub mod Kmer
+pub mod Counted
+pub mod Scan
+pub mod Few
+pub mod Exist
+pub mod Driver
+pub mod Lookups
+pub mod Walk
+pub mod Correctors
+pub mod Exactly
+pub mod Opened
+pub mod Demands

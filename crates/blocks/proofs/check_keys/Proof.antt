@@ -6,11 +6,10 @@ use borrow.Author.Tests.{not-true, not-false}
 use Rattle.rules.specs.Refusal.{atPlace}
 use Rattle.rules.specs.Set as Rules
 use Rattle.kmer.proofs.Laws.{bound}
-use Rattle.blocks.specs.Keys.{leastKey}
 use Rattle.blocks.specs.Opened.{Checked, wrongKey}
 use Rattle.blocks.proofs.First.{passed, failed}
 use Rattle.blocks.proofs.Header.{Sized, sized}
-use Rattle.blocks.proofs.Keys.{key-test, right-small, least-next}
+use Rattle.blocks.proofs.Keys.{leastKey, key-test, right-small, least-next}
 use Rattle.blocks.proofs.check_keys.Statement.{statement}
 use Rattle.blocks.proofs.check_keys.Tie as tie
 

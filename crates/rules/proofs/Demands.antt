@@ -1,0 +1,161 @@
+-- What the papers ask to be proved of the rules: of every set that opens, every confirm from 1, every list of methods and reads.
+use Prim.Native.Nat.{ℕ, zero, suc, _+_, _*_, _-_, _%_, _≤_, _<_}
+use native.Mathlib.Omega.{arith}
+use borrow.Author.Tests.{ltb-true, ltb-false, lt-ltb, le-ltb}
+use mathlib.Core.Path.{_≡_, refl, sym, ap, _∙_, subst}
+use mathlib.Core.Bool.{Bool, true, false}
+use mathlib.Core.Option.{none, some}
+use mathlib.Core.List.{List, [], _∷_, _++_}
+use lib.ListN.{length, take}
+use lib.Dec.{ltb, eqb}
+use Rattle.rules.specs.Letters.{addBase}
+use Rattle.rules.specs.Refusal.{Outcome, accepted}
+use Rattle.rules.specs.Set.{KmerSet, solid, opened}
+use Rattle.rules.specs.Counted.{Counted, Try, refuse}
+use Rattle.rules.specs.Scan.{alternative, errorLen}
+use Rattle.rules.specs.Graph.{moveCost, start, walk, walkFrom}
+use Rattle.rules.specs.Driver.{Pass, State, turn, turnsOf, begin, drive}
+use Rattle.rules.specs.Job.{Method, One, Two, Graph, GapSize, correctError, pass}
+use Rattle.rules.specs.Counts.{Fed, sum, allPasses, turns, lookups, W, F, ceiling}
+use Rattle.rules.proofs.Opened.{opened-odd}
+use Rattle.rules.proofs.Few.{Few, few}
+use Rattle.rules.proofs.Driver.{Steady, drive-turns, turns-fuel, takes-base, turnsOf-grows, refused-kept}
+use Rattle.rules.proofs.Lookups.{Fair, fair-steady, drive-lookups, drive-short}
+use Rattle.rules.proofs.Walk.{walk-cost, walk-fuel}
+use Rattle.rules.proofs.Correctors.{one-fair, two-fair, graph-fair, gap-fair}
+use Rattle.rules.proofs.Exactly.{Exactly, x-good, graph-exactly, gapSize-exactly}
+
+-- ---- every method is fair to its F
+
+fair-at : (j : ℕ) (keys : List ℕ) (c′ : ℕ) (m : Method)
+    → (let set : KmerSet = record { k = suc j; keys = keys } in Fair (suc j) (solid set) (correctError set (suc c′) m) (F set (suc c′) m))
+unfolding F correctError
+fair-at j keys c′ One = one-fair j (solid (record { k = suc j; keys = keys })) c′ _ (omega arith)
+fair-at j keys c′ Two = two-fair j (solid (record { k = suc j; keys = keys })) c′ _ (omega arith)
+fair-at j keys c′ Graph = graph-fair (suc j) (length keys) (solid (record { k = suc j; keys = keys })) _ (omega arith)
+fair-at j keys c′ GapSize =
+    gap-fair j (length keys) (solid (record { k = suc j; keys = keys })) c′ (few (record { k = suc j; keys = keys })) _ (omega arith)
+
+pub fair : (set : KmerSet) → 1 ≤ set .k → (c : ℕ) → 1 ≤ c → (m : Method) → Fair (set .k) (solid set) (correctError set c m) (F set c m)
+fair set lk c lc m = go (set .k) c refl refl lk lc
+  where
+    go : (k′ c₁ : ℕ) → set .k ≡ k′ → c ≡ c₁ → 1 ≤ k′ → 1 ≤ c₁ → Fair (set .k) (solid set) (correctError set c m) (F set c m)
+    go zero c₁ e f p q = absurd (omega arith)
+    go (suc j) zero e f p q = absurd (omega arith)
+    go (suc j) (suc c′) e f p q =
+        let same : set ≡ record { k = suc j; keys = set .keys } = λ i. record { k = e i; keys = set .keys } in
+        subst (λ (s : KmerSet). Fair (s .k) (solid s) (correctError s c m) (F s c m)) (sym same)
+        (subst (λ (d : ℕ). Fair (suc j) (solid (record { k = suc j; keys = set .keys })) (correctError (record { k = suc j; keys = set .keys }) d m)
+        (F (record { k = suc j; keys = set .keys }) d m)) (sym f) (fair-at j (set .keys) c′ m))
+
+pub steady : (set : KmerSet) → 1 ≤ set .k → (c : ℕ) → 1 ≤ c → (m : Method) → Steady (set .k) (solid set) (correctError set c m)
+steady set lk c lc m = fair-steady (set .k) (solid set) (correctError set c m) (F set c m) (fair set lk c lc m)
+
+sum-le : (f g : Fed → ℕ) → ((p : Fed) → f p ≤ g p) → (ps : List Fed) → sum f ps ≤ sum g ps
+unfolding sum
+sum-le f g h [] = omega arith
+sum-le f g h (p ∷ ps) = omega (arith, h p, sum-le f g h ps)
+
+sum-twice : (f : Fed → ℕ) (ps : List Fed) → sum (λ p. 2 * f p) ps ≡ 2 * sum f ps
+unfolding sum
+sum-twice f [] = refl
+sum-twice f (p ∷ ps) = let i = sum-twice f ps in omega arith
+
+-- A set that opens, and a confirm from 1.
+module _ (bytes : List ℕ) (set : KmerSet) (o : opened bytes ≡ accepted set) (c : ℕ) (c-pos : 1 ≤ c) where
+  abbrev k : ℕ
+  k = set .k
+
+  abbrev n : ℕ
+  n = length (set .keys)
+
+  k-pos : 1 ≤ k
+  k-pos = let odd = opened-odd bytes set o in positive k odd
+    where
+      positive : (k′ : ℕ) → k′ % 2 ≡ 1 → 1 ≤ k′
+      positive zero e = absurd (omega arith)
+      positive (suc j) e = omega arith
+
+  -- ---- the theorem `ceilings`: demand 3
+
+  pass-turns : (p : Fed) → turns set c p ≤ 2 * W set c p
+  unfolding turns pass W
+  pass-turns p = drive-turns k (solid set) (correctError set c (p .method)) (steady set k-pos c c-pos (p .method)) (p .bytes)
+
+  pass-lookups : (p : Fed) → lookups set c p ≤ ceiling set c p
+  unfolding lookups pass ceiling W
+  pass-lookups p = go (ltb (length (p .bytes)) k) refl
+    where
+      ce : List ℕ → ℕ → Try Rattle.rules.specs.Exist.Mend
+      ce = correctError set c (p .method)
+
+      go : (b : Bool) → ltb (length (p .bytes)) k ≡ b → lookups set c p ≤ ceiling set c p
+      go true e = rw (e, ceiling) (omega (arith, drive-short k (solid set) ce (F set c (p .method)) (p .bytes) (ltb-true _ _ e)))
+      go false e = rw (e, ceiling) (drive-lookups k (solid set) ce (F set c (p .method)) (fair set k-pos c c-pos (p .method)) (p .bytes) (ltb-false _ _ e))
+
+  -- Turns ≤ 2 × the sum of W. Lookups ≤ the sum over passes of 1 + W × F; a pass shorter than k adds nothing.
+  -- One statement about the whole list of reads through the whole list of methods.
+  pub ceilings : (ms : List Method) (reads : List (List ℕ))
+      → (let ps : List Fed = allPasses set c ms reads in
+      (sum (turns set c) ps ≤ 2 * sum (W set c) ps) × (sum (lookups set c) ps ≤ sum (ceiling set c) ps))
+  ceilings ms reads =
+      let ps = allPasses set c ms reads in (
+        subst (λ (l : ℕ). sum (turns set c) ps ≤ l) (sum-twice (W set c) ps) (sum-le (turns set c) (λ p. 2 * W set c p) pass-turns ps),
+        sum-le (lookups set c) (ceiling set c) pass-lookups ps,
+      )
+
+  -- ---- the theorem `exactly`: demand 2, at each attempt, s the rest of the read and y the bad k-mer
+
+  pub graph-exactly-chain : (s : List ℕ) (y : ℕ) → Exactly k (solid set) s y (correctError set c Graph s y)
+  unfolding correctError
+  graph-exactly-chain s y = graph-exactly k n (solid set) (few set) s y
+
+  pub gapSize-exactly-chain : (s : List ℕ) (y : ℕ) → errorLen k (solid set) y s .index < k → Exactly k (solid set) s y (correctError set c GapSize s y)
+  unfolding correctError
+  gapSize-exactly-chain s y lt = gapSize-exactly k n (solid set) (few set) s y c lt
+
+  -- ---- the theorem `fuel`: no fuel of the rules ever runs out. Serves demand 1
+
+  -- From x, the alternative at a bad k-mer: any larger fuel gives the same walk.
+  pub walk-fuel-enough : (y x : ℕ) → alternative k (solid set) y .answer ≡ some x → (t f : ℕ) → 6 * n ≤ f
+      → walk k (solid set) f t (start x) ≡ walk k (solid set) (6 * n) t (start x)
+  walk-fuel-enough y x a t f le = walk-fuel k n (solid set) (few set) x (x-good k (solid set) y x a) f t (omega arith)
+
+  -- A walk makes fewer than 6n moves.
+  pub walk-moves : (y x : ℕ) → alternative k (solid set) y .answer ≡ some x → (t : ℕ)
+      → walkFrom k n (solid set) t x .lookups ≤ moveCost * (6 * n - 1)
+  unfolding walkFrom refuse start
+  walk-moves y x a t = go (eqb x t) refl
+    where
+      go : (q : Bool) → eqb x t ≡ q → walkFrom k n (solid set) t x .lookups ≤ moveCost * (6 * n - 1)
+      go true e = rw (e, walkFrom) (omega arith)
+      go false e =
+          let same = walk-fuel k n (solid set) (few set) x (x-good k (solid set) y x a) (6 * n - 1) t (omega arith) in
+          rw (e, walkFrom, ← same) (omega (arith, walk-cost k (solid set) (6 * n - 1) t (start x)))
+
+  module _ (m : Method) where
+    abbrev ce : List ℕ → ℕ → Try Rattle.rules.specs.Exist.Mend
+    ce = correctError set c m
+
+    -- Any larger fuel gives the same pass.
+    pub pass-fuel-enough : (read : List ℕ) (f : ℕ) → 2 * (length read - k) ≤ f
+        → turnsOf k (solid set) ce f (begin k (solid set) ce read) ≡ turnsOf k (solid set) ce (2 * (length read - k)) (begin k (solid set) ce read)
+    pass-fuel-enough = turns-fuel k (solid set) ce (steady set k-pos c c-pos m)
+
+    -- ---- the theorem `driver`
+
+    -- A turn that takes no base is followed by one that does. Serves demands 1 and 3.
+    pub driver-takes : (st : State) (b : ℕ) (s : List ℕ) → turn k (solid set) ce st b s .rest ≡ b ∷ s
+        → turn k (solid set) ce (turn k (solid set) ce st b s) b s .rest ≡ s
+    driver-takes = takes-base k (solid set) ce (steady set k-pos c c-pos m)
+
+    -- Bytes put out only grow. Serves refusal 11: what has no room now has none at the end.
+    pub driver-grows : (f : ℕ) (st : State) → (more : List ℕ) × (turnsOf k (solid set) ce f st .done .bytes ≡ st .done .bytes ++ more)
+    driver-grows = turnsOf-grows k (solid set) ce
+
+    -- A refused attempt with scan index i is followed by i kept bytes, the bad base b among them. Serves refusal 11 under GapSize.
+    pub driver-keeps : (st : State) (b : ℕ) (s : List ℕ) → st .rest ≡ b ∷ s
+        → solid set (addBase k (st .kmer) b) ≡ false → st .previous ≡ true → ce (b ∷ s) (addBase k (st .kmer) b) .answer ≡ none
+        → (let i : ℕ = errorLen k (solid set) (addBase k (st .kmer) b) (b ∷ s) .index in
+        turnsOf k (solid set) ce i st .done .bytes ≡ st .done .bytes ++ take i (b ∷ s))
+    driver-keeps = refused-kept k (solid set) ce

@@ -1,0 +1,127 @@
+-- The theorem `few`: a set of n keys has at most 2n solid k-mers, since each is a key or the reverse complement of one. Serves demand 3.
+use Prim.Native.Nat.{ℕ, suc, _+_, _*_, _^_, _≤_, _<_}
+use native.Mathlib.Omega.{arith}
+use borrow.Author.Tests.{eqb-true, eqb-false, eq-eqb}
+use mathlib.Core.Path.{_≡_, refl, sym, ap, _∙_, subst}
+use mathlib.Core.Bool.{Bool, true, false, _||_, true≢false, false≢true}
+use mathlib.Core.List.{List, [], _∷_, _++_, map}
+use lib.ListN.{length, length-append, length-map}
+use lib.Dec.{eqb}
+use Rattle.rules.specs.Letters.{revcomp, evenOnes, canonical}
+use Rattle.rules.specs.Set.{KmerSet, among, solid}
+use Rattle.rules.specs.Graph.{All, end, also, Distinct, end-distinct, also-distinct}
+use Rattle.rules.proofs.Kmer.{revcomp-twice}
+
+pub or-right : (t : Bool) {q : Bool} → q ≡ true → t || q ≡ true
+or-right true h = refl
+or-right false h = h
+
+pub or-false : (t q : Bool) → t || q ≡ false → (t ≡ false) × (q ≡ false)
+or-false true q h = absurd (true≢false h)
+or-false false q h = (refl, h)
+
+-- ---- the pigeonhole
+
+-- ys without its first x
+without : ℕ → List ℕ → List ℕ
+without x [] = []
+without x (y ∷ ys) = elim (eqb x y) [ true ↦ ys | false ↦ y ∷ without x ys ]
+
+without-length : (x : ℕ) (ys : List ℕ) → among x ys ≡ true → suc (length (without x ys)) ≡ length ys
+unfolding without among
+without-length x [] h = absurd (false≢true h)
+without-length x (y ∷ ys) h = go (without-length x ys) (eqb x y) refl h
+  where
+    go : (among x ys ≡ true → suc (length (without x ys)) ≡ length ys) → (t : Bool) → eqb x y ≡ t → t || among x ys ≡ true → suc (length (without x (y ∷ ys))) ≡ suc (length ys)
+    go i true e h = rw (e, without)
+    go i false e h = rw (e, without) (ap suc (i h))
+
+without-among : (x z : ℕ) (ys : List ℕ) → (z ≡ x → ⊥) → among z ys ≡ true → among z (without x ys) ≡ true
+unfolding without among
+without-among x z [] n h = h
+without-among x z (y ∷ ys) n h = go (without-among x z ys n) (eqb x y) refl (eqb z y) refl h
+  where
+    go : (among z ys ≡ true → among z (without x ys) ≡ true) → (t : Bool) → eqb x y ≡ t → (q : Bool) → eqb z y ≡ q → q || among z ys ≡ true → among z (without x (y ∷ ys)) ≡ true
+    go i true e true f h = absurd (n (eqb-true z y f ∙ sym (eqb-true x y e)))
+    go i true e false f h = rw (e, without) h
+    go i false e true f h = rw (e, without, f)
+    go i false e false f h = rw (e, without, f) (i h)
+
+fewer : (x : ℕ) (xs ys : List ℕ) → among x xs ≡ false → All (λ z. among z ys ≡ true) xs → All (λ z. among z (without x ys) ≡ true) xs
+unfolding among
+fewer x [] ys n end = end
+fewer x (z ∷ xs) ys n (also h hs) = go (fewer x xs ys) (eqb x z) refl n
+  where
+    go : (among x xs ≡ false → All (λ z. among z ys ≡ true) xs → All (λ z. among z (without x ys) ≡ true) xs) → (t : Bool) → eqb x z ≡ t → t || among x xs ≡ false
+        → All (λ z. among z (without x ys) ≡ true) (z ∷ xs)
+    go i true e n = absurd (true≢false n)
+    go i false e n = also (without-among x z ys (λ q. eqb-false x z e (sym q)) h) (i n hs)
+
+-- distinct numbers that all stand in ys are no more than ys has
+pigeonhole : (xs ys : List ℕ) → Distinct xs → All (λ z. among z ys ≡ true) xs → length xs ≤ length ys
+pigeonhole [] ys d h = omega arith
+pigeonhole (x ∷ xs) ys (also-distinct n d) (also h hs) =
+    omega (arith, pigeonhole xs (without x ys) d (fewer x xs ys n hs), without-length x ys h)
+
+-- ---- the keys and their reverse complements
+
+among-left : (y : ℕ) (us bs : List ℕ) → among y us ≡ true → among y (us ++ bs) ≡ true
+unfolding among
+among-left y [] bs h = absurd (false≢true h)
+among-left y (a ∷ us) bs h = go (among-left y us bs) (eqb y a) refl h
+  where
+    go : (among y us ≡ true → among y (us ++ bs) ≡ true) → (t : Bool) → eqb y a ≡ t → t || among y us ≡ true → t || among y (us ++ bs) ≡ true
+    go i true e h = refl
+    go i false e h = i h
+
+among-right : (y : ℕ) (us bs : List ℕ) → among y bs ≡ true → among y (us ++ bs) ≡ true
+unfolding among
+among-right y [] bs h = h
+among-right y (a ∷ us) bs h = or-right (eqb y a) (among-right y us bs h)
+
+among-map : (f : ℕ → ℕ) (y : ℕ) (us : List ℕ) → among y us ≡ true → among (f y) (map f us) ≡ true
+unfolding among
+among-map f y [] h = absurd (false≢true h)
+among-map f y (a ∷ us) h = go (among-map f y us) (eqb y a) refl h
+  where
+    go : (among y us ≡ true → among (f y) (map f us) ≡ true) → (t : Bool) → eqb y a ≡ t → t || among y us ≡ true → eqb (f y) (f a) || among (f y) (map f us) ≡ true
+    go i true e h = rw (eq-eqb (f y) (f a) (ap f (eqb-true y a e)))
+    go i false e h = or-right (eqb (f y) (f a)) (i h)
+
+-- a solid k-mer of k letters
+unfoldable pub SolidKmer : ℕ → (ℕ → Bool) → ℕ → Type 0
+SolidKmer k sol y = (y < 4 ^ k) × (sol y ≡ true)
+
+-- n holds for what is solid: distinct solid k-mers are at most 2n
+unfoldable pub Few : ℕ → ℕ → (ℕ → Bool) → Type 0
+Few k n sol = (ys : List ℕ) → Distinct ys → All (SolidKmer k sol) ys → length ys ≤ 2 * n
+
+module _ (set : KmerSet) where
+  -- the keys, and their reverse complements
+  both : List ℕ
+  both = set .keys ++ map (revcomp (set .k)) (set .keys)
+
+  covers : (y : ℕ) → y < 4 ^ set .k → solid set y ≡ true → among y both ≡ true
+  unfolding solid canonical both
+  covers y lt h = go (evenOnes (set .k) y) refl
+    where
+      key : among (canonical (set .k) y) (set .keys) ≡ true
+      key = h
+
+      go : (t : Bool) → evenOnes (set .k) y ≡ t → among y both ≡ true
+      go true e = among-left y (set .keys) (map (revcomp (set .k)) (set .keys)) (rw (e, canonical) at key)
+      go false e =
+          among-right y (set .keys) (map (revcomp (set .k)) (set .keys))
+          (subst (λ (z : ℕ). among z (map (revcomp (set .k)) (set .keys)) ≡ true) (revcomp-twice (set .k) y lt)
+          (among-map (revcomp (set .k)) (revcomp (set .k) y) (set .keys) (rw (e, canonical) at key)))
+
+  cover-all : (ys : List ℕ) → All (SolidKmer (set .k) (solid set)) ys → All (λ z. among z both ≡ true) ys
+  unfolding SolidKmer
+  cover-all [] end = end
+  cover-all (y ∷ ys) (also h hs) = also (covers y (h .0) (h .1)) (cover-all ys hs)
+
+  -- A list of distinct solid k-mers is no longer than 2n.
+  pub few : Few (set .k) (length (set .keys)) (solid set)
+  unfolding Few both
+  few ys d h =
+      omega (arith, pigeonhole ys both d (cover-all ys h), length-append (set .keys) (map (revcomp (set .k)) (set .keys)), length-map (set .keys) (revcomp (set .k)))
