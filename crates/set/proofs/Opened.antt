@@ -1,4 +1,4 @@
--- What `setCheck bytes ≡ none` says of a set's bytes: lengths, k, n, and the n keys.
+-- What `setCheck bytes ≡ none` says of the bytes: k, n, the count of blocks, and the n keys.
 use Prim.Native.Nat.{ℕ, zero, suc, _+_, _*_, _-_, _/_, _%_, _^_, _≤_, _<_}
 use native.Mathlib.Omega.{arith}
 use mathlib.Core.Path.{_≡_, refl, sym, ap}

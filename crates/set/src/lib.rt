@@ -7,7 +7,7 @@ ghost use Prim.Native.Nat.{ℕ, _+_, _-_, _*_, _≤_, _<_, max};
 ghost use lib.ListN.{length, getD};
 ghost use Rattle.rules.specs.Set.{maxK, maxKeys, headerK, headerN, keysFrom, among, setCheck, setOf, solid};
 ghost use Rattle.kmer.specs.Kmer.{Shifts, IsKmer};
-ghost use Rattle.set.specs.Ready.{tableLength, Below, Filled, Ready};
+ghost use Rattle.set.specs.Ready.{tableLength, prefix, Below, Filled, Ready};
 ghost use Rattle.set.specs.Ends.{Marked, highest};
 ghost use Rattle.set.specs.Bracket.{Bracket};
 
@@ -53,12 +53,19 @@ fn start(starts: &[u32], prefix: usize) -> usize
     wide(starts[prefix])
 }
 
+fn prefix_of(key: u64, shift: u32) -> usize
+    requires { ⌜ shift < 64 ⌝ }
+    ensures { λ r. ⌜ r ≡ prefix shift key ⌝ }
+{
+    (key >> shift) as usize
+}
+
 pub fn get(set: &[u8], starts: &[u32], head: Header, kmer: Kmer) -> bool
     requires { ⌜ Ready (now set) (now starts) head × IsKmer (head .k) kmer ⌝ }
     ensures { λ r. ⌜ r ≡ solid (setOf (now (set .entry))) (kmer .code) ⌝ }
 {
     let key = kmer::canonical(kmer, head);
-    let prefix = (key >> head.shift) as usize;
+    let prefix = prefix_of(key, head.shift);
     search(set, key, start(starts, prefix), start(starts, prefix + 1))
 }
 
@@ -111,7 +118,7 @@ fn mark_ends(set: &[u8], n: usize, shift: u32, prefixes: usize, starts: &mut [u3
     ensures { λ _. ⌜ Marked (now (set .entry)) shift n prefixes (now (starts .exit)) ⌝ }
 {
     for i in 0..n {
-        let prefix = (blocks::key_at(set, i) >> shift) as usize;
+        let prefix = prefix_of(blocks::key_at(set, i), shift);
         starts[prefix + 1] = (i + 1) as u32;
     }
 }

@@ -1,8 +1,9 @@
-use mathlib.Core.Path.{_≡_, refl, _∙_}
+use mathlib.Core.Path.{_≡_, refl, ap, _∙_}
 use Prim.Native.Nat.{_-_, _<_, _≤_}
 use native.Mathlib.Omega.{arith}
 use borrow.Author.Needs.{needs}
 use lib.ListN.{length, length-set}
+use Rattle.rules.specs.Set.{keyWord}
 use Rattle.set.specs.Ready.{prefix}
 use Rattle.set.specs.Ends.{Marked}
 use Rattle.set.proofs.Opened.{opened-n-le, opened-room}
@@ -22,31 +23,32 @@ loop-holds c = (search needs, refl, marked-none _ _ _ (c .before .before .args .
 key-at-requires : tie.Need-key-at-requires Inv-loop μ-loop
 key-at-requires c κs = let s = c .before .before .before .before in omega (arith, opened-room _ (s .pre .0))
 
-shr-prefix : tie.Need-shr-prefix Inv-loop μ-loop
-shr-prefix c = search needs
+prefix-of-requires : tie.Need-prefix-of-requires Inv-loop μ-loop
+prefix-of-requires c κs = search needs
 
 -- The key's prefix is one of the table's.
-known : (c : tie.After-key-at Inv-loop μ-loop) → let a = c .before .before .before .before .before .args in
-    prefix (a .shift) (c .key-at .result) < a .prefixes
+known : (c : tie.After-prefix-of Inv-loop μ-loop) → let l = c .before .before .before in
+    let a = l .before .before .before .args in
+    (c .prefix-of .result ≡ prefix (a .shift) (keyWord (a .set .now) (l .loop .i))) × (c .prefix-of .result < a .prefixes)
 known c =
-    let l = c .before .before in
-    let pre = l .before .before .before .pre in
-    rw (c .key-at .ensures) (pre .4 _ (search needs))
+    let s = c .before .before .before .before .before .before in
+    let is = c .prefix-of .ensures ∙ ap (prefix (s .args .shift)) (c .before .key-at .ensures) in
+    (is, rw is (s .pre .4 _ (search needs)))
 
 add-starts : tie.Need-add-starts Inv-loop μ-loop
 add-starts c = search needs
 
 cast-starts : tie.Need-cast-starts Inv-loop μ-loop
-cast-starts c = let s = c .before .before .before .before .before in omega (arith, opened-n-le _ (s .pre .0))
+cast-starts c = let s = c .before .before .before .before .before .before in omega (arith, opened-n-le _ (s .pre .0))
 
 add-starts-2 : tie.Need-add-starts-2 Inv-loop μ-loop
-add-starts-2 c = omega (arith, known c)
+add-starts-2 c = omega (arith, known c .1)
 
 mul-starts : tie.Need-mul-starts Inv-loop μ-loop
-mul-starts c = omega (arith, known c)
+mul-starts c = omega (arith, known c .1)
 
 slice-write-starts : tie.Need-slice-write-starts Inv-loop μ-loop
-slice-write-starts c = omega (arith, known c)
+slice-write-starts c = omega (arith, known c .1)
 
 add-i : tie.Need-add-i Inv-loop μ-loop
 add-i c = search needs
@@ -56,10 +58,10 @@ loop-less c = search needs
 
 loop-again : tie.Need-loop-again Inv-loop μ-loop
 loop-again c =
-    let l = c .before .before .loop in (
+    let l = c .before .before .before .loop in (
       search needs,
       length-set (l .starts) _ _ ∙ l .inv .1,
-      rw (c .key-at .ensures) (marked-more _ _ _ _ (l .starts) (rw (← (c .key-at .ensures)) (omega (arith, known c))) (l .inv .2)),
+      rw (known c .0) (marked-more _ _ _ _ (l .starts) (rw (← (known c .0)) (omega (arith, known c .1))) (l .inv .2)),
     )
 
 same-length : tie.Need-same-length Inv-loop μ-loop
@@ -76,7 +78,7 @@ mark-ends-spec =
     μ-loop
     loop-holds
     key-at-requires
-    shr-prefix
+    prefix-of-requires
     add-starts
     cast-starts
     add-starts-2
