@@ -12,29 +12,14 @@ use lib.Dec.{eqb, ltb}
 use lib.ListN.{length}
 use Rattle.rules.specs.Letters.{canonical}
 use Rattle.blocks.proofs.Tests.{both}
-use Rattle.blocks.proofs.Opening.{refused-by}
-use Rattle.rules.specs.Refusal.{Check, accepted, _orElse_, unless, atPlace, firstFailing}
-use Rattle.rules.specs.Set.{KmerSet, opened, maxK, maxKeys, blocks, headerK, headerN, keyWord, keysFrom, setOf, lengthRight, checkRight, headerRight, keyRight, setCheck}
+use Rattle.rules.proofs.Opened.{Checked, checked, opened-check}
+use Rattle.rules.specs.Refusal.{accepted, firstFailing}
+use Rattle.rules.specs.Set.{KmerSet, opened, maxK, maxKeys, blocks, headerK, headerN, keyWord, keysFrom, setOf, headerRight, keyRight, setCheck}
 
 -- ---- checks that let pass
 
 none≢some : {A : Type 0} {x : A} {B : Type 0} → none ≡ some x → B
 none≢some e = let z : _≡_ {A = ℕ} 0 1 = cc in absurd (omega arith)
-
-both-pass : (a b : Check) → a orElse b ≡ none → (a ≡ none) × (b ≡ none)
-unfolding _orElse_
-both-pass none b e = (refl, e)
-both-pass (some r) b e = none≢some (sym e)
-
-passed : (t : Bool) (r : ℕ) → unless t r ≡ none → t ≡ true
-unfolding unless
-passed true r e = refl
-passed false r e = none≢some (sym e)
-
-nowhere : (r : ℕ) (p : Option ℕ) → atPlace r p ≡ none → p ≡ none
-unfolding atPlace
-nowhere r none e = refl
-nowhere r (some p) e = none≢some (sym e)
 
 -- None of the m tests from i on fails.
 none-fails : (ok : ℕ → Bool) (i m : ℕ) → firstFailing ok i m ≡ none → (j : ℕ) → i ≤ j → j < i + m → ok j ≡ true
@@ -54,11 +39,7 @@ none-fails ok i (suc m) e j l h = go (ok i) refl (λ n g. none-fails ok (suc i) 
 
 -- What opening accepts has passed the checks.
 pub accepted-opens : (bytes : List ℕ) {s : KmerSet} → opened bytes ≡ accepted s → setCheck bytes ≡ none
-accepted-opens bytes {s} e = go (setCheck bytes) refl
-  where
-    go : (check : Check) → setCheck bytes ≡ check → check ≡ none
-    go none q = refl
-    go (some r) q = let d = refused-by bytes r q in let z : _≡_ {A = ℕ} 0 1 = cc in absurd (omega arith)
+accepted-opens bytes {s} e = opened-check bytes s e
 
 keys-length : (bytes : List ℕ) (i m : ℕ) → length (keysFrom bytes i m) ≡ m
 unfolding keysFrom
@@ -71,22 +52,10 @@ unfolding setOf
 set-count bytes = keys-length bytes 0 (headerN bytes)
 
 module _ (bytes : List ℕ) (opens : setCheck bytes ≡ none) where
-  -- The four checks, in their order.
-  checks : (lengthRight bytes ≡ true)
-      × (firstFailing (checkRight bytes) 0 (blocks bytes) ≡ none)
-      × (headerRight bytes ≡ true)
-      × (firstFailing (keyRight bytes) 0 (63 * (blocks bytes - 1)) ≡ none)
-  unfolding setCheck
-  checks =
-      let a = both-pass _ _ opens in
-      let b = both-pass _ _ (a .1) in
-      let c = both-pass _ _ (b .1) in
-      (passed _ 7 (a .0), nowhere 8 _ (b .0), passed _ 9 (c .0), nowhere 10 _ (c .1))
-
   header : (headerK bytes % 2 ≡ 1) × (headerK bytes ≤ maxK) × (headerN bytes ≤ maxKeys) × (blocks bytes ≡ 1 + (headerN bytes + 62) / 63)
   unfolding headerRight
   header =
-      let e = both _ _ (checks .2) in
+      let e = both _ _ (checked bytes opens .header-right) in
       let d = both _ _ (e .0) in
       let c = both _ _ (d .0) in
       let b = both _ _ (c .0) in
@@ -117,7 +86,7 @@ module _ (bytes : List ℕ) (opens : setCheck bytes ≡ none) where
         × ((eqb i 0 || ltb (keyWord bytes (i - 1)) (keyWord bytes i)) ≡ true)
     unfolding keyRight
     key =
-        let right = none-fails (keyRight bytes) 0 _ (checks .3) i (omega arith) (omega (arith, opened-room)) in
+        let right = none-fails (keyRight bytes) 0 _ (checked bytes opens .keys-right) i (omega arith) (omega (arith, opened-room)) in
         let c = both _ _ (rw (lt-ltb _ _ below, keyRight) at right) in
         let b = both _ _ (c .0) in
         (b .0, b .1, c .1)
