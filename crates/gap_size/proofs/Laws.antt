@@ -6,24 +6,26 @@ use native.Mathlib.Numerals.{add-one}
 use borrow.Author.Tests.{eq-eqb, ne-eqb}
 use mathlib.Core.Path.{_≡_, refl, sym, ap, _∙_, subst}
 use mathlib.Core.Bool.{Bool, true, false}
-use mathlib.Core.Option.{Option, none, some}
+use mathlib.Core.Option.{Option, none, some, Option·some-injective}
 use mathlib.Core.List.{List, [], _∷_, _++_}
 use lib.ListN.{length, take, drop, set, getD, length-append, length-set, length-take}
 use lib.Seq.{slice, slice-empty, slice-cons, length-slice, take-suc-set, drop-append-le, length-take-le}
 use Rattle.rules.specs.Letters.{add, addBase, addAll, code, last, lastLetter}
 use Rattle.rules.specs.Set.{among, maxKeys, headerK, headerN, keysFrom, setOf, solid}
 use Rattle.rules.specs.Counted.{Counted, Try, after, refuse, give, next, _>>=_}
-use Rattle.rules.specs.Scan.{sole}
+use Rattle.rules.specs.Scan.{sole, alternative}
 use Rattle.rules.specs.Exist.{Mend}
 use Rattle.rules.specs.Graph.{end, also, end-distinct, also-distinct, spell}
-use Rattle.rules.specs.GapSize.{gap}
+use Rattle.rules.specs.GapSize.{gap, gapFrom}
 use Rattle.rules.proofs.Kmer.{last-one}
+use Rattle.rules.proofs.Counted.{bind-some as given-by}
 use Rattle.rules.proofs.Scan.{sole-is}
 use Rattle.rules.proofs.Few.{SolidKmer, few}
 use Rattle.rules.proofs.Correctors.{gap-any, gap-cost}
 use Rattle.kmer.specs.declared.Header.{Header}
 use Rattle.set.specs.Ready.{Ready}
 use Rattle.set.proofs.Opened.{opened-n-le}
+use Rattle.graph.proofs.Laws.{bind-none, bind-some, alternative-lookups}
 use Rattle.gap_size.specs.Gap.{mendFrom, onward, passed}
 
 -- ---- the k-mers that letters lead through
@@ -193,3 +195,39 @@ module _ (k : ℕ) (sol : ℕ → Bool) (m x l : ℕ) where
         omega arith,
         rw (w, mendFrom) (omega arith),
       )
+
+-- ---- from the bad k-mer to x
+
+length-spell : (ys : List ℕ) → length (spell ys) ≡ length ys
+unfolding spell
+length-spell [] = refl
+length-spell (y ∷ ys) = ap suc (length-spell ys)
+
+module _ (k : ℕ) (sol : ℕ → Bool) (m y l : ℕ) where
+  -- m + 1 letters
+  gap-letters : (d : Mend) → gapFrom k sol m y .answer ≡ some d → length (d .letters) ≡ m + 1
+  unfolding gapFrom give
+  gap-letters d e =
+      let w = given-by (alternative k sol y) _ d e in
+      let x : ℕ = w .0 in
+      let v = given-by (gap k sol m (x ∷ []) x 0) _ d (w .2) in
+      ap (λ (d′ : Mend). length (d′ .letters)) (sym (Option·some-injective _ d (v .2)))
+      ∙ length-spell (v .0)
+      ∙ gap-any k sol m (x ∷ []) x 0 .1 (v .0) (v .1)
+      ∙ omega arith
+
+  abbrev attempt : Try Mend
+  attempt = after l (gapFrom k sol m y)
+
+  pub gap-full : (room index : ℕ) → room ≤ m → m < index
+      → ((d : Mend) → attempt .answer ≡ some d → room < length (d .letters)) × (attempt .answer ≡ none → room < index)
+  unfolding after
+  gap-full room index h g = (λ d e. omega (arith, gap-letters d e), λ e. omega arith)
+
+  pub no-alternative : alternative k sol y .answer ≡ none → (attempt .answer ≡ none) × (attempt .lookups ≡ l + 4)
+  unfolding gapFrom
+  no-alternative e = let w = bind-none (alternative k sol y) _ l e in (w .0, w .1 ∙ rw (alternative-lookups k sol y))
+
+  pub from-alternative : (x : ℕ) → alternative k sol y .answer ≡ some x → attempt ≡ after (l + 4) (mendFrom k sol m x)
+  unfolding gapFrom mendFrom
+  from-alternative x e = bind-some (alternative k sol y) _ l x e ∙ rw (alternative-lookups k sol y)

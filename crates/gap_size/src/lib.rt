@@ -62,3 +62,20 @@ fn fill(set: &[u8], starts: &[u32], head: Header, scan: Scan, x: Kmer, out: &mut
     }
     Attempt::Mend(moves + 1, moves + 1, lookups)
 }
+
+// Above k, after the scan. Of index − k + 1 letters without room the attempt is Full whether or not it would be refused.
+fn ins_sub_correction(set: &[u8], starts: &[u32], head: Header, scan: Scan, kmer: Kmer, out: &mut [u8]) -> Attempt
+    requires { ⌜ Ready (now set) (now starts) head × IsKmer (head .k) kmer × (head .k ≤ scan .index) × (scan .lookups < 2 ^ 63) ⌝ }
+    ensures { λ r. ⌜
+        Attempted (scan .index) (now (out .entry)) (now (out .exit))
+        (after (scan .lookups) (gapFrom (head .k) (solid (setOf (now (set .entry)))) (scan .index - head .k) (kmer .code)))
+        r ⌝ }
+{
+    if out.len() <= scan.index - head.k {
+        return Attempt::Full;
+    }
+    let Next::Kmer(x) = scan::sole_alt(set, starts, head, kmer) else {
+        return Attempt::Refused(scan.lookups + 4);
+    };
+    fill(set, starts, head, scan, x, out)
+}
