@@ -4,6 +4,9 @@ use kmer::Kmer;
 use scan::Attempt;
 use scan::Next;
 use scan::Scan;
+
+mod filter;
+
 ghost use mathlib.Core.Path.{_≡_};
 ghost use mathlib.Core.Bool.{true};
 ghost use Prim.Native.Nat.{_+_, _-_, _^_, _≤_, _<_};

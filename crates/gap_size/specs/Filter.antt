@@ -1,0 +1,47 @@
+-- The bit filter: a k-mer's word and its bits there.
+use Prim.Native.Nat.{ℕ, _+_, _*_, _-_, _/_, _%_, _^_}
+use mathlib.Core.Path.{_≡_}
+use mathlib.Core.Bool.{Bool, true, false}
+use mathlib.Core.List.{List}
+use lib.ListN.{length, getD}
+use lib.Bits.{bitAnd, bitOr, bitXor}
+use Rattle.rules.specs.Set.{among}
+
+-- A k-mer's code, spread out.
+abbrev pub hashOf : ℕ → ℕ
+hashOf code = bitXor (code % 4294967296 * 2654435761) (code / 2 ^ 32 * 2246822519)
+
+-- The place of a word among len.
+abbrev pub slotOf : ℕ → ℕ → ℕ
+slotOf hash len = bitAnd (hash / 2 ^ 46) (len - 1)
+
+-- A bit of a word.
+abbrev pub bit : ℕ → ℕ
+bit place = 1 * 2 ^ (place % 64) % 2 ^ 64
+
+-- Three bits of a word.
+abbrev pub bitsOf : ℕ → ℕ
+bitsOf hash = bitOr (bitOr (bit (hash / 2 ^ 28)) (bit (hash / 2 ^ 34))) (bit (hash / 2 ^ 40))
+
+-- A k-mer's word among len, and its bits there.
+unfoldable pub place : ℕ → ℕ → ℕ
+place len code = slotOf (hashOf code) len
+
+unfoldable pub marks : ℕ → ℕ
+marks code = bitsOf (hashOf code)
+
+-- All bits of a k-mer are set.
+unfoldable pub In : List ℕ → ℕ → Type 0
+unfolding place marks
+In filter code = bitAnd (getD filter (place (length filter) code) 0) (marks code) ≡ marks code
+
+-- A k-mer is put in, and none goes out. The answer is no only where it was not in.
+pub record Noted (filter filter′ : List ℕ) (code : ℕ) (r : Bool) : Type 0 where
+  pub same : length filter′ ≡ length filter
+  pub now-in : In filter′ code
+  pub kept : (z : ℕ) → In filter z → In filter′ z
+  pub new : r ≡ false → In filter code → ⊥
+
+-- All of a list are in.
+abbrev pub Covers : List ℕ → List ℕ → Type 0
+Covers filter ys = (z : ℕ) → among z ys ≡ true → In filter z
