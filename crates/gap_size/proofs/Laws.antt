@@ -86,6 +86,10 @@ pub record Filling (k : ℕ) (sol : ℕ → Bool) (m x at i : ℕ) (out : List �
   pub spelled : spell (passed k x i out) ≡ take (i + 1) out
   pub ends : addAll k x (slice 1 (i + 1) out) ≡ at
 
+pub passed-none : (k x : ℕ) (out : List ℕ) → passed k x 0 out ≡ x ∷ []
+unfolding onward
+passed-none k x out = rw (slice-empty 1 out)
+
 pub filling-start : (k : ℕ) (sol : ℕ → Bool) (m x : ℕ) (out : List ℕ) → 0 < length out → Filling k sol m x x 0 (set out 0 (lastLetter x))
 unfolding onward addAll spell
 filling-start k sol m x out l =
@@ -116,16 +120,16 @@ module _ {k : ℕ} {sol : ℕ → Bool} {m x at i : ℕ} {out : List ℕ} (f : F
       back : addBase k (addAll k x (slice 1 (i + 1) out)) (lastLetter z) ≡ z
       back = rw (f .ends) (letter-back k sol at z low e)
 
-      one-more : passed k x (i + 1) (set out (i + 1) (lastLetter z)) ≡ passed k x i out ++ (z ∷ [])
-      one-more = rw (slice-more out i (lastLetter z) room, onward-snoc, back)
+      pub passed-more : passed k x (i + 1) (set out (i + 1) (lastLetter z)) ≡ passed k x i out ++ (z ∷ [])
+      passed-more = rw (slice-more out i (lastLetter z) room, onward-snoc, back)
 
       pub gap-goes : among z (passed k x i out) ≡ false → Filling k sol m x z (i + 1) (set out (i + 1) (lastLetter z))
       unfolding gap
       gap-goes h =
           let l : 4 * (i + 1) ≡ 4 * i + 4 = omega arith in
           record {
-            rest = f .rest ∙ rw (one-move, gap, e, h, one-more, l);
-            spelled = ap spell one-more ∙ spell-snoc (passed k x i out) z ∙ rw (f .spelled, add-one (i + 1), take-suc-set out (i + 1) (lastLetter z) room);
+            rest = f .rest ∙ rw (one-move, gap, e, h, passed-more, l);
+            spelled = ap spell passed-more ∙ spell-snoc (passed k x i out) z ∙ rw (f .spelled, add-one (i + 1), take-suc-set out (i + 1) (lastLetter z) room);
             ends = rw (slice-more out i (lastLetter z) room) (addAll-snoc k x (slice 1 (i + 1) out) (lastLetter z) ∙ back);
           }
 

@@ -2,7 +2,7 @@
 use Prim.Native.Nat.{ℕ, _+_, _*_, _-_, _/_, _%_, _^_}
 use mathlib.Core.Path.{_≡_}
 use mathlib.Core.Bool.{Bool, true, false}
-use mathlib.Core.List.{List}
+use mathlib.Core.List.{List, [], _∷_, _++_}
 use lib.ListN.{length, getD}
 use lib.Bits.{bitAnd, bitOr, bitXor}
 use Rattle.rules.specs.Set.{among}
@@ -43,5 +43,11 @@ pub record Noted (filter filter′ : List ℕ) (code : ℕ) (r : Bool) : Type 0 
   pub new : r ≡ false → In filter code → ⊥
 
 -- All of a list are in.
-abbrev pub Covers : List ℕ → List ℕ → Type 0
-Covers filter ys = (z : ℕ) → among z ys ≡ true → In filter z
+pub record Covers (filter ys : List ℕ) : Type 0 where
+  pub has : (z : ℕ) → among z ys ≡ true → In filter z
+
+-- Whether a k-mer is one of a list that the filter covers, and in it goes.
+pub record Asked (filter filter′ ys : List ℕ) (code : ℕ) (r : Bool) : Type 0 where
+  pub is : r ≡ among code ys
+  pub same : length filter′ ≡ length filter
+  pub covers : Covers filter′ (ys ++ (code ∷ []))

@@ -18,7 +18,8 @@ ghost use Rattle.kmer.specs.Kmer.{Shifts, IsKmer};
 ghost use Rattle.set.specs.Ready.{Ready};
 ghost use Rattle.scan.specs.Scan.{scanOf};
 ghost use Rattle.scan.specs.Attempt.{Attempted};
-ghost use Rattle.gap_size.specs.Gap.{mendFrom, passed};
+ghost use Rattle.gap_size.specs.Gap.{passed, Fillable, Filled};
+ghost use Rattle.gap_size.specs.Filter.{Covers, Asked};
 
 // Whether a k-mer is x or one of those that the letters of that many moves lead through.
 fn seen(head: Header, x: Kmer, letters: &[u8], moves: usize, code: u64) -> bool
@@ -39,17 +40,27 @@ fn seen(head: Header, x: Kmer, letters: &[u8], moves: usize, code: u64) -> bool
     false
 }
 
+// The same, asked of the next k-mer, which goes into the filter: only where its bits were all set is it compared with the others.
+fn repeats(head: Header, x: Kmer, letters: &[u8], moves: usize, code: u64, filter: &mut [u64]) -> bool
+    requires { ⌜ Shifts head × IsKmer (head .k) x × (moves < length (now letters)) × (0 < length (now filter)) ⌝ }
+    requires { ⌜ Covers (now filter) (passed (head .k) (x .code) moves (now letters)) ⌝ }
+    ensures { λ r. ⌜ Asked (now (filter .entry)) (now (filter .exit)) (passed (head .k) (x .code) moves (now (letters .entry))) code r ⌝ }
+{
+    if filter::note(filter, code) {
+        seen(head, x, letters, moves, code)
+    } else {
+        false
+    }
+}
+
 // The moves of a gap from x, after all lookups up to x.
-fn fill(set: &[u8], starts: &[u32], head: Header, scan: Scan, x: Kmer, out: &mut [u8]) -> Attempt
-    requires { ⌜ Ready (now set) (now starts) head × IsKmer (head .k) x × (solid (setOf (now set)) (x .code) ≡ true) ⌝ }
-    requires { ⌜ (head .k ≤ scan .index) × (scan .index - head .k < length (now out)) × (scan .lookups < 2 ^ 63) ⌝ }
-    ensures { λ r. ⌜
-        Attempted (scan .index) (now (out .entry)) (now (out .exit))
-        (after (scan .lookups + 4) (mendFrom (head .k) (solid (setOf (now (set .entry)))) (scan .index - head .k) (x .code)))
-        r ⌝ }
+fn fill(set: &[u8], starts: &[u32], head: Header, scan: Scan, x: Kmer, filter: &mut [u64], out: &mut [u8]) -> Attempt
+    requires { ⌜ Fillable (now set) (now starts) head scan x (now out) × (0 < length (now filter)) ⌝ }
+    ensures { λ r. ⌜ Filled (now (set .entry)) head scan x (now (out .entry)) (now (out .exit)) r ⌝ }
 {
     let mut lookups = scan.lookups + 4;
     graph::write_last(out, 0, x);
+    filter::note(filter, x.code);
     let mut at = x;
     let moves = scan.index - head.k;
     for i in 0..moves {
@@ -57,13 +68,52 @@ fn fill(set: &[u8], starts: &[u32], head: Header, scan: Scan, x: Kmer, out: &mut
         let Next::Kmer(next) = scan::sole_next(set, starts, head, at) else {
             return Attempt::Refused(lookups);
         };
-        if seen(head, x, out, i, next.code) {
+        if repeats(head, x, out, i, next.code, filter) {
             return Attempt::Refused(lookups);
         }
         graph::write_last(out, i + 1, next);
         at = next;
     }
     Attempt::Mend(moves + 1, moves + 1, lookups)
+}
+
+// A filter by the number of moves, so that a short gap clears little: 2 k-mers a word, and beyond the last as many as come.
+fn fill_short(set: &[u8], starts: &[u32], head: Header, scan: Scan, x: Kmer, out: &mut [u8]) -> Attempt
+    requires { ⌜ Fillable (now set) (now starts) head scan x (now out) ⌝ }
+    ensures { λ r. ⌜ Filled (now (set .entry)) head scan x (now (out .entry)) (now (out .exit)) r ⌝ }
+{
+    let mut filter = [0u64; 64];
+    fill(set, starts, head, scan, x, &mut filter, out)
+}
+
+fn fill_long(set: &[u8], starts: &[u32], head: Header, scan: Scan, x: Kmer, out: &mut [u8]) -> Attempt
+    requires { ⌜ Fillable (now set) (now starts) head scan x (now out) ⌝ }
+    ensures { λ r. ⌜ Filled (now (set .entry)) head scan x (now (out .entry)) (now (out .exit)) r ⌝ }
+{
+    let mut filter = [0u64; 4096];
+    fill(set, starts, head, scan, x, &mut filter, out)
+}
+
+fn fill_longest(set: &[u8], starts: &[u32], head: Header, scan: Scan, x: Kmer, out: &mut [u8]) -> Attempt
+    requires { ⌜ Fillable (now set) (now starts) head scan x (now out) ⌝ }
+    ensures { λ r. ⌜ Filled (now (set .entry)) head scan x (now (out .entry)) (now (out .exit)) r ⌝ }
+{
+    let mut filter = [0u64; 131072];
+    fill(set, starts, head, scan, x, &mut filter, out)
+}
+
+fn fill_by_length(set: &[u8], starts: &[u32], head: Header, scan: Scan, x: Kmer, out: &mut [u8]) -> Attempt
+    requires { ⌜ Fillable (now set) (now starts) head scan x (now out) ⌝ }
+    ensures { λ r. ⌜ Filled (now (set .entry)) head scan x (now (out .entry)) (now (out .exit)) r ⌝ }
+{
+    let moves = scan.index - head.k;
+    if moves <= 128 {
+        return fill_short(set, starts, head, scan, x, out);
+    }
+    if moves <= 8192 {
+        return fill_long(set, starts, head, scan, x, out);
+    }
+    fill_longest(set, starts, head, scan, x, out)
 }
 
 // Above k, after the scan. Of index − k + 1 letters without room the attempt is Full whether or not it would be refused.
@@ -80,5 +130,5 @@ fn ins_sub_correction(set: &[u8], starts: &[u32], head: Header, scan: Scan, kmer
     let Next::Kmer(x) = scan::sole_alt(set, starts, head, kmer) else {
         return Attempt::Refused(scan.lookups + 4);
     };
-    fill(set, starts, head, scan, x, out)
+    fill_by_length(set, starts, head, scan, x, out)
 }

@@ -51,18 +51,25 @@ returns-2 c =
       room = refl;
     }
 
-fill-requires : tie.Need-fill-requires
+fill-by-length-requires : tie.Need-fill-by-length-requires
 unfolding SolidKmer
-fill-requires c κs =
+fill-by-length-requires c κs =
     let x = c .before .before in
     let b = entry x in
-    ((b .pre .0, told x .1, x-good _ _ _ _ (told x .0) .1), (b .pre .2, x .before .before .before .if1 .left, b .pre .3))
+    record {
+      ready = b .pre .0;
+      kmer = told x .1;
+      lit = x-good _ _ _ _ (told x .0) .1;
+      above = b .pre .2;
+      room = x .before .before .before .if1 .left;
+      few = b .pre .3;
+    }
 
 same-length : tie.Need-same-length
 same-length c = search needs
 
 returns-3 : tie.Need-returns-3
-returns-3 c = rw (from-alternative _ _ _ _ _ _ (told (c .before .before .before .before .before) .0)) (c .before .before .fill .ensures)
+returns-3 c = rw (from-alternative _ _ _ _ _ _ (told (c .before .before .before .before .before) .0)) (c .before .before .fill-by-length .ensures)
 
 pub ins-sub-correction-spec : {M : Type 1} → statement M
 ins-sub-correction-spec =
@@ -75,6 +82,6 @@ ins-sub-correction-spec =
     enum-told
     add-t12
     returns-2
-    fill-requires
+    fill-by-length-requires
     same-length
     returns-3)
