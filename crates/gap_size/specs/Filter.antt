@@ -7,9 +7,12 @@ use lib.ListN.{length, getD}
 use lib.Bits.{bitAnd, bitOr, bitXor}
 use Rattle.rules.specs.Set.{among}
 
--- A k-mer's code, spread out.
+-- A k-mer's code, mixed and spread out.
+abbrev pub mixed : ℕ → ℕ
+mixed code = bitXor (code % 4294967296 * 2654435761) (code / 2 ^ 32 * 2246822519)
+
 abbrev pub hashOf : ℕ → ℕ
-hashOf code = bitXor (code % 4294967296 * 2654435761) (code / 2 ^ 32 * 2246822519)
+hashOf code = bitXor (mixed code) (mixed code / 2 ^ 29) % 4294967296 * 3266489917
 
 -- The place of a word among len.
 abbrev pub slotOf : ℕ → ℕ → ℕ

@@ -5,10 +5,12 @@ ghost use Prim.Native.Nat.{_<_};
 ghost use lib.ListN.{length};
 ghost use Rattle.gap_size.specs.Filter.{hashOf, slotOf, bitsOf, Noted};
 
+// Products that fit, so that nothing wraps; the second spreads out the codes of few letters.
 fn hash(code: u64) -> u64
     ensures { λ r. ⌜ r ≡ hashOf code ⌝ }
 {
-    ((code % 4294967296) * 2654435761) ^ ((code >> 32) * 2246822519)
+    let mixed = ((code % 4294967296) * 2654435761) ^ ((code >> 32) * 2246822519);
+    ((mixed ^ (mixed >> 29)) % 4294967296) * 3266489917
 }
 
 fn slot(hash: u64, len: usize) -> usize
