@@ -17,6 +17,7 @@ use Rattle.kmer.specs.Kmer.{IsKmer}
 use Rattle.set.specs.Ready.{Ready}
 use Rattle.scan.specs.declared.Scan.{Scan}
 use Rattle.scan.specs.declared.Attempt.{Attempt}
+use Rattle.scan.specs.declared.Attempt.the-variants as attempt
 use Rattle.scan.specs.Attempt.{Attempted}
 
 -- That many moves from x; resume is the count of letters.
@@ -49,3 +50,14 @@ Filled bytes head scan x out out′ r =
     Attempted (scan .index) out out′
     (after (scan .lookups + 4) (mendFrom (head .k) (solid (setOf bytes)) (scan .index - head .k) (x .code)))
     r
+
+-- The same answer, after l lookups more; and the lookups of an answer.
+abbrev pub later : ℕ → Attempt → Attempt
+later l (attempt.Mend n r m) = attempt.Mend n r (l + m)
+later l (attempt.Refused m) = attempt.Refused (l + m)
+later l attempt.Full = attempt.Full
+
+abbrev pub cost : Attempt → ℕ
+cost (attempt.Mend n r l) = l
+cost (attempt.Refused l) = l
+cost attempt.Full = 0

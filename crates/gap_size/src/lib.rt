@@ -18,7 +18,7 @@ ghost use Rattle.kmer.specs.Kmer.{Shifts, IsKmer};
 ghost use Rattle.set.specs.Ready.{Ready};
 ghost use Rattle.scan.specs.Scan.{scanOf};
 ghost use Rattle.scan.specs.Attempt.{Attempted};
-ghost use Rattle.gap_size.specs.Gap.{passed, Fillable, Filled};
+ghost use Rattle.gap_size.specs.Gap.{passed, Fillable, Filled, later, cost};
 ghost use Rattle.gap_size.specs.Filter.{Covers, Asked};
 
 // Whether a k-mer is x or one of those that the letters of that many moves lead through.
@@ -131,4 +131,16 @@ fn ins_sub_correction(set: &[u8], starts: &[u32], head: Header, scan: Scan, kmer
         return Attempt::Refused(scan.lookups + 4);
     };
     fill_by_length(set, starts, head, scan, x, out)
+}
+
+// The same answer, after lookups made before it.
+fn after(lookups: u64, attempt: Attempt) -> Attempt
+    requires { ⌜ lookups + cost attempt < 2 ^ 64 ⌝ }
+    ensures { λ r. ⌜ r ≡ later lookups attempt ⌝ }
+{
+    match attempt {
+        Attempt::Mend(letters, resume, more) => Attempt::Mend(letters, resume, lookups + more),
+        Attempt::Refused(more) => Attempt::Refused(lookups + more),
+        Attempt::Full => Attempt::Full,
+    }
 }
