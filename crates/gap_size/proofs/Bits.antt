@@ -43,9 +43,9 @@ set-bits w m = rw (or-comm w m) (kept-bits m w m (and-self m))
 kept-at : (filter : List ℕ) (at m : ℕ) → at < length filter → (j b : ℕ) → bitAnd (getD filter j 0) b ≡ b
     → bitAnd (getD (set filter at (bitOr (getD filter at 0) m)) j 0) b ≡ b
 kept-at filter at m lt j b h = elim (ℕ-discrete j at) [
-    | yes e ↦ rw (e, getD-set-same filter at _ 0 lt) (kept-bits (getD filter at 0) m b (rw e at h))
-    | no n ↦ rw (getD-set-other filter at j _ 0 n) h
-  ]
+  | yes e ↦ rw (e, getD-set-same filter at _ 0 lt) (kept-bits (getD filter at 0) m b (rw e at h))
+  | no n ↦ rw (getD-set-other filter at j _ 0 n) h
+]
 
 -- a code put in
 pub noted : (filter : List ℕ) (code at m : ℕ) → at ≡ place (length filter) code → m ≡ marks code → at < length filter
@@ -68,7 +68,8 @@ among-snoc z a [] h = go (eqb z a) refl h
     go false e g = inl g
 among-snoc z a (y ∷ ys) h = go (among-snoc z a ys) (eqb z y) h
   where
-    go : (among z (ys ++ (a ∷ [])) ≡ true → (among z ys ≡ true) ⊎ (z ≡ a)) → (t : Bool) → t || among z (ys ++ (a ∷ [])) ≡ true → (t || among z ys ≡ true) ⊎ (z ≡ a)
+    go : (among z (ys ++ (a ∷ [])) ≡ true → (among z ys ≡ true) ⊎ (z ≡ a)) → (t : Bool) → t || among z (ys ++ (a ∷ [])) ≡ true
+        → (t || among z ys ≡ true) ⊎ (z ≡ a)
     go i true g = inl refl
     go i false g = i g
 

@@ -170,9 +170,10 @@ gap-bound {bytes} {starts} {head} r m x lt lit =
           (also-distinct refl end-distinct) (also g end),
     ))
 
-pub gap-room : {k : ℕ} {sol : ℕ → Bool} {m x at i : ℕ} {out : List ℕ} → Filling k sol m x at i out → gap k sol m (x ∷ []) x 0 .lookups ≤ 8 * maxKeys
-    → 4 * i ≤ 8 * maxKeys
-gap-room {k} {sol} {m} {x} {at} {i} {out} f h = omega (arith, ap (λ (t : Try (List ℕ)). t .lookups) (f .rest), gap-least k sol (m - i) (passed k x i out) at (4 * i))
+pub gap-room : {k : ℕ} {sol : ℕ → Bool} {m x at i : ℕ} {out : List ℕ} → Filling k sol m x at i out
+    → gap k sol m (x ∷ []) x 0 .lookups ≤ 8 * maxKeys → 4 * i ≤ 8 * maxKeys
+gap-room {k} {sol} {m} {x} {at} {i} {out} f h =
+    omega (arith, ap (λ (t : Try (List ℕ)). t .lookups) (f .rest), gap-least k sol (m - i) (passed k x i out) at (4 * i))
 
 -- ---- the attempt that a gap makes, l lookups having been made before it
 

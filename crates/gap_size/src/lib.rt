@@ -1,19 +1,19 @@
 // Document 01, "GapSize": ports src/correct/gap_size.rs.
+mod filter;
+
 use kmer::Header;
 use kmer::Kmer;
 use scan::Attempt;
 use scan::Next;
 use scan::Scan;
-
-mod filter;
-
 ghost use mathlib.Core.Path.{_≡_};
 ghost use mathlib.Core.Bool.{true};
 ghost use Prim.Native.Nat.{_+_, _-_, _^_, _≤_, _<_};
 ghost use lib.ListN.{length};
 ghost use Rattle.rules.specs.Set.{among, solid, setOf};
 ghost use Rattle.rules.specs.Counted.{after};
-ghost use Rattle.rules.specs.GapSize.{gapFrom};
+ghost use Rattle.rules.specs.Scan.{errorLen};
+ghost use Rattle.rules.specs.GapSize.{gapFrom, gapSize};
 ghost use Rattle.kmer.specs.Kmer.{Shifts, IsKmer};
 ghost use Rattle.set.specs.Ready.{Ready};
 ghost use Rattle.scan.specs.Scan.{scanOf};
@@ -41,7 +41,14 @@ fn seen(head: Header, x: Kmer, letters: &[u8], moves: usize, code: u64) -> bool
 }
 
 // The same, asked of the next k-mer, which goes into the filter: only where its bits were all set is it compared with the others.
-fn repeats(head: Header, x: Kmer, letters: &[u8], moves: usize, code: u64, filter: &mut [u64]) -> bool
+fn repeats(
+    head: Header,
+    x: Kmer,
+    letters: &[u8],
+    moves: usize,
+    code: u64,
+    filter: &mut [u64],
+) -> bool
     requires { ⌜ Shifts head × IsKmer (head .k) x × (moves < length (now letters)) × (0 < length (now filter)) ⌝ }
     requires { ⌜ Covers (now filter) (passed (head .k) (x .code) moves (now letters)) ⌝ }
     ensures { λ r. ⌜ Asked (now (filter .entry)) (now (filter .exit)) (passed (head .k) (x .code) moves (now (letters .entry))) code r ⌝ }
@@ -54,7 +61,15 @@ fn repeats(head: Header, x: Kmer, letters: &[u8], moves: usize, code: u64, filte
 }
 
 // The moves of a gap from x, after all lookups up to x.
-fn fill(set: &[u8], starts: &[u32], head: Header, scan: Scan, x: Kmer, filter: &mut [u64], out: &mut [u8]) -> Attempt
+fn fill(
+    set: &[u8],
+    starts: &[u32],
+    head: Header,
+    scan: Scan,
+    x: Kmer,
+    filter: &mut [u64],
+    out: &mut [u8],
+) -> Attempt
     requires { ⌜ Fillable (now set) (now starts) head scan x (now out) × (0 < length (now filter)) ⌝ }
     ensures { λ r. ⌜ Filled (now (set .entry)) head scan x (now (out .entry)) (now (out .exit)) r ⌝ }
 {
@@ -77,8 +92,15 @@ fn fill(set: &[u8], starts: &[u32], head: Header, scan: Scan, x: Kmer, filter: &
     Attempt::Mend(moves + 1, moves + 1, lookups)
 }
 
-// A filter by the number of moves, so that a short gap clears little: 2 k-mers a word, and beyond the last as many as come.
-fn fill_short(set: &[u8], starts: &[u32], head: Header, scan: Scan, x: Kmer, out: &mut [u8]) -> Attempt
+// The filter goes by the number of moves, two k-mers to a word where it can, so that a short gap clears little.
+fn fill_short(
+    set: &[u8],
+    starts: &[u32],
+    head: Header,
+    scan: Scan,
+    x: Kmer,
+    out: &mut [u8],
+) -> Attempt
     requires { ⌜ Fillable (now set) (now starts) head scan x (now out) ⌝ }
     ensures { λ r. ⌜ Filled (now (set .entry)) head scan x (now (out .entry)) (now (out .exit)) r ⌝ }
 {
@@ -86,7 +108,14 @@ fn fill_short(set: &[u8], starts: &[u32], head: Header, scan: Scan, x: Kmer, out
     fill(set, starts, head, scan, x, &mut filter, out)
 }
 
-fn fill_long(set: &[u8], starts: &[u32], head: Header, scan: Scan, x: Kmer, out: &mut [u8]) -> Attempt
+fn fill_long(
+    set: &[u8],
+    starts: &[u32],
+    head: Header,
+    scan: Scan,
+    x: Kmer,
+    out: &mut [u8],
+) -> Attempt
     requires { ⌜ Fillable (now set) (now starts) head scan x (now out) ⌝ }
     ensures { λ r. ⌜ Filled (now (set .entry)) head scan x (now (out .entry)) (now (out .exit)) r ⌝ }
 {
@@ -94,7 +123,14 @@ fn fill_long(set: &[u8], starts: &[u32], head: Header, scan: Scan, x: Kmer, out:
     fill(set, starts, head, scan, x, &mut filter, out)
 }
 
-fn fill_longest(set: &[u8], starts: &[u32], head: Header, scan: Scan, x: Kmer, out: &mut [u8]) -> Attempt
+fn fill_longest(
+    set: &[u8],
+    starts: &[u32],
+    head: Header,
+    scan: Scan,
+    x: Kmer,
+    out: &mut [u8],
+) -> Attempt
     requires { ⌜ Fillable (now set) (now starts) head scan x (now out) ⌝ }
     ensures { λ r. ⌜ Filled (now (set .entry)) head scan x (now (out .entry)) (now (out .exit)) r ⌝ }
 {
@@ -102,22 +138,37 @@ fn fill_longest(set: &[u8], starts: &[u32], head: Header, scan: Scan, x: Kmer, o
     fill(set, starts, head, scan, x, &mut filter, out)
 }
 
-fn fill_by_length(set: &[u8], starts: &[u32], head: Header, scan: Scan, x: Kmer, out: &mut [u8]) -> Attempt
+fn fill_by_length(
+    set: &[u8],
+    starts: &[u32],
+    head: Header,
+    scan: Scan,
+    x: Kmer,
+    out: &mut [u8],
+) -> Attempt
     requires { ⌜ Fillable (now set) (now starts) head scan x (now out) ⌝ }
     ensures { λ r. ⌜ Filled (now (set .entry)) head scan x (now (out .entry)) (now (out .exit)) r ⌝ }
 {
-    let moves = scan.index - head.k;
-    if moves <= 128 {
+    let length = scan.index - head.k;
+    if length <= 128 {
         return fill_short(set, starts, head, scan, x, out);
     }
-    if moves <= 8192 {
+    if length <= 8192 {
         return fill_long(set, starts, head, scan, x, out);
     }
     fill_longest(set, starts, head, scan, x, out)
 }
 
-// Above k, after the scan. Of index − k + 1 letters without room the attempt is Full whether or not it would be refused.
-fn ins_sub_correction(set: &[u8], starts: &[u32], head: Header, scan: Scan, kmer: Kmer, out: &mut [u8]) -> Attempt
+// Above k, after the scan. Without room for index − k + 1 letters the attempt is Full even if it would be refused, since the bases that
+// the scan passed have no room either.
+fn ins_sub_correction(
+    set: &[u8],
+    starts: &[u32],
+    head: Header,
+    scan: Scan,
+    kmer: Kmer,
+    out: &mut [u8],
+) -> Attempt
     requires { ⌜ Ready (now set) (now starts) head × IsKmer (head .k) kmer × (head .k ≤ scan .index) × (scan .lookups < 2 ^ 63) ⌝ }
     ensures { λ r. ⌜
         Attempted (scan .index) (now (out .entry)) (now (out .exit))
@@ -143,4 +194,31 @@ fn after(lookups: u64, attempt: Attempt) -> Attempt
         Attempt::Refused(more) => Attempt::Refused(lookups + more),
         Attempt::Full => Attempt::Full,
     }
+}
+
+// kmer is the bad k-mer, s the rest of the read at its bad base. The scan decides, and is made and counted once.
+pub fn correct_error(
+    set: &[u8],
+    starts: &[u32],
+    head: Header,
+    c: u8,
+    kmer: Kmer,
+    s: &[u8],
+    out: &mut [u8],
+) -> Attempt
+    requires { ⌜ Ready (now set) (now starts) head × IsKmer (head .k) kmer × (1 ≤ length (now s)) × (1 ≤ c) ⌝ }
+    ensures { λ r. ⌜
+        Attempted (errorLen (head .k) (solid (setOf (now (set .entry)))) (kmer .code) (now (s .entry)) .index) (now (out .entry)) (now (out .exit))
+        (gapSize (head .k) (head .n) (solid (setOf (now (set .entry)))) c (now (s .entry)) (kmer .code))
+        r ⌝ }
+{
+    let scan = scan::error_len(set, starts, head, kmer, s);
+    if scan.index < head.k {
+        return graph::from_scan(set, starts, head, scan, kmer, out);
+    }
+    if scan.index == head.k {
+        let one = exist::correct_error(set, starts, head, false, c, kmer, s, out);
+        return after(scan.lookups, one);
+    }
+    ins_sub_correction(set, starts, head, scan, kmer, out)
 }

@@ -55,7 +55,8 @@ told : (c : tie.After-next Inv-loop μ-loop)
     (sole (b .args .head .k) (solid (setOf (b .args .set .now))) (turn c .loop .at .code) .answer ≡ some (next c .code)) × IsKmer (b .args .head .k) (next c)
 told c = subst (NextIs _ _) (c .next .given .1) (c .before .before .sole-next .ensures)
 
-words-after : (c : tie.After-repeats Inv-loop μ-loop) → length (c .repeats .last .1 .1 .1 .1 .1 .0) ≡ length (entry (turn (c .before .before .before .before)) .args .filter .now)
+words-after : (c : tie.After-repeats Inv-loop μ-loop)
+    → length (c .repeats .last .1 .1 .1 .1 .1 .0) ≡ length (entry (turn (c .before .before .before .before)) .args .filter .now)
 words-after c = c .repeats .ensures .same ∙ words (turn (c .before .before .before .before))
 
 add-lookups : tie.Need-add-lookups Inv-loop μ-loop
@@ -68,7 +69,7 @@ note-requires : tie.Need-note-requires Inv-loop μ-loop
 note-requires c κs = c .before .before .before .before .before .before .before .before .before .before .pre .1
 
 sub-moves : tie.Need-sub-moves Inv-loop μ-loop
-sub-moves c = c .before .before .before .before .before .before .before .before .before .before .before .before .before .before .before .pre .0 .above
+sub-moves c = let f = c .before .before .before .before .before .before .before .before .before .before .before .before .before .before .before .pre .0 in omega (arith, f .above, f .ready .shifts .k-low)
 
 loop-holds : tie.Need-loop-holds Inv-loop μ-loop
 loop-holds c =

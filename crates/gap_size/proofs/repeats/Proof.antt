@@ -13,7 +13,9 @@ same-length : tie.Need-same-length
 same-length c = search needs
 
 returns : tie.Need-returns
-returns c = asked-seen (c .before .before .before .before .note .ensures) (c .before .before .before .before .before .before .before .before .pre .1) (c .seen .ensures)
+returns c =
+    let b = c .before .before .before .before .before .before .before .before in
+    asked-seen (c .before .before .before .before .note .ensures) (b .pre .1) (c .seen .ensures)
 
 same-length-2 : tie.Need-same-length-2
 same-length-2 c = search needs

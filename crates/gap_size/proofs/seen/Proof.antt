@@ -43,7 +43,8 @@ add-base-requires c κs = (c .before .before .before .before .before .before .pr
 returns-2 : tie.Need-returns-2 Inv-loop μ-loop
 returns-2 c =
     let l = c .before .before .before .before .before in
-    sym (l .loop .inv .3 ∙ seen-here _ _ _ _ _ _ (c .before .before .before .before .loop-test .taken) (l .loop .inv .1) (c .before .before .add-base .ensures .is) (c .if2 .taken))
+    let lt = c .before .before .before .before .loop-test .taken in
+    sym (l .loop .inv .3 ∙ seen-here _ _ _ _ _ _ lt (l .loop .inv .1) (c .before .before .add-base .ensures .is) (c .if2 .taken))
 
 add-i : tie.Need-add-i Inv-loop μ-loop
 add-i c = omega (arith, c .before .before .before .before .before .loop .inv)
