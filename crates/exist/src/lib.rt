@@ -17,8 +17,8 @@ ghost use Rattle.rules.specs.Exist as rules;
 ghost use Rattle.kmer.specs.Kmer.{Shifts, IsKmer, HasCode};
 ghost use Rattle.set.specs.Ready.{Ready};
 ghost use Rattle.scan.specs.Attempt.{Attempted};
-ghost use Rattle.scenario.specs.Scenario.{numberOf, scenarios, nth, TrialIs, mendOf, Small};
-ghost use Rattle.exist.specs.Exist.{eligibleOf, mendsOf, Held, KeptIs, LetterIs, moreOf, ChoiceIs};
+ghost use Rattle.scenario.specs.Scenario.{numberOf, scenarios, nth, mendOf, Small};
+ghost use Rattle.exist.specs.Exist.{confirm, Eligible, mendsOf, Held, KeptIs, LetterIs, MoreIs, ChoiceIs};
 
 // The scenarios kept, the first `count` of the group, and the lookups of all scenarios.
 pub struct Scenarii {
@@ -50,8 +50,8 @@ fn eligible(
     x: Kmer,
     s: &[u8],
 ) -> Trial
-    requires { ⌜ Ready (now set) (now starts) head × IsKmer (head .k) x × (number < numberOf two) × (c < 256) ⌝ }
-    ensures { λ r. ⌜ TrialIs (head .k) (eligibleOf (head .k) (solid (setOf (now (set .entry)))) c (now (s .entry)) (nth (scenarios two (head .k) (solid (setOf (now (set .entry)))) (x .code) (now (s .entry))) number)) r ⌝ }
+    requires { ⌜ Ready (now set) (now starts) head × IsKmer (head .k) x × (number < numberOf two) × (1 ≤ c) × (c < 256) ⌝ }
+    ensures { λ r. ⌜ Eligible (head .k) (solid (setOf (now (set .entry)))) c (now (s .entry)) (nth (scenarios two (head .k) (solid (setOf (now (set .entry)))) (x .code) (now (s .entry))) number) r ⌝ }
 {
     let trial = scenario::apply(set, starts, head, two, number, x, s);
     let lookups = trial.lookups;
@@ -178,7 +178,7 @@ fn one_more(
     mend: Mend,
 ) -> More
     requires { ⌜ Ready (now set) (now starts) head × IsKmer (head .k) kmer × (c < 256) × Small mend ⌝ }
-    ensures { λ r. ⌜ moreOf (mendOf mend) r ≡ rules.oneMore (head .k) (solid (setOf (now (set .entry)))) c (now (s .entry)) (kmer .code) (mendOf mend) ⌝ }
+    ensures { λ r. ⌜ MoreIs (mendOf mend) (rules.oneMore (head .k) (solid (setOf (now (set .entry)))) c (now (s .entry)) (kmer .code) (mendOf mend)) r ⌝ }
 {
     let resume = mend.resume;
     let end = c + resume + 1;
@@ -213,8 +213,12 @@ fn choose(
     if count == 1 {
         return Choice::Mend(kept[0], 0);
     }
-    let mut chosen = kept[0];
-    let mut remaining = 0;
+    let mut chosen = Mend {
+        code: 0,
+        letters: 0,
+        resume: 0,
+    };
+    let mut remaining: usize = 0;
     let mut lookups = 0;
     for i in 0..count {
         let mend = kept[i];

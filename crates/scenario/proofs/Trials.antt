@@ -1,7 +1,7 @@
 -- The trials of Two, and what their lookups answer.
 use Prim.Native.Nat.{ℕ, _+_, _≤_, _<_, zero-le}
 use native.Mathlib.Omega.{arith}
-use mathlib.Core.Path.{_≡_, refl, sym, ap, _∙_}
+use mathlib.Core.Path.{_≡_, refl, sym, ap, _∙_, subst}
 use mathlib.Core.Bool.{Bool, true, false}
 use mathlib.Core.Option.{Option, none, some}
 use mathlib.Core.List.{List}
@@ -12,6 +12,9 @@ use Rattle.rules.specs.Counted.{Try, refuse, give, after, next, _>>=_, _>>_}
 use Rattle.rules.specs.Scan.{isSolid, notSolid, sole}
 use Rattle.rules.specs.Exist.{Scenario, row, with, one, two}
 use Rattle.scan.specs.declared.Next.{Next}
+use Rattle.kmer.specs.declared.Kmer.{Kmer as KmerOf}
+use Rattle.kmer.specs.Kmer.{IsKmer}
+use Rattle.scan.specs.declared.Next.the-variants.{Kmer, Refused}
 use Rattle.scan.specs.Scan.{NextIs}
 use Rattle.scan.proofs.Laws.{sole-lookups}
 use Rattle.scenario.specs.declared.Trial.{Trial}
@@ -29,6 +32,16 @@ trial-long s sc h = rw (le-ltb (length s) (sc .least) h, trialOf)
 pub trial-is : {k : ℕ} {t : Try ℕ} {o : Option ℕ} {l : ℕ} (n : Next) → t ≡ record { answer = o; lookups = l } → NextIs k o n → l ≤ 7
     → TrialIs k t (record { tried = n; lookups = l })
 trial-is {k} n e q h = record { tried = rw e q; lookups = ap (λ (t : Try ℕ). t .lookups) e; few = h }
+
+-- what a trial's result says of it
+pub trial-refused : (k : ℕ) (t : Try ℕ) (r : Trial) → TrialIs k t r → r .tried ≡ Refused → t ≡ record { answer = none; lookups = r .lookups }
+trial-refused k t r q e = let a = subst (NextIs k (t .answer)) e (q .tried) in λ i. record { answer = a i; lookups = q .lookups i }
+
+pub trial-given : (k : ℕ) (t : Try ℕ) (r : Trial) (y : KmerOf) → TrialIs k t r → r .tried ≡ Kmer y
+    → (t ≡ record { answer = some (y .code); lookups = r .lookups }) × IsKmer k y
+trial-given k t r y q e =
+    let a = subst (NextIs k (t .answer)) e (q .tried) in
+    (λ i. record { answer = a .0 i; lookups = q .lookups i }, a .1)
 
 pub sole-is : (k : ℕ) (sol : ℕ → Bool) (y : ℕ) (n : Next) → NextIs k (sole k sol y .answer) n
     → TrialIs k (sole k sol y) (record { tried = n; lookups = 4 })
@@ -60,14 +73,23 @@ module _ (k : ℕ) (sol : ℕ → Bool) where
   unfolding notSolid
   not-no y e = rw (e, notSolid)
 
--- m answers a, or refuses, after l lookups
-refused-then : {A B : Type 0} {m : Try A} {l : ℕ} (n : Try B) → m ≡ record { answer = none; lookups = l } → m >> n ≡ record { answer = none; lookups = l }
-unfolding _>>_ _>>=_ next after refuse
-refused-then {l = l} n e = rw e (let z : l + 0 ≡ l = omega arith in λ i. record { answer = none; lookups = z i })
+-- m refuses, or answers a, after l lookups
+pub refused-bind : {A B : Type 0} {m : Try A} {l : ℕ} (f : A → Try B) → m ≡ record { answer = none; lookups = l }
+    → m >>= f ≡ record { answer = none; lookups = l }
+unfolding _>>=_ next after refuse
+refused-bind {l = l} f e = rw e (let z : l + 0 ≡ l = omega arith in λ i. record { answer = none; lookups = z i })
 
-given-then : {A B : Type 0} {m : Try A} {a : A} {l : ℕ} (n : Try B) → m ≡ record { answer = some a; lookups = l } → m >> n ≡ after l n
-unfolding _>>_ _>>=_ next after
-given-then n e = rw e refl
+pub given-bind : {A B : Type 0} {m : Try A} {a : A} {l : ℕ} (f : A → Try B) → m ≡ record { answer = some a; lookups = l } → m >>= f ≡ after l (f a)
+unfolding _>>=_ next after
+given-bind f e = rw e refl
+
+pub refused-then : {A B : Type 0} {m : Try A} {l : ℕ} (n : Try B) → m ≡ record { answer = none; lookups = l } → m >> n ≡ record { answer = none; lookups = l }
+unfolding _>>_
+refused-then n e = refused-bind (λ a. n) e
+
+pub given-then : {A B : Type 0} {m : Try A} {a : A} {l : ℕ} (n : Try B) → m ≡ record { answer = some a; lookups = l } → m >> n ≡ after l n
+unfolding _>>_
+given-then n e = given-bind (λ a. n) e
 
 module _ (k : ℕ) (sol : ℕ → Bool) (x : ℕ) (s : List ℕ) where
   -- ---- SS, ICS
@@ -104,9 +126,9 @@ module _ (k : ℕ) (sol : ℕ → Bool) (x : ℕ) (s : List ℕ) where
   abbrev trial : ℕ → Try ℕ
   trial n = nth (two k sol x s) n .trial
 
-  pub trial-given : (n : ℕ) → n < 2 → trial n ≡ give x
+  pub trial-x : (n : ℕ) → n < 2 → trial n ≡ give x
   unfolding nth two row
-  trial-given n h = range (λ i. trial i ≡ give x) 0 2 (refl, (refl, tt)) n (omega arith) (omega arith)
+  trial-x n h = range (λ i. trial i ≡ give x) 0 2 (refl, (refl, tt)) n (omega arith) (omega arith)
 
   pub trial-sole : (n : ℕ) → 3 ≤ n → n < 5 → trial n ≡ sole k sol x
   unfolding nth two row

@@ -1,3 +1,4 @@
+use Rattle.exist.proofs.Letters.{letter-is}
 use borrow.Author.Needs.{needs}
 use Rattle.exist.proofs.letter_at.Statement.{statement}
 use Rattle.exist.proofs.letter_at.Tie as tie
@@ -22,7 +23,7 @@ shr-result c = search needs
 
 -- src/lib.rt:191:1
 returns : tie.Need-returns
-returns c = ?
+returns c = letter-is _ _ (c .before .before .pre .1)
 
 pub letter-at-spec : {M : Type 1} → statement M
 letter-at-spec = tie.close (tie.spec sub-result sub-result-2 mul-result shr-result returns)

@@ -10,7 +10,7 @@ use Rattle.scan.specs.declared.Next.the-variants.{Kmer, Refused}
 use Rattle.scenario.specs.declared.Trial.{Trial}
 use Rattle.scenario.specs.Scenario.{nth, trialOf, TrialIs}
 use Rattle.scenario.proofs.Numbers.{past}
-use Rattle.scenario.proofs.Trials.{trial-short, trial-long, trial-is, trial-given, trial-sole, trials}
+use Rattle.scenario.proofs.Trials.{trial-short, trial-long, trial-is, trial-x, trial-sole, trials}
 use borrow.Author.Needs.{needs}
 use Rattle.scenario.proofs.two.apply.Statement.{statement}
 use Rattle.scenario.proofs.two.apply.Tie as tie
@@ -138,7 +138,7 @@ returns-10 c =
     let e = c .before .before in
     let r = e .before .before in
     let b = r .before .before .before .before in
-    tried e (number r) refl (trial-given _ _ _ _ (number r) (omega arith)) (trial-is (Kmer (b .args .x)) refl (refl, b .pre .1) (lit≤ tt))
+    tried e (number r) refl (trial-x _ _ _ _ (number r) (omega arith)) (trial-is (Kmer (b .args .x)) refl (refl, b .pre .1) (lit≤ tt))
 
 returns-11 : tie.Need-returns-11
 returns-11 c =
