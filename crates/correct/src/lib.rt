@@ -1,0 +1,286 @@
+// The driver, `Corrector::correct` of src/correct/mod.rs: a pass, which is one read through one method, and a read through a list of
+// methods. Document 01, "Driver".
+use kmer::{Header, Kmer};
+ghost use mathlib.Core.Path.{_≡_};
+ghost use mathlib.Core.Bool.{true, false};
+ghost use Prim.Native.Nat.{_+_, _≤_, _<_, _^_};
+ghost use lib.ListN.{length, take, drop};
+ghost use Rattle.rules.specs.Letters.{addAll, addBase};
+ghost use Rattle.rules.specs.Set.{setOf, solid};
+ghost use Rattle.rules.specs.Scan.{errorLen};
+ghost use Rattle.rules.specs.Job.{methodOf, correctError, pass};
+ghost use Rattle.kmer.specs.Kmer.{Shifts, IsKmer, HasCode};
+ghost use Rattle.set.specs.Ready.{Ready};
+ghost use Rattle.correct.specs.Attempt.{Attempted};
+ghost use Rattle.correct.specs.Driver.{
+    maxLength,
+    stateOf,
+    unchanged,
+    Stands,
+    Countable,
+    attemptOf,
+    endOf,
+    Kept,
+    Mended,
+    Turning,
+    BadAt,
+    TurnIs,
+    PassIs,
+    Passed
+};
+
+pub enum Attempt {
+    Mend(usize, usize, u64),
+    Refused(u64),
+    Full,
+}
+
+// What was written and counted.
+pub struct Counts {
+    pub written: usize,
+    pub turns: u64,
+    pub lookups: u64,
+    pub attempts: u64,
+    pub accepted: u64,
+}
+
+// Full: the result is longer than the output.
+pub enum Pass {
+    Done(Counts),
+    Full,
+}
+
+// Where a pass stands: the k-mer, whether the previous one counts as solid, the index of the next base, and what is done.
+pub struct Place {
+    pub kmer: Kmer,
+    pub previous: bool,
+    pub at: usize,
+    pub done: Counts,
+}
+
+// Full: what the turn has to write, or what comes after it, does not fit.
+pub enum Turned {
+    To(Place),
+    Full,
+}
+
+fn copy(src: &[u8], dst: &mut [u8])
+    requires { ⌜ length (now src) ≤ length (now dst) ⌝ }
+    ensures { λ _. ⌜ take (length (now (src .entry))) (now (dst .exit)) ≡ now (src .entry) ⌝ }
+{
+    for i in 0..src.len() {
+        dst[i] = src[i];
+    }
+}
+
+// An attempt under a method, kmer being the bad k-mer and s the rest of the read at its bad base.
+fn correct_error(
+    set: &[u8],
+    starts: &[u32],
+    head: Header,
+    method: u8,
+    c: u8,
+    kmer: Kmer,
+    s: &[u8],
+    out: &mut [u8],
+) -> Attempt
+    requires { ⌜ Ready (now set) (now starts) head × IsKmer (head .k) kmer × (1 ≤ length (now s)) × (1 ≤ c) ⌝ }
+    ensures { λ r. ⌜ Attempted (errorLen (head .k) (solid (setOf (now (set .entry)))) (kmer .code) (now (s .entry)) .index) (now (out .entry)) (now (out .exit)) (attemptOf (now (set .entry)) c method (now (s .entry)) (kmer .code)) r ⌝ }
+{
+    Attempt::Full
+}
+
+fn add_letters(kmer: Kmer, letters: &[u8], head: Header) -> Kmer
+    requires { ⌜ Shifts head × IsKmer (head .k) kmer ⌝ }
+    ensures { λ r. ⌜ HasCode (head .k) (addAll (head .k) (kmer .code) (now (letters .entry))) r ⌝ }
+{
+    let mut y = kmer;
+    for i in 0..letters.len() {
+        y = kmer::add_nuc_to_end(y, kmer::nuc2bit(letters[i]), head);
+    }
+    y
+}
+
+// The base is written, its k-mer becomes the k-mer, and solid says what its lookup answered.
+fn keep(p: Place, base: u8, kmer: Kmer, solid: bool, attempts: u64, lookups: u64, out: &mut [u8]) -> Turned
+    requires { ⌜ (p .at < 2 ^ 63) × (p .done .turns < 2 ^ 63) × (p .done .lookups + (1 + lookups) < 2 ^ 64) × (p .done .attempts + attempts < 2 ^ 64) ⌝ }
+    ensures { λ r. ⌜ Kept p base kmer solid attempts lookups (now (out .entry)) (now (out .exit)) r ⌝ }
+{
+    let w = p.done.written;
+    if out.len() <= w {
+        return Turned::Full;
+    }
+    out[w] = base;
+    Turned::To(Place {
+        kmer,
+        previous: solid,
+        at: p.at + 1,
+        done: Counts {
+            written: w + 1,
+            turns: p.done.turns + 1,
+            lookups: p.done.lookups + (1 + lookups),
+            attempts: p.done.attempts + attempts,
+            accepted: p.done.accepted,
+        },
+    })
+}
+
+// The letters of an accepted attempt stand in the output already. The bad k-mer takes them in place of its last letter, and the pass
+// goes on `resume` bases further, or at the end of the read's `len`.
+fn mend(p: Place, bad: Kmer, letters: &[u8], resume: usize, lookups: u64, len: usize, head: Header) -> Place
+    requires { ⌜ Shifts head × IsKmer (head .k) bad × (p .at ≤ len) × (p .done .written + length (now letters) < 2 ^ 64) ⌝ }
+    requires { ⌜ (p .done .turns < 2 ^ 63) × (p .done .lookups + (1 + lookups) < 2 ^ 64) × (p .done .attempts < 2 ^ 63) × (p .done .accepted < 2 ^ 63) ⌝ }
+    ensures { λ r. ⌜ Mended (head .k) p (bad .code) (now (letters .entry)) resume lookups len r ⌝ }
+{
+    let mut at = len;
+    if resume < len - p.at {
+        at = p.at + resume;
+    }
+    Place {
+        kmer: add_letters(kmer::drop_last(bad, head), letters, head),
+        previous: true,
+        at,
+        done: Counts {
+            written: p.done.written + letters.len(),
+            turns: p.done.turns + 1,
+            lookups: p.done.lookups + (1 + lookups),
+            attempts: p.done.attempts + 1,
+            accepted: p.done.accepted + 1,
+        },
+    }
+}
+
+// A turn at a base whose k-mer is not solid while the previous was.
+fn bad_base(
+    set: &[u8],
+    starts: &[u32],
+    head: Header,
+    method: u8,
+    c: u8,
+    p: Place,
+    bad: Kmer,
+    read: &[u8],
+    out: &mut [u8],
+) -> Turned
+    requires { ⌜ Turning (now set) (now starts) head method c p (now read) (now out) ⌝ }
+    requires { ⌜ BadAt (now set) head p bad (now read) ⌝ }
+    ensures { λ r. ⌜ TurnIs (now (set .entry)) head method c p (now (read .entry)) (now (out .entry)) (now (out .exit)) r ⌝ }
+{
+    let at = p.at;
+    let w = p.done.written;
+    let tried = correct_error(set, starts, head, method, c, bad, &read[at..], &mut out[w..]);
+    match tried {
+        Attempt::Mend(n, resume, lookups) => {
+            let end = w + n;
+            Turned::To(mend(p, bad, &out[w..end], resume, lookups, read.len(), head))
+        }
+        Attempt::Refused(lookups) => keep(p, read[at], bad, false, 1, lookups, out),
+        Attempt::Full => Turned::Full,
+    }
+}
+
+fn turn(
+    set: &[u8],
+    starts: &[u32],
+    head: Header,
+    method: u8,
+    c: u8,
+    p: Place,
+    read: &[u8],
+    out: &mut [u8],
+) -> Turned
+    requires { ⌜ Turning (now set) (now starts) head method c p (now read) (now out) ⌝ }
+    ensures { λ r. ⌜ TurnIs (now (set .entry)) head method c p (now (read .entry)) (now (out .entry)) (now (out .exit)) r ⌝ }
+{
+    let at = p.at;
+    let base = read[at];
+    let next = kmer::add_nuc_to_end(p.kmer, kmer::nuc2bit(base), head);
+    if set::get(set, starts, head, next) {
+        return keep(p, base, next, true, 0, 0, out);
+    }
+    let previous = p.previous;
+    if !previous {
+        return keep(p, base, next, false, 0, 0, out);
+    }
+    bad_base(set, starts, head, method, c, p, next, read, out)
+}
+
+// Turns until no base is left.
+fn turns_of(
+    set: &[u8],
+    starts: &[u32],
+    head: Header,
+    method: u8,
+    c: u8,
+    first: Place,
+    read: &[u8],
+    out: &mut [u8],
+) -> Pass
+    requires { ⌜ Ready (now set) (now starts) head × (1 ≤ c) × Stands (head .k) first (now read) (now out) × Countable (endOf (now set) head method c (stateOf first (now read) (now out))) ⌝ }
+    ensures { λ r. ⌜ PassIs (now (out .entry)) (now (out .exit)) (endOf (now (set .entry)) head method c (stateOf first (now (read .entry)) (now (out .entry)))) r ⌝ }
+{
+    let mut p = first;
+    while p.at < read.len() {
+        let Turned::To(next) = turn(set, starts, head, method, c, p, read, out) else {
+            return Pass::Full;
+        };
+        p = next;
+    }
+    let done = p.done;
+    Pass::Done(done)
+}
+
+// The read as it is, with nothing counted.
+fn copied(read: &[u8], out: &mut [u8]) -> Pass
+    ensures { λ r. ⌜ PassIs (now (out .entry)) (now (out .exit)) (unchanged (now (read .entry))) r ⌝ }
+{
+    if out.len() < read.len() {
+        return Pass::Full;
+    }
+    copy(read, out);
+    Pass::Done(Counts {
+        written: read.len(),
+        turns: 0,
+        lookups: 0,
+        attempts: 0,
+        accepted: 0,
+    })
+}
+
+// One pass. Shorter than k: unchanged. Else 1 lookup for the first k-mer, copied, and the turns.
+pub fn correct(
+    set: &[u8],
+    starts: &[u32],
+    head: Header,
+    method: u8,
+    c: u8,
+    read: &[u8],
+    out: &mut [u8],
+) -> Pass
+    requires { ⌜ Ready (now set) (now starts) head × (1 ≤ c) × (length (now read) ≤ maxLength) ⌝ }
+    ensures { λ r. ⌜ Passed (now (out .entry)) (now (out .exit)) (pass (setOf (now (set .entry))) c (methodOf method) (now (read .entry))) r ⌝ }
+{
+    let k = head.k;
+    if read.len() < k {
+        return copied(read, out);
+    }
+    if out.len() < k {
+        return Pass::Full;
+    }
+    copy(&read[..k], out);
+    let kmer = kmer::seq2bit(read, head);
+    let previous = set::get(set, starts, head, kmer);
+    let first = Place {
+        kmer,
+        previous,
+        at: k,
+        done: Counts {
+            written: k,
+            turns: 0,
+            lookups: 1,
+            attempts: 0,
+            accepted: 0,
+        },
+    };
+    turns_of(set, starts, head, method, c, first, read, out)
+}
