@@ -8,7 +8,7 @@ use mathlib.Core.Bool.{Bool, true, false}
 use mathlib.Core.Option.{Option, none, some}
 use mathlib.Core.List.{List, [], _∷_, _++_}
 use lib.ListN.{length, getD, take, drop, set, length-append, length-drop, length-set, drop-of-length-le}
-use lib.Seq.{drop-cons, drop-drop, take-suc-set, length-take-le}
+use lib.Seq.{drop-cons, drop-drop, take-suc-set, take-at, drop-at, take-append-add, length-take-le}
 use Rattle.rules.specs.Letters.{addBase, inPlace}
 use Rattle.rules.specs.Set.{setOf, solid}
 use Rattle.rules.specs.Counted.{Try}
@@ -25,7 +25,11 @@ use Rattle.set.specs.Ready.{Ready}
 use Rattle.correct.specs.declared.Place.{Place}
 use Rattle.correct.specs.declared.Turned.{Turned}
 use Rattle.correct.specs.declared.Turned.the-variants.{To, Full}
+use Rattle.correct.specs.declared.Attempt.{Attempt}
+use Rattle.correct.specs.declared.Attempt.the-variants.{Mend as Mends, Refused, Full as NoRoom}
+use Rattle.correct.specs.Attempt.{Attempted}
 use Rattle.correct.specs.Driver.{stateOf, Stands, Countable, attemptOf, turnOf, endOf, Kept, Mended, Turning, BadAt, TurnIs}
+use Rattle.correct.proofs.Parts.{tail-back}
 use Rattle.correct.proofs.Ends.{Within, turnsOf-within, turn-within, refused-within}
 
 -- k is the set's
@@ -196,3 +200,74 @@ module _ (bytes starts : List ℕ) (head : Header) (method c : ℕ) (p : Place) 
             done-within _ (mended-turn m weak prev a) .bytes,
             length-append (take w out) (m .letters),
           )
+
+  -- ---- an attempt at the bad k-mer, which left l in the output behind what is written
+
+  module _ (bad : Kmer) (f : BadAt bytes head p bad read) (l : List ℕ) where
+    abbrev pub Tried : Attempt → Type 0
+    Tried = Attempted (errorLen k sol (bad .code) (b ∷ s) .index) (drop w out) l (ce (b ∷ s) (bad .code))
+
+    weak : sol y ≡ false
+    weak = rw (← (f .kmer .is)) (f .weak)
+
+    taken : length (take w out) ≡ w
+    taken = length-take-le w out (t .stands .written)
+
+    pub length-back : length l ≡ length (drop w out) → length (take w out ++ l) ≡ length out
+    length-back e = omega (arith, e, length-append (take w out) l, taken, length-drop w out, t .stands .written)
+
+    refused-keep : (n : ℕ) → Tried (Refused n) → turnOf bytes head method c st b s ≡ keepBase st b s y false 1 n
+    refused-keep n a =
+        let at-y = rw (f .kmer .is) at (a .is) in
+        refused-turn weak (f .previous) (at-y .0) ∙ ap (keepBase st b s y false 1) (at-y .1)
+
+    pub refused-fits : (n : ℕ) → Tried (Refused n) → (p .done .turns < 2 ^ 63) × (p .done .lookups + (1 + n) < 2 ^ 64) × (p .done .attempts + 1 < 2 ^ 64)
+    refused-fits n a = keep-fits false 1 n (refused-keep n a)
+
+    pub refused-is : (n : ℕ) (out′ : List ℕ) (r : Turned) → Tried (Refused n) → Kept p b bad false 1 n (take w out ++ l) out′ r
+        → TurnIs bytes head method c p read out out′ r
+    refused-is n out′ r a kept =
+        kept-is bad false 1 n (take w out ++ l) out′ r (f .kmer) (take-at (take w out) l w taken) (length-back (a .room)) (refused-keep n a) kept
+
+    mended-base : (n r q : ℕ) → Tried (Mends n r q)
+        → turnOf bytes head method c st b s ≡ mendBase k st (b ∷ s) y (record { letters = take n l; resume = r }) q
+    mended-base n r q a =
+        let at-y = rw (f .kmer .is) at (a .is) in
+        let m : Mend = record { letters = take n l; resume = r } in
+        mended-turn m weak (f .previous) (at-y .0) ∙ ap (mendBase k st (b ∷ s) y m) (at-y .2)
+
+    pub mended-fits : (n r q : ℕ) → Tried (Mends n r q)
+        → (p .done .turns < 2 ^ 63) × (p .done .lookups + (1 + q) < 2 ^ 64) × (p .done .attempts < 2 ^ 63) × (p .done .accepted < 2 ^ 63)
+    mended-fits n r q a = mend-fits _ q (mended-base n r q a)
+
+    -- the letters, as the part `&out[w..w + n]` of the output that came back
+    pub letters-back : (n : ℕ) → take (w + n - w) (drop w (take w out ++ (l ++ drop (length out - w) (drop w out)))) ≡ take n l
+    letters-back n =
+        let e : w + n - w ≡ n = omega arith in
+        rw (e, tail-back out l w, drop-at (take w out) l w taken)
+
+    pub mended-place : (n r q : ℕ) (place : Place) → Tried (Mends n r q) → Mended k p (bad .code) (take n l) r q (length read) place
+        → TurnIs bytes head method c p read out (take w out ++ l) (To place)
+    mended-place n r q place a d =
+        let len : length (take n l) ≡ n = length-take-le n l (a .is .1) in
+        let joined = take-append-add (take w out) l n in
+        mended-is (record { letters = take n l; resume = r }) q (take w out ++ l) place (rw (f .kmer .is) at d)
+        (rw len (rw taken at joined)) (omega (arith, length-append (take w out) l, taken, a .is .1)) (mended-base n r q a)
+
+    pub no-room : Tried NoRoom → TurnIs bytes head method c p read out out Full
+    no-room a = let at-y = rw (f .kmer .is) at (a .is) in full-is weak (f .previous) (at-y .0) (at-y .1)
+
+  -- ---- the loop of turns: after a turn the end of the pass is the same, and fewer turns can come
+
+  module _ (p′ : Place) (out′ : List ℕ) (did : TurnIs bytes head method c p read out out′ (To p′)) where
+    pub same-end : endOf bytes head method c (stateOf p′ read out′) ≡ endOf bytes head method c st
+    unfolding stateOf
+    same-end =
+        ap (endOf bytes head method c) (did .0)
+        ∙ sym (ap (λ (q : State). q .done) (finish-step k sol ce (ready-steady (t .ready) method c (t .confirm)) st b s rest-is))
+
+    pub fewer-left : left k sol ce (p′ .kmer .code) (drop (p′ .at) read) < left k sol ce (p .kmer .code) (drop (p .at) read)
+    unfolding stateOf
+    fewer-left =
+        let e = ap (λ (q : State). left k sol ce (q .kmer) (q .rest)) (did .0) in
+        rw rest-is (omega (arith, e, left-step k sol ce (ready-steady (t .ready) method c (t .confirm)) st b s))

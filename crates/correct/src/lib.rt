@@ -85,7 +85,7 @@ fn correct_error(
     out: &mut [u8],
 ) -> Attempt
     requires { ⌜ Ready (now set) (now starts) head × IsKmer (head .k) kmer × (1 ≤ length (now s)) × (1 ≤ c) ⌝ }
-    ensures { λ r. ⌜ Attempted (errorLen (head .k) (solid (setOf (now (set .entry)))) (kmer .code) (now (s .entry)) .index) (now (out .entry)) (now (out .exit)) (attemptOf (now (set .entry)) c method (now (s .entry)) (kmer .code)) r ⌝ }
+    ensures { λ r. ⌜ Attempted (errorLen (head .k) (solid (setOf (now (set .entry)))) (kmer .code) (now (s .entry)) .index) (now (out .entry)) (now (out .exit)) (attemptOf (now (set .entry)) method c (now (s .entry)) (kmer .code)) r ⌝ }
 {
     Attempt::Full
 }

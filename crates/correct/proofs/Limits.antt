@@ -1,0 +1,50 @@
+-- A pass's counts stay within limits that the length of what it is fed sets, whatever the set. Serves the counters: they never wrap.
+use Prim.Native.Nat.{ℕ, zero, suc, _+_, _*_, _-_, _≤_, _<_}
+use native.Mathlib.Omega.{arith}
+use native.Mathlib.Decide.{decLe}
+use native.Mathlib.Nat.{le-refl, le-trans, mul-le-mul-left, mul-le-mul-right}
+use borrow.Author.Tests.{le-ltb, lt-ltb}
+use mathlib.Core.Path.{_≡_, refl, sym, ap, _∙_, subst}
+use mathlib.Core.Option.{none}
+use mathlib.Core.List.{List, [], _∷_}
+use lib.ListN.{length}
+use Rattle.rules.specs.Set.{KmerSet, solid, setCheck, setOf, headerN, keysFrom}
+use Rattle.rules.specs.Driver.{Pass, begin, drive}
+use Rattle.rules.specs.Job.{Method, One, Two, Graph, GapSize, correctError, pass}
+use Rattle.rules.specs.Counts.{F}
+use Rattle.rules.proofs.Driver.{drive-turns}
+use Rattle.rules.proofs.Lookups.{drive-lookups}
+use Rattle.rules.proofs.Demands.{fair, steady}
+use Rattle.set.proofs.Opened.{opened-k-low, opened-k-high, opened-n-le}
+use Rattle.correct.proofs.Ends.{Fewer, turnsOf-fewer}
+
+-- The largest F of demand 3: GapSize's, at k = 31, confirm 255 and 16,777,216 keys.
+abbrev pub maxF : ℕ
+maxF = 503317293
+
+-- What a pass that is fed w bytes can count.
+pub record Limited (w : ℕ) (p : Pass) : Type 0 where
+  pub turns : p .turns ≤ 2 * w
+  pub lookups : p .lookups ≤ 1 + w * maxF
+  pub attempts : p .attempts ≤ 2 * w
+  pub accepted : p .accepted ≤ 2 * w
+
+length-keys : (bytes : List ℕ) (i n : ℕ) → length (keysFrom bytes i n) ≡ n
+unfolding keysFrom
+length-keys bytes i zero = refl
+length-keys bytes i (suc n) = ap suc (length-keys bytes (suc i) n)
+
+module _ (bytes : List ℕ) (opens : setCheck bytes ≡ none) (c : ℕ) (c-low : 1 ≤ c) (c-high : c < 256) where
+  F-le : (m : Method) → F (setOf bytes) c m ≤ maxF
+  unfolding F setOf
+  F-le One = omega arith
+  F-le Two = omega arith
+  F-le Graph = omega (arith, length-keys bytes 0 (headerN bytes), opened-n-le bytes opens)
+  F-le GapSize = omega (arith, length-keys bytes 0 (headerN bytes), opened-n-le bytes opens, opened-k-high bytes opens)
+
+  k-low : 1 ≤ setOf bytes .k
+  unfolding setOf
+  k-low = opened-k-low bytes opens
+
+  pub pass-limited : (m : Method) (fed : List ℕ) → Limited (length fed) (pass (setOf bytes) c m fed)
+  pass-limited m fed = ?
