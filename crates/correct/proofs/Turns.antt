@@ -25,9 +25,9 @@ use Rattle.set.specs.Ready.{Ready}
 use Rattle.correct.specs.declared.Place.{Place}
 use Rattle.correct.specs.declared.Turned.{Turned}
 use Rattle.correct.specs.declared.Turned.the-variants.{To, Full}
-use Rattle.correct.specs.declared.Attempt.{Attempt}
-use Rattle.correct.specs.declared.Attempt.the-variants.{Mend as Mends, Refused, Full as NoRoom}
-use Rattle.correct.specs.Attempt.{Attempted}
+use Rattle.scan.specs.declared.Attempt.{Attempt}
+use Rattle.scan.specs.declared.Attempt.the-variants.{Mend as Mends, Refused, Full as NoRoom}
+use Rattle.scan.specs.Attempt.{Attempted}
 use Rattle.correct.specs.Driver.{stateOf, Stands, Countable, attemptOf, turnOf, endOf, Kept, Mended, Turning, BadAt, TurnIs}
 use Rattle.correct.proofs.Parts.{tail-back}
 use Rattle.correct.proofs.Ends.{Within, turnsOf-within, turn-within, refused-within}

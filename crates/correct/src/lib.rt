@@ -1,6 +1,7 @@
 // The driver, `Corrector::correct` of src/correct/mod.rs: a pass, which is one read through one method, and a read through a list of
 // methods. Document 01, "Driver".
 use kmer::{Header, Kmer};
+use scan::Attempt;
 ghost use mathlib.Core.Path.{_≡_};
 ghost use mathlib.Core.Bool.{true, false};
 ghost use Prim.Native.Nat.{_+_, _≤_, _<_, _^_};
@@ -11,7 +12,7 @@ ghost use Rattle.rules.specs.Scan.{errorLen};
 ghost use Rattle.rules.specs.Job.{methodOf, correctError, pass};
 ghost use Rattle.kmer.specs.Kmer.{Shifts, IsKmer, HasCode};
 ghost use Rattle.set.specs.Ready.{Ready};
-ghost use Rattle.correct.specs.Attempt.{Attempted};
+ghost use Rattle.scan.specs.Attempt.{Attempted};
 ghost use Rattle.correct.specs.Driver.{
     maxLength,
     stateOf,
@@ -28,12 +29,6 @@ ghost use Rattle.correct.specs.Driver.{
     PassIs,
     Passed
 };
-
-pub enum Attempt {
-    Mend(usize, usize, u64),
-    Refused(u64),
-    Full,
-}
 
 // What was written and counted.
 pub struct Counts {
@@ -96,7 +91,7 @@ fn add_letters(kmer: Kmer, letters: &[u8], head: Header) -> Kmer
 {
     let mut y = kmer;
     for i in 0..letters.len() {
-        y = kmer::add_nuc_to_end(y, kmer::nuc2bit(letters[i]), head);
+        y = scan::add_base(y, letters[i], head);
     }
     y
 }
@@ -194,7 +189,7 @@ fn turn(
 {
     let at = p.at;
     let base = read[at];
-    let next = kmer::add_nuc_to_end(p.kmer, kmer::nuc2bit(base), head);
+    let next = scan::add_base(p.kmer, base, head);
     if set::get(set, starts, head, next) {
         return keep(p, base, next, true, 0, 0, out);
     }

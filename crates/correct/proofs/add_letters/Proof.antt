@@ -4,15 +4,10 @@ use mathlib.Core.Path.{_≡_, refl, sym, ap, _∙_}
 use lib.ListN.{length, drop, drop-of-length-le}
 use borrow.Author.Needs.{needs}
 use Rattle.rules.specs.Letters.{addAll}
-use Rattle.rules.proofs.Kmer.{code-lt}
 use Rattle.kmer.specs.Kmer.{IsKmer}
 use Rattle.correct.proofs.Parts.{next-letter}
 use Rattle.correct.proofs.add_letters.Statement.{statement}
 use Rattle.correct.proofs.add_letters.Tie as tie
-use Rattle.correct.proofs.add_letters.Reads as reads
-use Rattle.correct.proofs.add_letters.Lts as lts
-use Rattle.kmer.proofs.add_nuc_to_end.Reads as add-nuc-to-end-reads
-use Rattle.kmer.proofs.nuc2bit.Reads as nuc2bit-reads
 
 abbrev Inv-loop : tie.InvT-loop
 Inv-loop letters head y₀ i₀ i-end y i =
@@ -27,16 +22,11 @@ abbrev μ-loop : tie.MeasureT-loop
 loop-holds : tie.Need-loop-holds Inv-loop μ-loop
 loop-holds c = search needs
 
-shared-slice-read-nuc2bit : tie.Need-shared-slice-read-nuc2bit Inv-loop μ-loop
-shared-slice-read-nuc2bit c = search needs
+shared-slice-read-add-base : tie.Need-shared-slice-read-add-base Inv-loop μ-loop
+shared-slice-read-add-base c = search needs
 
-nuc2bit-requires : tie.Need-nuc2bit-requires Inv-loop μ-loop
-nuc2bit-requires c κs = search needs
-
-add-nuc-to-end-requires : tie.Need-add-nuc-to-end-requires Inv-loop μ-loop
-add-nuc-to-end-requires c κs =
-    let l = c .before .before .before in
-    (l .before .before .pre .0, l .loop .inv .2, rw (c .nuc2bit .ensures) (code-lt _))
+add-base-requires : tie.Need-add-base-requires Inv-loop μ-loop
+add-base-requires c κs = search needs
 
 add-i : tie.Need-add-i Inv-loop μ-loop
 add-i c = search needs
@@ -46,15 +36,14 @@ loop-less c = search needs
 
 loop-again : tie.Need-loop-again Inv-loop μ-loop
 loop-again c =
-    let l = c .before .before .before .before in
+    let l = c .before .before .before in
     let b = l .before .before in
     let i = l .loop .inv in
-    let e = c .add-nuc-to-end .ensures in (
+    let e = c .add-base .ensures in (
       search needs,
       i .1,
       e .kmer,
-      rw (e .is, c .before .nuc2bit .ensures)
-          (sym (next-letter (b .args .head .k) (l .loop .i) _ (b .args .letters .now) (search needs)) ∙ i .3),
+      rw (e .is) (sym (next-letter (b .args .head .k) (l .loop .i) _ (b .args .letters .now) (search needs)) ∙ i .3),
     )
 
 returns : tie.Need-returns Inv-loop μ-loop
@@ -71,9 +60,8 @@ add-letters-spec =
     Inv-loop
     μ-loop
     loop-holds
-    shared-slice-read-nuc2bit
-    nuc2bit-requires
-    add-nuc-to-end-requires
+    shared-slice-read-add-base
+    add-base-requires
     add-i
     loop-less
     loop-again

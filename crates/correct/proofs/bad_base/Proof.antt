@@ -5,7 +5,7 @@ use mathlib.Core.List.{_++_}
 use lib.ListN.{length, take, drop, length-drop}
 use lib.Seq.{length-take-le}
 use borrow.Author.Needs.{needs}
-use Rattle.correct.specs.declared.Attempt.the-variants.{Mend, Refused, Full}
+use Rattle.scan.specs.declared.Attempt.the-variants.{Mend, Refused, Full}
 use Rattle.correct.proofs.Parts.{tail-part, tail-back}
 use Rattle.correct.proofs.Turns.{rest-is, Tried, length-back, refused-fits, refused-is, mended-fits, letters-back, mended-place, no-room}
 use Rattle.correct.proofs.bad_base.Statement.{statement}

@@ -8,51 +8,30 @@ use Rattle.rules.specs.Letters.{addBase}
 use Rattle.rules.specs.Set.{setOf, solid}
 use Rattle.rules.specs.Driver.{keepBase}
 use Rattle.rules.proofs.Driver.{turn-solid, turn-quiet}
-use Rattle.rules.proofs.Kmer.{code-lt}
-use Rattle.kmer.specs.Kmer.{HasCode}
 use Rattle.correct.specs.Driver.{stateOf, attemptOf, turnOf}
 use Rattle.correct.proofs.Turns.{solid-turn, quiet-turn, keep-fits, kept-is}
 use Rattle.correct.proofs.turn.Statement.{statement}
 use Rattle.correct.proofs.turn.Tie as tie
-use Rattle.correct.proofs.turn.Reads as reads
-use Rattle.correct.proofs.turn.Lts as lts
-use Rattle.correct.proofs.bad_base.Reads as bad-base-reads
-use Rattle.correct.proofs.keep.Reads as keep-reads
-use Rattle.kmer.proofs.add_nuc_to_end.Reads as add-nuc-to-end-reads
-use Rattle.kmer.proofs.nuc2bit.Reads as nuc2bit-reads
-use Rattle.set.proofs.get.Reads as get-reads
 
 shared-slice-read-base : tie.Need-shared-slice-read-base
 shared-slice-read-base c = search needs
 
-nuc2bit-requires : tie.Need-nuc2bit-requires
-nuc2bit-requires c κs = search needs
-
-add-nuc-to-end-requires : tie.Need-add-nuc-to-end-requires
-add-nuc-to-end-requires c κs =
-    let s = c .before .before .before .before .before .before in
-    (s .pre .ready .shifts, s .pre .stands .kmer, rw (c .nuc2bit .ensures) (code-lt _))
+add-base-requires : tie.Need-add-base-requires
+add-base-requires c κs = search needs
 
 get-requires : tie.Need-get-requires
 get-requires c κs = search needs
 
--- The next k-mer and its lookup.
-next : (c : tie.After-add-nuc-to-end)
-    → let a = c .before .before .before .before .before .before .before .args in
-    HasCode (a .head .k) (addBase (a .head .k) (a .p .kmer .code) (getD (a .read .now) (a .p .at) 0)) (c .add-nuc-to-end .result)
-next c =
-    let a = c .before .before .before .before .before .before .before .args in
-    rw (← (c .before .nuc2bit .ensures)) (c .add-nuc-to-end .ensures)
-
+-- The next k-mer's lookup.
 answer : (c : tie.After-get)
-    → let a = c .before .before .before .before .before .before .before .before .args in
+    → let a = c .before .before .before .before .before .before .before .args in
     solid (setOf (a .set .now)) (addBase (a .head .k) (a .p .kmer .code) (getD (a .read .now) (a .p .at) 0)) ≡ c .get .result
-answer c = let a = c .before .before .before .before .before .before .before .before .args in rw (← (next (c .before) .is)) (sym (c .get .ensures))
+answer c = rw (← (c .before .add-base .ensures .is)) (sym (c .get .ensures))
 
 keep-requires : tie.Need-keep-requires
 keep-requires c κs =
     let g = c .before .before in
-    let s = g .before .before .before .before .before .before .before .before in
+    let s = g .before .before .before .before .before .before .before in
     let f = keep-fits _ _ _ _ _ _ _ _ (s .pre) true 0 0 (solid-turn _ _ _ _ _ _ _ _ (s .pre) (answer g ∙ c .before .if1 .taken)) in
     (omega (arith, s .good, s .pre .more), f .0, f .1, f .2)
 
@@ -63,14 +42,14 @@ returns : tie.Need-returns
 returns c =
     let q = c .before .before in
     let g = q .before .before .before in
-    let s = g .before .before .before .before .before .before .before .before in
-    kept-is _ _ _ _ _ _ _ _ (s .pre) (g .before .add-nuc-to-end .result) true 0 0 (s .args .out .now) _ (q .keep .result) (next (g .before)) refl refl
+    let s = g .before .before .before .before .before .before .before in
+    kept-is _ _ _ _ _ _ _ _ (s .pre) (g .before .add-base .result) true 0 0 (s .args .out .now) _ (q .keep .result) (g .before .add-base .ensures) refl refl
     (solid-turn _ _ _ _ _ _ _ _ (s .pre) (answer g ∙ q .before .before .if1 .taken)) (q .keep .ensures)
 
 keep-requires-2 : tie.Need-keep-requires-2
 keep-requires-2 c κs =
     let g = c .before .before .before in
-    let s = g .before .before .before .before .before .before .before .before in
+    let s = g .before .before .before .before .before .before .before in
     let f = keep-fits _ _ _ _ _ _ _ _ (s .pre) false 0 0
     (quiet-turn _ _ _ _ _ _ _ _ (s .pre) (answer g ∙ c .before .before .if1 .left) (not-true _ (c .before .if2 .taken))) in
     (omega (arith, s .good, s .pre .more), f .0, f .1, f .2)
@@ -82,15 +61,15 @@ returns-2 : tie.Need-returns-2
 returns-2 c =
     let q = c .before .before in
     let g = q .before .before .before .before in
-    let s = g .before .before .before .before .before .before .before .before in
-    kept-is _ _ _ _ _ _ _ _ (s .pre) (g .before .add-nuc-to-end .result) false 0 0 (s .args .out .now) _ (q .keep2 .result) (next (g .before)) refl refl
+    let s = g .before .before .before .before .before .before .before in
+    kept-is _ _ _ _ _ _ _ _ (s .pre) (g .before .add-base .result) false 0 0 (s .args .out .now) _ (q .keep2 .result) (g .before .add-base .ensures) refl refl
     (quiet-turn _ _ _ _ _ _ _ _ (s .pre) (answer g ∙ q .before .before .before .if1 .left) (not-true _ (q .before .before .if2 .taken))) (q .keep2 .ensures)
 
 bad-base-requires : tie.Need-bad-base-requires
 bad-base-requires c κs =
     let g = c .before .before .before in
-    let s = g .before .before .before .before .before .before .before .before in
-    (s .pre, record { kmer = next (g .before); weak = sym (g .get .ensures) ∙ c .before .before .if1 .left; previous = not-false _ (c .before .if2 .left) })
+    let s = g .before .before .before .before .before .before .before in
+    (s .pre, record { kmer = g .before .add-base .ensures; weak = sym (g .get .ensures) ∙ c .before .before .if1 .left; previous = not-false _ (c .before .if2 .left) })
 
 same-length-3 : tie.Need-same-length-3
 same-length-3 c = search needs
@@ -103,8 +82,7 @@ turn-spec =
     tie.close
     (tie.spec
     shared-slice-read-base
-    nuc2bit-requires
-    add-nuc-to-end-requires
+    add-base-requires
     get-requires
     keep-requires
     same-length

@@ -10,9 +10,6 @@ use Rattle.correct.specs.Driver.{stateOf, Stands, Countable, attemptOf, 
 use Rattle.correct.proofs.Turns.{same-end, fewer-left}
 use Rattle.correct.proofs.turns_of.Statement.{statement}
 use Rattle.correct.proofs.turns_of.Tie as tie
-use Rattle.correct.proofs.turns_of.Reads as reads
-use Rattle.correct.proofs.turns_of.Lts as lts
-use Rattle.correct.proofs.turn.Reads as turn-reads
 
 abbrev Inv-loop : tie.InvT-loop
 Inv-loop set starts head method c read out₀ p₀ out p =
