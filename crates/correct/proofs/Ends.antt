@@ -6,14 +6,17 @@ use mathlib.Core.Path.{_≡_, refl, sym, ap, _∙_, subst}
 use mathlib.Core.Bool.{Bool, true, false}
 use mathlib.Core.Option.{none, some}
 use mathlib.Core.List.{List, [], _∷_, _++_}
-use lib.ListN.{length, take, length-append}
+use borrow.Author.Tests.{le-ltb, lt-ltb}
+use native.Mathlib.Decide.{decLe}
+use lib.ListN.{length, take, drop, length-append, length-drop}
 use lib.Seq.{length-take-le}
 use Rattle.rules.specs.Letters.{addBase}
 use Rattle.rules.specs.Counted.{Try}
 use Rattle.rules.specs.Scan.{errorLen}
 use Rattle.rules.specs.Exist.{Mend}
-use Rattle.rules.specs.Driver.{Pass, State, keepBase, mendBase, turn, turnsOf}
+use Rattle.rules.specs.Driver.{Pass, State, keepBase, mendBase, turn, turnsOf, begin, drive}
 use Rattle.rules.proofs.Scan.{scan-is}
+use Rattle.correct.specs.Driver.{unchanged}
 use Rattle.rules.proofs.Driver.{Case, is-solid, is-quiet, is-refused, is-mended, case, turn-solid, turn-quiet, turn-refused, turn-mended, turnsOf-step, turnsOf-end, Steady, finish, finish-step, refused-kept}
 
 -- a is done by the time that b is
@@ -116,3 +119,28 @@ module _ (k : ℕ) (sol : ℕ → Bool) (ce : List ℕ → ℕ → Try Mend) whe
       let taken = length-take-le i (b ∷ s) high in
       let more = turnsOf-within (n - i) (turnsOf k sol ce i st) .bytes in
       rw (split, turnsOf-add i (n - i) st) (omega arith)
+
+  -- ---- a whole pass
+
+  pub drive-short-is : (read : List ℕ) → length read < k → drive k sol ce read ≡ unchanged read
+  unfolding drive
+  drive-short-is read lt = rw (drive, lt-ltb (length read) k lt)
+
+  pub drive-is : (read : List ℕ) → k ≤ length read → drive k sol ce read ≡ finish k sol ce (begin k sol ce read) .done
+  unfolding drive finish begin
+  drive-is read le =
+      rw (drive, le-ltb (length read) k le)
+      (ap (λ (n : ℕ). turnsOf k sol ce (2 * n) (begin k sol ce read) .done) (sym (length-drop k read)))
+
+  pub drive-fewer : (read : List ℕ) → Fewer (drive k sol ce read)
+  unfolding begin finish
+  drive-fewer read = elim (decLe k (length read)) [
+    | yes le ↦ rw (drive-is read le) (turnsOf-fewer _ (begin k sol ce read) (record { attempts = omega arith; accepted = omega arith }))
+    | no gt ↦ rw (drive-short-is read (omega arith)) (record { attempts = omega arith; accepted = omega arith })
+  ]
+
+  -- the first k-mer is part of the result
+  pub drive-long : (read : List ℕ) → k ≤ length read → k ≤ length (drive k sol ce read .bytes)
+  unfolding begin finish
+  drive-long read le =
+      rw (drive-is read le) (omega (arith, turnsOf-within (2 * length (drop k read)) (begin k sol ce read) .bytes, length-take-le k read le))

@@ -2,3 +2,4 @@ pub mod Parts
 pub mod Ends
 pub mod Turns
 pub mod Limits
+pub mod Passes

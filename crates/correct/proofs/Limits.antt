@@ -13,10 +13,10 @@ use Rattle.rules.specs.Driver.{Pass, begin, drive}
 use Rattle.rules.specs.Job.{Method, One, Two, Graph, GapSize, correctError, pass}
 use Rattle.rules.specs.Counts.{F}
 use Rattle.rules.proofs.Driver.{drive-turns}
-use Rattle.rules.proofs.Lookups.{drive-lookups}
+use Rattle.rules.proofs.Lookups.{drive-lookups, drive-short}
 use Rattle.rules.proofs.Demands.{fair, steady}
 use Rattle.set.proofs.Opened.{opened-k-low, opened-k-high, opened-n-le}
-use Rattle.correct.proofs.Ends.{Fewer, turnsOf-fewer}
+use Rattle.correct.proofs.Ends.{Fewer, drive-fewer}
 
 -- The largest F of demand 3: GapSize's, at k = 31, confirm 255 and 16,777,216 keys.
 abbrev pub maxF : ℕ
@@ -47,4 +47,21 @@ module _ (bytes : List ℕ) (opens : setCheck bytes ≡ none) (c : ℕ) (c-low :
   k-low = opened-k-low bytes opens
 
   pub pass-limited : (m : Method) (fed : List ℕ) → Limited (length fed) (pass (setOf bytes) c m fed)
-  pass-limited m fed = ?
+  unfolding pass
+  pass-limited m fed =
+      let k = setOf bytes .k in
+      let sol = solid (setOf bytes) in
+      let ce = correctError (setOf bytes) c m in
+      let t : drive k sol ce fed .turns ≤ 2 * length fed = omega (arith, drive-turns k sol ce (steady (setOf bytes) k-low c c-low m) fed) in
+      let f = drive-fewer k sol ce fed in
+      record { turns = t; lookups = looked; attempts = omega (arith, f .attempts); accepted = omega (arith, f .accepted) }
+    where
+      looked : drive (setOf bytes .k) (solid (setOf bytes)) (correctError (setOf bytes) c m) fed .lookups ≤ 1 + length fed * maxF
+      looked = elim (decLe (setOf bytes .k) (length fed)) [
+        | yes le ↦ omega (
+          arith,
+          drive-lookups (setOf bytes .k) (solid (setOf bytes)) (correctError (setOf bytes) c m) (F (setOf bytes) c m) (fair (setOf bytes) k-low c c-low m) fed le,
+          mul-le-mul-left (length fed - setOf bytes .k) (F-le m),
+        )
+        | no gt ↦ omega (arith, drive-short (setOf bytes .k) (solid (setOf bytes)) (correctError (setOf bytes) c m) 0 fed (omega arith))
+      ]

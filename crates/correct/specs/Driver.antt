@@ -118,11 +118,11 @@ TurnIs bytes head method c p read out out′ Full = length out < length (endOf b
 abbrev pub unchanged : List ℕ → Rules.Pass
 unchanged read = record { bytes = read; turns = 0; lookups = 0; attempts = 0; accepted = 0 }
 
--- The answer to the rules' pass n: its counts, its bytes at the front of the output; Full exactly where its bytes are more than the output's.
-abbrev pub PassIs : List ℕ → List ℕ → Rules.Pass → Pass → Type 0
-PassIs out out′ n (Done r) = (passOf r out′ ≡ n) × (r .written ≤ length out′)
-PassIs out out′ n TooLong = length out < length (n .bytes)
+-- The answer to the rules' pass n: its counts, and its bytes at the front of the output; Full where they are more than its room.
+abbrev pub PassIs : ℕ → List ℕ → Rules.Pass → Pass → Type 0
+PassIs room out n (Done r) = (passOf r out ≡ n) × (r .written ≤ length out)
+PassIs room out n TooLong = room < length (n .bytes)
 
 pub record Passed (out out′ : List ℕ) (n : Rules.Pass) (r : Pass) : Type 0 where
-  pub is : PassIs out out′ n r
+  pub is : PassIs (length out) out′ n r
   pub room : length out′ ≡ length out

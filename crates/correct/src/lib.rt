@@ -212,7 +212,7 @@ fn turns_of(
     out: &mut [u8],
 ) -> Pass
     requires { ⌜ Ready (now set) (now starts) head × (1 ≤ c) × Stands (head .k) first (now read) (now out) × Countable (endOf (now set) head method c (stateOf first (now read) (now out))) ⌝ }
-    ensures { λ r. ⌜ PassIs (now (out .entry)) (now (out .exit)) (endOf (now (set .entry)) head method c (stateOf first (now (read .entry)) (now (out .entry)))) r ⌝ }
+    ensures { λ r. ⌜ PassIs (length (now (out .entry))) (now (out .exit)) (endOf (now (set .entry)) head method c (stateOf first (now (read .entry)) (now (out .entry)))) r ⌝ }
 {
     let mut p = first;
     while p.at < read.len() {
@@ -227,7 +227,7 @@ fn turns_of(
 
 // The read as it is, with nothing counted.
 fn copied(read: &[u8], out: &mut [u8]) -> Pass
-    ensures { λ r. ⌜ PassIs (now (out .entry)) (now (out .exit)) (unchanged (now (read .entry))) r ⌝ }
+    ensures { λ r. ⌜ PassIs (length (now (out .entry))) (now (out .exit)) (unchanged (now (read .entry))) r ⌝ }
 {
     if out.len() < read.len() {
         return Pass::Full;
