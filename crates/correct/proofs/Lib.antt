@@ -3,3 +3,5 @@ pub mod Ends
 pub mod Turns
 pub mod Limits
 pub mod Passes
+pub mod InTurn
+pub mod Underway

@@ -16,7 +16,9 @@ use Rattle.rules.proofs.Driver.{drive-turns}
 use Rattle.rules.proofs.Lookups.{drive-lookups, drive-short}
 use Rattle.rules.proofs.Demands.{fair, steady}
 use Rattle.set.proofs.Opened.{opened-k-low, opened-k-high, opened-n-le}
+use Rattle.correct.specs.Driver.{maxLength}
 use Rattle.correct.proofs.Ends.{Fewer, drive-fewer}
+use Rattle.correct.proofs.InTurn.{both}
 
 -- The largest F of demand 3: GapSize's, at k = 31, confirm 255 and 16,777,216 keys.
 abbrev pub maxF : ℕ
@@ -65,3 +67,33 @@ module _ (bytes : List ℕ) (opens : setCheck bytes ≡ none) (c : ℕ) (c-low :
         )
         | no gt ↦ omega (arith, drive-short (setOf bytes .k) (solid (setOf bytes)) (correctError (setOf bytes) c m) 0 fed (omega arith))
       ]
+
+-- ---- several passes, none of them fed more than maxLength bytes
+
+abbrev pub maxCount : ℕ
+maxCount = 1 + maxLength * maxF
+
+pub record Totals (i : ℕ) (p : Pass) : Type 0 where
+  pub turns : p .turns ≤ i * maxCount
+  pub lookups : p .lookups ≤ i * maxCount
+  pub attempts : p .attempts ≤ i * maxCount
+  pub accepted : p .accepted ≤ i * maxCount
+
+pub one-total : (w : ℕ) (p : Pass) → w ≤ maxLength → Limited w p → Totals 1 p
+one-total w p h l =
+    let m = mul-le-mul-right maxF h in
+    record {
+      turns = omega (arith, l .turns);
+      lookups = omega (arith, l .lookups);
+      attempts = omega (arith, l .attempts);
+      accepted = omega (arith, l .accepted);
+    }
+
+pub more-total : (i : ℕ) (p q : Pass) → Totals i p → Totals 1 q → Totals (i + 1) (both p q)
+more-total i p q a b =
+    record {
+      turns = omega (arith, a .turns, b .turns);
+      lookups = omega (arith, a .lookups, b .lookups);
+      attempts = omega (arith, a .attempts, b .attempts);
+      accepted = omega (arith, a .accepted, b .accepted);
+    }

@@ -112,6 +112,17 @@ TurnIs bytes head method c p read out out′ (To r) =
     × Stands (head .k) r read out′
 TurnIs bytes head method c p read out out′ Full = length out < length (endOf bytes head method c (stateOf p read out) .bytes)
 
+-- The counts of passes so far and of the next.
+abbrev pub joined : Counts → Counts → Counts
+joined a b =
+    record {
+      written = b .written;
+      turns = a .turns + b .turns;
+      lookups = a .lookups + b .lookups;
+      attempts = a .attempts + b .attempts;
+      accepted = a .accepted + b .accepted;
+    }
+
 -- ---- a pass
 
 -- A read returned unchanged, counts zero.

@@ -4,7 +4,7 @@ use kmer::{Header, Kmer};
 use scan::Attempt;
 ghost use mathlib.Core.Path.{_≡_};
 ghost use mathlib.Core.Bool.{true, false};
-ghost use Prim.Native.Nat.{_+_, _≤_, _<_, _^_};
+ghost use Prim.Native.Nat.{_+_, _-_, _≤_, _<_, _^_};
 ghost use lib.ListN.{length, take, drop};
 ghost use Rattle.rules.specs.Letters.{addAll, addBase};
 ghost use Rattle.rules.specs.Set.{setOf, solid};
@@ -13,9 +13,11 @@ ghost use Rattle.rules.specs.Job.{methodOf, correctError, pass};
 ghost use Rattle.kmer.specs.Kmer.{Shifts, IsKmer, HasCode};
 ghost use Rattle.set.specs.Ready.{Ready};
 ghost use Rattle.scan.specs.Attempt.{Attempted};
+ghost use Rattle.correct.specs.Through.{held, Through};
 ghost use Rattle.correct.specs.Driver.{
     maxLength,
     stateOf,
+    joined,
     unchanged,
     Stands,
     Countable,
@@ -278,4 +280,96 @@ pub fn correct(
         },
     };
     turns_of(set, starts, head, method, c, first, read, out)
+}
+
+// The first of the passes that are left, from the read.
+fn first_pass(
+    set: &[u8],
+    starts: &[u32],
+    head: Header,
+    method: u8,
+    c: u8,
+    left: usize,
+    read: &[u8],
+    output: &mut [u8],
+    work: &mut [u8],
+) -> Pass
+    requires { ⌜ Ready (now set) (now starts) head × (1 ≤ c) × (1 ≤ left) × (length (now read) ≤ maxLength) × (length (now work) ≡ length (now output)) ⌝ }
+    ensures { λ r. ⌜ PassIs (length (now (output .entry))) (held (left - 1) (now (output .exit)) (now (work .exit))) (pass (setOf (now (set .entry))) c (methodOf method) (now (read .entry))) r ⌝ }
+{
+    if left % 2 == 1 {
+        correct(set, starts, head, method, c, read, output)
+    } else {
+        correct(set, starts, head, method, c, read, work)
+    }
+}
+
+// The next of the passes that are left, from the buffer that the one before wrote to the other.
+fn next_pass(
+    set: &[u8],
+    starts: &[u32],
+    head: Header,
+    method: u8,
+    c: u8,
+    left: usize,
+    written: usize,
+    output: &mut [u8],
+    work: &mut [u8],
+) -> Pass
+    requires { ⌜ Ready (now set) (now starts) head × (1 ≤ c) × (1 ≤ left) × (written ≤ length (now output)) × (length (now output) ≤ maxLength) × (length (now work) ≡ length (now output)) ⌝ }
+    ensures { λ r. ⌜ PassIs (length (now (output .entry))) (held (left - 1) (now (output .exit)) (now (work .exit))) (pass (setOf (now (set .entry))) c (methodOf method) (take written (held left (now (output .entry)) (now (work .entry))))) r ⌝ }
+{
+    if left % 2 == 1 {
+        correct(set, starts, head, method, c, &work[..written], output)
+    } else {
+        correct(set, starts, head, method, c, &output[..written], work)
+    }
+}
+
+// The counts of the passes so far and of the next.
+fn added(done: Counts, next: Counts) -> Counts
+    requires { ⌜ (done .turns + next .turns < 2 ^ 64) × (done .lookups + next .lookups < 2 ^ 64) × (done .attempts + next .attempts < 2 ^ 64) × (done .accepted + next .accepted < 2 ^ 64) ⌝ }
+    ensures { λ r. ⌜ r ≡ joined done next ⌝ }
+{
+    Counts {
+        written: next.written,
+        turns: done.turns + next.turns,
+        lookups: done.lookups + next.lookups,
+        attempts: done.attempts + next.attempts,
+        accepted: done.accepted + next.accepted,
+    }
+}
+
+// A read through a list of methods, each reading the bytes of the one before. The two buffers take turns, and the number of passes
+// that are left says which one is written, so that the last pass ends in the output. Without methods the read is copied.
+pub fn through(
+    set: &[u8],
+    starts: &[u32],
+    head: Header,
+    c: u8,
+    methods: &[u8],
+    read: &[u8],
+    output: &mut [u8],
+    work: &mut [u8],
+) -> Pass
+    requires { ⌜ Ready (now set) (now starts) head × (1 ≤ c) × (length (now methods) ≤ 8) × (length (now read) ≤ maxLength) ⌝ }
+    requires { ⌜ (length (now output) ≤ maxLength) × (length (now work) ≡ length (now output)) ⌝ }
+    ensures { λ r. ⌜ Through (setOf (now (set .entry))) c (now (methods .entry)) (now (read .entry)) (now (output .entry)) (now (output .exit)) (now (work .entry)) (now (work .exit)) r ⌝ }
+{
+    let n = methods.len();
+    if n == 0 {
+        return copied(read, output);
+    }
+    let Pass::Done(first) = first_pass(set, starts, head, methods[0], c, n, read, output, work) else {
+        return Pass::Full;
+    };
+    let mut counts = first;
+    for i in 1..n {
+        let written = counts.written;
+        let Pass::Done(next) = next_pass(set, starts, head, methods[i], c, n - i, written, output, work) else {
+            return Pass::Full;
+        };
+        counts = added(counts, next);
+    }
+    Pass::Done(counts)
 }
