@@ -7,11 +7,13 @@ use lib.ListN.{length, getD, take, drop}
 use lib.Seq.{length-take-le}
 use Rattle.rules.specs.Set.{KmerSet}
 use Rattle.rules.specs.Driver as Rules
-use Rattle.rules.specs.Job.{Method, methodOf, methodsOf, pass}
+use Rattle.rules.specs.Job.{Method, methodOf, methodsOf, pass, result}
+use Rattle.rules.specs.Counts.{sum, passesOf}
 use Rattle.rules.specs.Calls.{longest}
 use Rattle.correct.specs.declared.Counts.{Counts}
+use Rattle.correct.specs.declared.Pass.{Pass}
 use Rattle.correct.specs.declared.Pass.the-variants.{Done, Full}
-use Rattle.correct.specs.Driver.{maxLength, passOf, joined, PassIs}
+use Rattle.correct.specs.Driver.{maxLength, passOf, unchanged, joined, PassIs}
 use Rattle.correct.specs.Through.{through, held, ThroughIs}
 use Rattle.correct.proofs.InTurn.{held-even, held-length, methods-next, methods-over, both, goOn, begun, next, over, fits, long, longest-end}
 use Rattle.correct.proofs.Limits.{Limited, Totals, one-total, more-total}
@@ -19,6 +21,18 @@ use Rattle.correct.proofs.Limits.{Limited, Totals, one-total, more-tota
 module _ (set : KmerSet) (c : ℕ) (methods read : List ℕ) where
   abbrev ms : List Method
   ms = methodsOf methods
+
+  -- without methods
+  pub none-done : (output output′ : List ℕ) (r : Pass) → length methods ≡ 0 → length output′ ≡ length output
+      → PassIs (length output) output′ (unchanged read) r → ThroughIs set c ms read (length output) output′ r
+  unfolding through passesOf sum result longest
+  none-done output output′ (Done r) none o d =
+      let end : ms ≡ [] = methods-over methods 0 (omega arith) in
+      let len = ap (λ (p : Rules.Pass). length (p .bytes)) (d .0) in
+      rw end (d .0, d .1, omega (arith, len, length-take-le (r .written) output′ (d .1), d .1))
+  none-done output output′ Full none o d =
+      let end : ms ≡ [] = methods-over methods 0 (omega arith) in
+      rw end d
 
   -- i passes are done, n what they wrote and counted.
   pub record Underway (output work : List ℕ) (n : Counts) (i : ℕ) : Type 0 where
@@ -99,6 +113,12 @@ module _ (set : KmerSet) (c : ℕ) (methods read : List ℕ) where
         }
 
   -- a pass that does not fit
+  pub first-full : (room : ℕ) → 0 < length methods → room < length (pass set c (methodOf (getD methods 0 0)) read .bytes)
+      → room < longest set c ms [] ms read
+  first-full room some h =
+      subst (λ (x : List Method). room < longest set c ms [] x read) (sym (methods-next methods 0 some))
+      (long set c ms room (methodOf (getD methods 0 0)) (methodsOf (drop 1 methods)) read h)
+
   pub next-full : (output work : List ℕ) (n : Counts) (i : ℕ) → Underway output work n i → i < length methods
       → length output < length (pass set c (methodOf (getD methods i 0)) (take (n .written) (held (length methods - i) output work)) .bytes)
       → length output < longest set c ms [] ms read
