@@ -5,3 +5,4 @@ pub mod Limits
 pub mod Passes
 pub mod InTurn
 pub mod Underway
+pub mod Methods

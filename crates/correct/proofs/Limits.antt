@@ -31,7 +31,7 @@ pub record Limited (w : ℕ) (p : Pass) : Type 0 where
   pub attempts : p .attempts ≤ 2 * w
   pub accepted : p .accepted ≤ 2 * w
 
-length-keys : (bytes : List ℕ) (i n : ℕ) → length (keysFrom bytes i n) ≡ n
+pub length-keys : (bytes : List ℕ) (i n : ℕ) → length (keysFrom bytes i n) ≡ n
 unfolding keysFrom
 length-keys bytes i zero = refl
 length-keys bytes i (suc n) = ap suc (length-keys bytes (suc i) n)

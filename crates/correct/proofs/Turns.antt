@@ -1,6 +1,7 @@
 -- A turn of the code is a turn of the rules, case by case.
 use Prim.Native.Nat.{ℕ, zero, suc, _+_, _*_, _-_, _^_, _≤_, _<_, min}
 use native.Mathlib.Omega.{arith}
+use native.Mathlib.Nat.{add-zero}
 use native.Mathlib.Numerals.{add-one}
 use native.Mathlib.Decide.{decLe}
 use mathlib.Core.Path.{_≡_, refl, sym, ap, _∙_, subst}
@@ -22,6 +23,7 @@ use Rattle.kmer.specs.declared.Header.{Header}
 use Rattle.kmer.specs.declared.Kmer.{Kmer}
 use Rattle.kmer.specs.Kmer.{IsKmer, HasCode}
 use Rattle.set.specs.Ready.{Ready}
+use Rattle.correct.specs.declared.Counts.{Counts}
 use Rattle.correct.specs.declared.Place.{Place}
 use Rattle.correct.specs.declared.Turned.{Turned}
 use Rattle.correct.specs.declared.Turned.the-variants.{To, Full}
@@ -135,7 +137,7 @@ module _ (bytes starts : List ℕ) (head : Header) (method c : ℕ) (p : Place) 
                 turns = p .done .turns + 1;
                 lookups = p .done .lookups + (1 + l);
                 attempts = p .done .attempts + a;
-                accepted = p .done .accepted;
+                accepted = add-zero (p .done .accepted) i;
               };
             })
             ∙ sym e,
@@ -163,16 +165,16 @@ module _ (bytes starts : List ℕ) (head : Header) (method c : ℕ) (p : Place) 
       → TurnIs bytes head method c p read out out₁ (To r)
   unfolding stateOf mendBase
   mended-is m l out₁ r d by room e =
-      let n : take (r .done .written) out₁ ≡ take w out ++ m .letters = ap (λ (i : ℕ). take i out₁) (d .written) ∙ by in
+      let n : take (r .done .written) out₁ ≡ take w out ++ m .letters = ap (λ (q : Counts). take (q .written) out₁) (d .done) ∙ by in
       let at : drop (r .at) read ≡ drop (m .resume) (b ∷ s) = ap (λ (i : ℕ). drop i read) (d .at) ∙ go-on (m .resume) in (
         (λ i. record {
           kmer = d .kmer .is i;
           previous = d .previous i;
           rest = at i;
-          done = record { bytes = n i; turns = d .turns i; lookups = d .lookups i; attempts = d .attempts i; accepted = d .accepted i };
+          done = record { bytes = n i; turns = d .done i .turns; lookups = d .done i .lookups; attempts = d .done i .attempts; accepted = d .done i .accepted };
         })
             ∙ sym e,
-        record { kmer = d .kmer .kmer; at = omega (arith, d .at); written = omega (arith, d .written) },
+        record { kmer = d .kmer .kmer; at = omega (arith, d .at); written = omega (arith, ap (λ (q : Counts). q .written) (d .done)) },
       )
 
   -- ---- no room for an attempt

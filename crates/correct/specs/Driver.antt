@@ -61,21 +61,21 @@ turnOf bytes head method c = Rules.turn (head .k) (solid (setOf bytes)) (attempt
 abbrev pub endOf : List ℕ → Header → ℕ → ℕ → State → Rules.Pass
 endOf bytes head method c st = finish (head .k) (solid (setOf bytes)) (attemptOf bytes method c) st .done
 
+-- One turn more: w bytes written, l lookups beside the turn's own, a attempts made and b accepted.
+abbrev pub countedOf : Counts → ℕ → ℕ → ℕ → ℕ → Counts
+countedOf n w l a b =
+    record {
+      written = n .written + w;
+      turns = n .turns + 1;
+      lookups = n .lookups + (1 + l);
+      attempts = n .attempts + a;
+      accepted = n .accepted + b;
+    }
+
 -- A base kept, as `keepBase` of the rules has it; Full where the output has no room for it.
 abbrev pub Kept : Place → ℕ → Kmer → Bool → ℕ → ℕ → List ℕ → List ℕ → Turned → Type 0
 Kept p base kmer solid a l out out′ (To r) =
-    (r ≡ record {
-      kmer = kmer;
-      previous = solid;
-      at = p .at + 1;
-      done = record {
-        written = p .done .written + 1;
-        turns = p .done .turns + 1;
-        lookups = p .done .lookups + (1 + l);
-        attempts = p .done .attempts + a;
-        accepted = p .done .accepted;
-      };
-    })
+    (r ≡ record { kmer = kmer; previous = solid; at = p .at + 1; done = countedOf (p .done) 1 l a 0 })
     × (out′ ≡ set out (p .done .written) base)
     × (p .done .written < length out)
 Kept p base kmer solid a l out out′ Full = length out ≤ p .done .written
@@ -85,11 +85,7 @@ pub record Mended (k : ℕ) (p : Place) (y : ℕ) (letters : List ℕ) (resume l
   pub kmer : HasCode k (inPlace k y letters) (r .kmer)
   pub previous : r .previous ≡ true
   pub at : r .at ≡ min (p .at + resume) n
-  pub written : r .done .written ≡ p .done .written + length letters
-  pub turns : r .done .turns ≡ p .done .turns + 1
-  pub lookups : r .done .lookups ≡ p .done .lookups + (1 + l)
-  pub attempts : r .done .attempts ≡ p .done .attempts + 1
-  pub accepted : r .done .accepted ≡ p .done .accepted + 1
+  pub done : r .done ≡ countedOf (p .done) (length letters) l 1 1
 
 -- What a turn asks: a base is left, and the counts of the whole pass fit.
 pub record Turning (bytes starts : List ℕ) (head : Header) (method c : ℕ) (p : Place) (read out : List ℕ) : Type 0 where

@@ -17,6 +17,7 @@ ghost use Rattle.correct.specs.Through.{held, Through};
 ghost use Rattle.correct.specs.Driver.{
     maxLength,
     stateOf,
+    countedOf,
     joined,
     unchanged,
     Stands,
@@ -98,12 +99,28 @@ fn add_letters(kmer: Kmer, letters: &[u8], head: Header) -> Kmer
     y
 }
 
-// The base is written, its k-mer becomes the k-mer, and solid says what its lookup answered.
+// One turn more: bytes written, lookups beside the turn's own, attempts made and accepted.
+fn counted(done: Counts, written: usize, lookups: u64, attempts: u64, accepted: u64) -> Counts
+    requires { ⌜ (done .written + written < 2 ^ 64) × (done .turns < 2 ^ 63) × (done .lookups + (1 + lookups) < 2 ^ 64) ⌝ }
+    requires { ⌜ (done .attempts + attempts < 2 ^ 64) × (done .accepted + accepted < 2 ^ 64) ⌝ }
+    ensures { λ r. ⌜ r ≡ countedOf done written lookups attempts accepted ⌝ }
+{
+    Counts {
+        written: done.written + written,
+        turns: done.turns + 1,
+        lookups: done.lookups + (1 + lookups),
+        attempts: done.attempts + attempts,
+        accepted: done.accepted + accepted,
+    }
+}
+
+// The base is kept: its k-mer becomes the pass's, and solid says what its lookup answered.
 fn keep(p: Place, base: u8, kmer: Kmer, solid: bool, attempts: u64, lookups: u64, out: &mut [u8]) -> Turned
     requires { ⌜ (p .at < 2 ^ 63) × (p .done .turns < 2 ^ 63) × (p .done .lookups + (1 + lookups) < 2 ^ 64) × (p .done .attempts + attempts < 2 ^ 64) ⌝ }
     ensures { λ r. ⌜ Kept p base kmer solid attempts lookups (now (out .entry)) (now (out .exit)) r ⌝ }
 {
-    let w = p.done.written;
+    let done = p.done;
+    let w = done.written;
     if out.len() <= w {
         return Turned::Full;
     }
@@ -112,18 +129,12 @@ fn keep(p: Place, base: u8, kmer: Kmer, solid: bool, attempts: u64, lookups: u64
         kmer,
         previous: solid,
         at: p.at + 1,
-        done: Counts {
-            written: w + 1,
-            turns: p.done.turns + 1,
-            lookups: p.done.lookups + (1 + lookups),
-            attempts: p.done.attempts + attempts,
-            accepted: p.done.accepted,
-        },
+        done: counted(done, 1, lookups, attempts, 0),
     })
 }
 
 // The letters of an accepted attempt stand in the output already. The bad k-mer takes them in place of its last letter, and the pass
-// goes on `resume` bases further, or at the end of the read's `len`.
+// goes on `resume` bases further, or stops at the read's end, `len`.
 fn mend(p: Place, bad: Kmer, letters: &[u8], resume: usize, lookups: u64, len: usize, head: Header) -> Place
     requires { ⌜ Shifts head × IsKmer (head .k) bad × (p .at ≤ len) × (p .done .written + length (now letters) < 2 ^ 64) ⌝ }
     requires { ⌜ (p .done .turns < 2 ^ 63) × (p .done .lookups + (1 + lookups) < 2 ^ 64) × (p .done .attempts < 2 ^ 63) × (p .done .accepted < 2 ^ 63) ⌝ }
@@ -133,17 +144,13 @@ fn mend(p: Place, bad: Kmer, letters: &[u8], resume: usize, lookups: u64, len: u
     if resume < len - p.at {
         at = p.at + resume;
     }
+    let moved = kmer::drop_last(bad, head);
+    let done = p.done;
     Place {
-        kmer: add_letters(kmer::drop_last(bad, head), letters, head),
+        kmer: add_letters(moved, letters, head),
         previous: true,
         at,
-        done: Counts {
-            written: p.done.written + letters.len(),
-            turns: p.done.turns + 1,
-            lookups: p.done.lookups + (1 + lookups),
-            attempts: p.done.attempts + 1,
-            accepted: p.done.accepted + 1,
-        },
+        done: counted(done, letters.len(), lookups, 1, 1),
     }
 }
 
@@ -319,10 +326,10 @@ fn next_pass(
     requires { ⌜ Ready (now set) (now starts) head × (1 ≤ c) × (1 ≤ left) × (written ≤ length (now output)) × (length (now output) ≤ maxLength) × (length (now work) ≡ length (now output)) ⌝ }
     ensures { λ r. ⌜ PassIs (length (now (output .entry))) (held (left - 1) (now (output .exit)) (now (work .exit))) (pass (setOf (now (set .entry))) c (methodOf method) (take written (held left (now (output .entry)) (now (work .entry))))) r ⌝ }
 {
-    if left % 2 == 1 {
-        correct(set, starts, head, method, c, &work[..written], output)
-    } else {
+    if left % 2 == 0 {
         correct(set, starts, head, method, c, &output[..written], work)
+    } else {
+        correct(set, starts, head, method, c, &work[..written], output)
     }
 }
 

@@ -13,12 +13,12 @@ slice-reshare-prefix-correct c = search needs
 slice-aggregate-correct : tie.Need-slice-aggregate-correct
 slice-aggregate-correct c =
     let s = c .before .before .before .before .before .before in
-    sym (length-take-le (s .args .written) (s .args .work .now) (omega (arith, s .pre .3, s .pre .5)))
+    sym (length-take-le (s .args .written) (s .args .output .now) (s .pre .3))
 
 correct-requires : tie.Need-correct-requires
 correct-requires c κs =
     let s = c .before .before .before .before .before .before .before in
-    (s .pre .0, s .pre .1, omega (arith, length-take-le (s .args .written) (s .args .work .now) (omega (arith, s .pre .3, s .pre .5)), s .pre .3, s .pre .4))
+    (s .pre .0, s .pre .1, omega (arith, length-take-le (s .args .written) (s .args .output .now) (s .pre .3), s .pre .3, s .pre .4))
 
 slice-reshare-prefix-correct-2 : tie.Need-slice-reshare-prefix-correct-2
 slice-reshare-prefix-correct-2 c = search needs
@@ -26,12 +26,13 @@ slice-reshare-prefix-correct-2 c = search needs
 slice-aggregate-correct-2 : tie.Need-slice-aggregate-correct-2
 slice-aggregate-correct-2 c =
     let s = c .before .before .before .before .before .before in
-    sym (length-take-le (s .args .written) (s .args .output .now) (s .pre .3))
+    sym (length-take-le (s .args .written) (s .args .work .now) (omega (arith, s .pre .3, s .pre .5)))
 
 correct-requires-2 : tie.Need-correct-requires-2
 correct-requires-2 c κs =
     let s = c .before .before .before .before .before .before .before in
-    (s .pre .0, s .pre .1, omega (arith, length-take-le (s .args .written) (s .args .output .now) (s .pre .3), s .pre .3, s .pre .4))
+    let taken = length-take-le (s .args .written) (s .args .work .now) (omega (arith, s .pre .3, s .pre .5)) in
+    (s .pre .0, s .pre .1, omega (arith, taken, s .pre .3, s .pre .4))
 
 same-length : tie.Need-same-length
 same-length c = search needs
@@ -46,8 +47,9 @@ returns c =
     let s = t .before .before .before .before .before in
     let a = s .args in
     rw (
-      held-even (a .left - 1) (q .correct .last .1 .1 .1 .1 .1 .1 .0) (a .work .now) (omega (arith, t .if1 .taken, s .pre .2)),
-      held-odd (a .left) (a .output .now) (a .work .now) (t .if1 .taken),
+      held-odd (a .left - 1) (a .output .now) (q .correct .last .1 .1 .1 .1 .1 .1 .0) (omega (arith, t .if1 .taken, s .pre .2)),
+      held-even (a .left) (a .output .now) (a .work .now) (t .if1 .taken),
+      ← (s .pre .5),
     )
     (q .correct .ensures .is)
 
@@ -64,9 +66,8 @@ returns-2 c =
     let s = t .before .before .before .before .before in
     let a = s .args in
     rw (
-      held-odd (a .left - 1) (a .output .now) (q .correct2 .last .1 .1 .1 .1 .1 .1 .0) (omega (arith, t .if1 .left, s .pre .2)),
-      held-even (a .left) (a .output .now) (a .work .now) (omega (arith, t .if1 .left)),
-      ← (s .pre .5),
+      held-even (a .left - 1) (q .correct2 .last .1 .1 .1 .1 .1 .1 .0) (a .work .now) (omega (arith, t .if1 .left, s .pre .2)),
+      held-odd (a .left) (a .output .now) (a .work .now) (omega (arith, t .if1 .left)),
     )
     (q .correct2 .ensures .is)
 
