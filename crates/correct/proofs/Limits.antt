@@ -2,14 +2,13 @@
 use Prim.Native.Nat.{ℕ, zero, suc, _+_, _*_, _-_, _≤_, _<_}
 use native.Mathlib.Omega.{arith}
 use native.Mathlib.Decide.{decLe}
-use native.Mathlib.Nat.{le-refl, le-trans, mul-le-mul-left, mul-le-mul-right}
-use borrow.Author.Tests.{le-ltb, lt-ltb}
-use mathlib.Core.Path.{_≡_, refl, sym, ap, _∙_, subst}
+use native.Mathlib.Nat.{mul-le-mul-left, mul-le-mul-right}
+use mathlib.Core.Path.{_≡_, refl, ap}
 use mathlib.Core.Option.{none}
-use mathlib.Core.List.{List, [], _∷_}
+use mathlib.Core.List.{List}
 use lib.ListN.{length}
-use Rattle.rules.specs.Set.{KmerSet, solid, setCheck, setOf, headerN, keysFrom}
-use Rattle.rules.specs.Driver.{Pass, begin, drive}
+use Rattle.rules.specs.Set.{solid, setCheck, setOf, headerN, keysFrom}
+use Rattle.rules.specs.Driver.{Pass, drive}
 use Rattle.rules.specs.Job.{Method, One, Two, Graph, GapSize, correctError, pass}
 use Rattle.rules.specs.Counts.{F}
 use Rattle.rules.proofs.Driver.{drive-turns}
@@ -17,7 +16,7 @@ use Rattle.rules.proofs.Lookups.{drive-lookups, drive-short}
 use Rattle.rules.proofs.Demands.{fair, steady}
 use Rattle.set.proofs.Opened.{opened-k-low, opened-k-high, opened-n-le}
 use Rattle.correct.specs.Driver.{maxLength}
-use Rattle.correct.proofs.Ends.{Fewer, drive-fewer}
+use Rattle.correct.proofs.Ends.{drive-fewer}
 use Rattle.correct.proofs.InTurn.{both}
 
 -- The largest F of demand 3: GapSize's, at k = 31, confirm 255 and 16,777,216 keys.
@@ -89,8 +88,8 @@ one-total w p h l =
       accepted = omega (arith, l .accepted);
     }
 
-pub more-total : (i : ℕ) (p q : Pass) → Totals i p → Totals 1 q → Totals (i + 1) (both p q)
-more-total i p q a b =
+pub add-total : (i j : ℕ) (p q : Pass) → Totals i p → Totals j q → Totals (i + j) (both p q)
+add-total i j p q a b =
     record {
       turns = omega (arith, a .turns, b .turns);
       lookups = omega (arith, a .lookups, b .lookups);

@@ -1,13 +1,12 @@
 -- An attempt under each method byte, told of the header's k and n.
-use Prim.Native.Nat.{ℕ, zero, suc, _≤_}
-use mathlib.Core.Path.{_≡_, refl, sym, ap, ap₂, _∙_}
+use Prim.Native.Nat.{ℕ}
+use mathlib.Core.Path.{_≡_, sym, ap, ap₂, _∙_}
 use mathlib.Core.Bool.{Bool}
 use mathlib.Core.List.{List}
 use borrow.Author.Tests.{ne-eqb}
 use lib.ListN.{length}
 use Rattle.rules.specs.Set.{setOf, solid, headerN}
-use Rattle.rules.specs.Counted.{Try}
-use Rattle.rules.specs.Exist.{Mend, exist, one, two}
+use Rattle.rules.specs.Exist.{exist, one, two}
 use Rattle.rules.specs.Graph.{graph}
 use Rattle.rules.specs.GapSize.{gapSize}
 use Rattle.rules.specs.Job.{Method, One, Two, Graph, GapSize, methodOf, correctError}

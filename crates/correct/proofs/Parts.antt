@@ -1,13 +1,12 @@
 -- Bytes copied, and parts of a buffer.
-use Prim.Native.Nat.{ℕ, _+_, _-_, _≤_, _<_}
+use Prim.Native.Nat.{ℕ, _+_, _-_, _<_}
 use native.Mathlib.Nat.{le-of-eq}
 use native.Mathlib.Numerals.{add-one}
-use native.Mathlib.Omega.{arith}
-use mathlib.Core.Path.{_≡_, refl, sym, ap, _∙_}
+use mathlib.Core.Path.{_≡_, sym, ap, _∙_}
 use mathlib.Core.List.{List, [], _∷_, _++_, append-nil}
-use lib.ListN.{length, getD, take, drop, set, length-append, length-drop, drop-of-length-le}
+use lib.ListN.{length, getD, take, drop, set, length-drop, drop-of-length-le}
 use Rattle.rules.specs.Letters.{addAll, addBase}
-use lib.Seq.{drop-cons, take-suc, take-suc-set, take-all, take-at, drop-at, take-add, length-take-le}
+use lib.Seq.{drop-cons, take-suc, take-suc-set, take-all}
 
 -- one byte more is copied
 pub copy-one : (s d : List ℕ) (i : ℕ) → i < length s → i < length d → take i d ≡ take i s → take (i + 1) (set d i (getD s i 0)) ≡ take (i + 1) s

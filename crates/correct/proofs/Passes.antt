@@ -1,17 +1,16 @@
 -- A pass of the code is one of the rules.
-use Prim.Native.Nat.{ℕ, _+_, _*_, _≤_, _<_}
+use Prim.Native.Nat.{ℕ, _≤_, _<_}
 use native.Mathlib.Omega.{arith}
 use native.Mathlib.Nat.{mul-le-mul-right}
-use mathlib.Core.Path.{_≡_, refl, sym, ap, _∙_, subst}
+use mathlib.Core.Path.{_≡_, sym, ap, _∙_}
 use mathlib.Core.Bool.{Bool}
 use mathlib.Core.List.{List}
 use lib.ListN.{length, take, drop}
 use Rattle.rules.specs.Letters.{kmer}
 use Rattle.rules.specs.Set.{setOf, solid}
 use Rattle.rules.specs.Driver as Rules
-use Rattle.rules.specs.Driver.{State, begin, drive}
-use Rattle.rules.specs.Job.{methodOf, correctError, pass}
-use Rattle.rules.proofs.Driver.{finish}
+use Rattle.rules.specs.Driver.{begin, drive}
+use Rattle.rules.specs.Job.{methodOf, pass}
 use Rattle.kmer.specs.declared.Header.{Header}
 use Rattle.kmer.specs.declared.Kmer.{Kmer}
 use Rattle.kmer.specs.Kmer.{HasCode}

@@ -1,5 +1,5 @@
 -- A turn of the code is a turn of the rules, case by case.
-use Prim.Native.Nat.{ℕ, zero, suc, _+_, _*_, _-_, _^_, _≤_, _<_, min}
+use Prim.Native.Nat.{ℕ, _+_, _-_, _^_, _≤_, _<_, min}
 use native.Mathlib.Omega.{arith}
 use native.Mathlib.Nat.{add-zero}
 use native.Mathlib.Numerals.{add-one}
@@ -8,20 +8,20 @@ use mathlib.Core.Path.{_≡_, refl, sym, ap, _∙_, subst}
 use mathlib.Core.Bool.{Bool, true, false}
 use mathlib.Core.Option.{Option, none, some}
 use mathlib.Core.List.{List, [], _∷_, _++_}
-use lib.ListN.{length, getD, take, drop, set, length-append, length-drop, length-set, drop-of-length-le}
+use lib.ListN.{length, getD, take, drop, length-append, length-drop, length-set, drop-of-length-le}
 use lib.Seq.{drop-cons, drop-drop, take-suc-set, take-at, drop-at, take-append-add, length-take-le}
-use Rattle.rules.specs.Letters.{addBase, inPlace}
+use Rattle.rules.specs.Letters.{addBase}
 use Rattle.rules.specs.Set.{setOf, solid}
 use Rattle.rules.specs.Counted.{Try}
 use Rattle.rules.specs.Scan.{errorLen}
 use Rattle.rules.specs.Exist.{Mend}
 use Rattle.rules.specs.Driver.{State, keepBase, mendBase}
-use Rattle.rules.specs.Job.{methodOf, correctError}
-use Rattle.rules.proofs.Driver.{turn-solid, turn-quiet, turn-refused, turn-mended, Steady, finish, finish-step, left, left-step}
+use Rattle.rules.specs.Job.{methodOf}
+use Rattle.rules.proofs.Driver.{turn-solid, turn-quiet, turn-refused, turn-mended, Steady, finish-step, left, left-step}
 use Rattle.rules.proofs.Demands.{steady}
 use Rattle.kmer.specs.declared.Header.{Header}
 use Rattle.kmer.specs.declared.Kmer.{Kmer}
-use Rattle.kmer.specs.Kmer.{IsKmer, HasCode}
+use Rattle.kmer.specs.Kmer.{HasCode}
 use Rattle.set.specs.Ready.{Ready}
 use Rattle.correct.specs.declared.Counts.{Counts}
 use Rattle.correct.specs.declared.Place.{Place}
@@ -30,9 +30,9 @@ use Rattle.correct.specs.declared.Turned.the-variants.{To, Full}
 use Rattle.scan.specs.declared.Attempt.{Attempt}
 use Rattle.scan.specs.declared.Attempt.the-variants.{Mend as Mends, Refused, Full as NoRoom}
 use Rattle.scan.specs.Attempt.{Attempted}
-use Rattle.correct.specs.Driver.{stateOf, Stands, Countable, attemptOf, turnOf, endOf, Kept, Mended, Turning, BadAt, TurnIs}
+use Rattle.correct.specs.Driver.{stateOf, Stands, attemptOf, turnOf, endOf, Kept, Mended, Turning, BadAt, TurnIs}
 use Rattle.correct.proofs.Parts.{tail-back}
-use Rattle.correct.proofs.Ends.{Within, turnsOf-within, turn-within, refused-within}
+use Rattle.correct.proofs.Ends.{Within, turn-within, refused-within}
 
 -- k is the set's
 pub set-k : {bytes starts : List ℕ} {head : Header} → Ready bytes starts head → setOf bytes .k ≡ head .k
@@ -123,7 +123,7 @@ module _ (bytes starts : List ℕ) (head : Header) (method c : ℕ) (p : Place) 
       → turnOf bytes head method c st b s ≡ keepBase st b s y v a l
       → Kept p b next v a l out₁ out′ r → TurnIs bytes head method c p read out out′ r
   unfolding stateOf keepBase
-  kept-is next v a l out₁ out′ (To r) h same len e (r-is , out-is , room) =
+  kept-is next v a l out₁ out′ (To r) h same len e (r-is, out-is, room) =
       let by : take (w + 1) out′ ≡ take w out ++ (b ∷ []) =
       rw (out-is, add-one) (take-suc-set out₁ w b room ∙ ap (λ (o : List ℕ). o ++ (b ∷ [])) same) in
       let len′ : length out′ ≡ length out₁ = ap length out-is ∙ length-set out₁ w b in (

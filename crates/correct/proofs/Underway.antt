@@ -1,7 +1,7 @@
 -- Where a read stands on its way through the methods, pass by pass.
-use Prim.Native.Nat.{ℕ, _+_, _-_, _≤_, _<_, max}
+use Prim.Native.Nat.{ℕ, suc, _+_, _-_, _≤_, _<_, max}
 use native.Mathlib.Omega.{arith}
-use mathlib.Core.Path.{_≡_, refl, sym, ap, _∙_, subst}
+use mathlib.Core.Path.{_≡_, refl, sym, ap, _∙_, subst, subst₂}
 use mathlib.Core.List.{List, [], _∷_}
 use lib.ListN.{length, getD, take, drop}
 use lib.Seq.{length-take-le}
@@ -16,7 +16,7 @@ use Rattle.correct.specs.declared.Pass.the-variants.{Done, Full}
 use Rattle.correct.specs.Driver.{maxLength, passOf, unchanged, joined, PassIs}
 use Rattle.correct.specs.Through.{through, held, ThroughIs}
 use Rattle.correct.proofs.InTurn.{held-even, held-length, methods-next, methods-over, both, goOn, begun, next, over, fits, long, longest-end}
-use Rattle.correct.proofs.Limits.{Limited, Totals, one-total, more-total}
+use Rattle.correct.proofs.Limits.{Limited, Totals, one-total, add-total}
 
 module _ (set : KmerSet) (c : ℕ) (methods read : List ℕ) where
   abbrev ms : List Method
@@ -108,7 +108,7 @@ module _ (set : KmerSet) (c : ℕ) (methods read : List ℕ) where
               ∙ fits set c ms (length output) m l fed len
               ∙ ap (λ (x : List Method). max (length output) (longest set c ms [] x fed)) (sym split)
               ∙ u .longs);
-          totals = more-total i (passOf n h) (passOf r h′) (u .totals)
+          totals = add-total i 1 (passOf n h) (passOf r h′) (u .totals)
               (subst (Totals 1) (sym (d .0)) (one-total (length fed) _ short (limits m fed)));
         }
 
@@ -142,3 +142,15 @@ module _ (set : KmerSet) (c : ℕ) (methods read : List ℕ) where
         u .written,
         omega (arith, longs, longest-end set c ms (take (n .written) output), length-take-le (n .written) output (u .written), u .written),
       )
+
+-- What a read counts in all, where no pass result is longer than an output can be.
+module _ (set : KmerSet) (c : ℕ) (limits : (m : Method) (fed : List ℕ) → Limited (length fed) (pass set c m fed)) where
+  pub through-totals : (l ms : List Method) (read : List ℕ) → length read ≤ maxLength → longest set c ms [] l read ≤ maxLength
+      → Totals (length l) (through set c l read)
+  unfolding through passesOf sum longest
+  through-totals [] ms read short h = record { turns = omega arith; lookups = omega arith; attempts = omega arith; accepted = omega arith }
+  through-totals (m ∷ l) ms read short h =
+      let p = pass set c m read in
+      let later = through-totals l ms (p .bytes) (omega arith) (omega arith) in
+      let e : 1 + length l ≡ suc (length l) = omega arith in
+      subst₂ Totals e (begun set c m l read) (add-total 1 (length l) p (through set c l (p .bytes)) (one-total (length read) p short (limits m read)) later)

@@ -1,18 +1,18 @@
 -- Document 01, "Records", Job and Counts, and refusal 11: a read through a list of methods.
-use Prim.Native.Nat.{ℕ, _+_, _≤_, _<_, _%_}
+use Prim.Native.Nat.{ℕ, _≤_, _<_, _%_}
 use mathlib.Core.Path.{_≡_}
 use mathlib.Core.Bool.{true, false}
 use mathlib.Core.List.{List, []}
-use lib.ListN.{length, take}
+use lib.ListN.{length}
 use lib.Dec.{eqb}
-use Rattle.rules.specs.Set.{KmerSet, setOf}
+use Rattle.rules.specs.Set.{KmerSet}
 use Rattle.rules.specs.Driver as Rules
-use Rattle.rules.specs.Job.{Method, methodsOf, methodOf, pass, result}
+use Rattle.rules.specs.Job.{Method, methodsOf, result}
 use Rattle.rules.specs.Counts.{Fed, sum, passesOf, turns, lookups, attempts, corrections}
 use Rattle.rules.specs.Calls.{longest}
 use Rattle.correct.specs.declared.Pass.{Pass}
 use Rattle.correct.specs.declared.Pass.the-variants.{Done, Full}
-use Rattle.correct.specs.Driver.{passOf, PassIs}
+use Rattle.correct.specs.Driver.{passOf}
 
 -- The methods' result, and what their passes count.
 unfoldable pub through : KmerSet → ℕ → List Method → List ℕ → Rules.Pass

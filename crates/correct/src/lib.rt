@@ -1,36 +1,37 @@
 // The driver, `Corrector::correct` of src/correct/mod.rs: a pass, which is one read through one method, and a read through a list of
 // methods. Document 01, "Driver".
-use kmer::{Header, Kmer};
+use kmer::Header;
+use kmer::Kmer;
 use scan::Attempt;
 ghost use mathlib.Core.Path.{_≡_};
 ghost use mathlib.Core.Bool.{true, false};
 ghost use Prim.Native.Nat.{_+_, _-_, _≤_, _<_, _^_};
-ghost use lib.ListN.{length, take, drop};
-ghost use Rattle.rules.specs.Letters.{addAll, addBase};
+ghost use lib.ListN.{length, take};
+ghost use Rattle.rules.specs.Letters.{addAll};
 ghost use Rattle.rules.specs.Set.{setOf, solid};
 ghost use Rattle.rules.specs.Scan.{errorLen};
-ghost use Rattle.rules.specs.Job.{methodOf, correctError, pass};
+ghost use Rattle.rules.specs.Job.{methodOf, pass};
 ghost use Rattle.kmer.specs.Kmer.{Shifts, IsKmer, HasCode};
 ghost use Rattle.set.specs.Ready.{Ready};
 ghost use Rattle.scan.specs.Attempt.{Attempted};
 ghost use Rattle.correct.specs.Through.{held, Through};
 ghost use Rattle.correct.specs.Driver.{
-    maxLength,
-    stateOf,
-    countedOf,
-    joined,
-    unchanged,
-    Stands,
-    Countable,
-    attemptOf,
-    endOf,
-    Kept,
-    Mended,
-    Turning,
-    BadAt,
-    TurnIs,
-    PassIs,
-    Passed
+  maxLength,
+  stateOf,
+  countedOf,
+  joined,
+  unchanged,
+  Stands,
+  Countable,
+  attemptOf,
+  endOf,
+  Kept,
+  Mended,
+  Turning,
+  BadAt,
+  TurnIs,
+  PassIs,
+  Passed,
 };
 
 // What was written and counted.
@@ -115,7 +116,15 @@ fn counted(done: Counts, written: usize, lookups: u64, attempts: u64, accepted: 
 }
 
 // The base is kept: its k-mer becomes the pass's, and solid says what its lookup answered.
-fn keep(p: Place, base: u8, kmer: Kmer, solid: bool, attempts: u64, lookups: u64, out: &mut [u8]) -> Turned
+fn keep(
+    p: Place,
+    base: u8,
+    kmer: Kmer,
+    solid: bool,
+    attempts: u64,
+    lookups: u64,
+    out: &mut [u8],
+) -> Turned
     requires { ⌜ (p .at < 2 ^ 63) × (p .done .turns < 2 ^ 63) × (p .done .lookups + (1 + lookups) < 2 ^ 64) × (p .done .attempts + attempts < 2 ^ 64) ⌝ }
     ensures { λ r. ⌜ Kept p base kmer solid attempts lookups (now (out .entry)) (now (out .exit)) r ⌝ }
 {
@@ -135,7 +144,15 @@ fn keep(p: Place, base: u8, kmer: Kmer, solid: bool, attempts: u64, lookups: u64
 
 // The letters of an accepted attempt stand in the output already. The bad k-mer takes them in place of its last letter, and the pass
 // goes on `resume` bases further, or stops at the read's end, `len`.
-fn mend(p: Place, bad: Kmer, letters: &[u8], resume: usize, lookups: u64, len: usize, head: Header) -> Place
+fn mend(
+    p: Place,
+    bad: Kmer,
+    letters: &[u8],
+    resume: usize,
+    lookups: u64,
+    len: usize,
+    head: Header,
+) -> Place
     requires { ⌜ Shifts head × IsKmer (head .k) bad × (p .at ≤ len) × (p .done .written + length (now letters) < 2 ^ 64) ⌝ }
     requires { ⌜ (p .done .turns < 2 ^ 63) × (p .done .lookups + (1 + lookups) < 2 ^ 64) × (p .done .attempts < 2 ^ 63) × (p .done .accepted < 2 ^ 63) ⌝ }
     ensures { λ r. ⌜ Mended (head .k) p (bad .code) (now (letters .entry)) resume lookups len r ⌝ }
@@ -172,7 +189,16 @@ fn bad_base(
 {
     let at = p.at;
     let w = p.done.written;
-    let tried = correct_error(set, starts, head, method, c, bad, &read[at..], &mut out[w..]);
+    let tried = correct_error(
+        set,
+        starts,
+        head,
+        method,
+        c,
+        bad,
+        &read[at..],
+        &mut out[w..],
+    );
     match tried {
         Attempt::Mend(n, resume, lookups) => {
             let end = w + n;
@@ -367,13 +393,24 @@ pub fn through(
     if n == 0 {
         return copied(read, output);
     }
-    let Pass::Done(first) = first_pass(set, starts, head, methods[0], c, n, read, output, work) else {
+    let Pass::Done(first) = first_pass(set, starts, head, methods[0], c, n, read, output, work)
+    else {
         return Pass::Full;
     };
     let mut counts = first;
     for i in 1..n {
         let written = counts.written;
-        let Pass::Done(next) = next_pass(set, starts, head, methods[i], c, n - i, written, output, work) else {
+        let Pass::Done(next) = next_pass(
+            set,
+            starts,
+            head,
+            methods[i],
+            c,
+            n - i,
+            written,
+            output,
+            work,
+        ) else {
             return Pass::Full;
         };
         counts = added(counts, next);

@@ -1,5 +1,6 @@
 // The lookup: a k-mer's canonical code among a set's keys.
-use kmer::{Header, Kmer};
+use kmer::Header;
+use kmer::Kmer;
 ghost use mathlib.Core.Path.{_≡_};
 ghost use mathlib.Core.Option.{none};
 ghost use Prim.Native.Nat.{_+_, _-_, _*_, _≤_, _<_};
@@ -60,8 +61,7 @@ fn probe(lo: usize, hi: usize, guess: usize, guesses: u32) -> usize
     if guess < hi { guess } else { hi - 1 }
 }
 
-fn less(a: usize, b: usize) -> usize
-{
+fn less(a: usize, b: usize) -> usize {
     if b < a { a - b } else { 0 }
 }
 
@@ -112,5 +112,11 @@ pub fn get(set: &[u8], starts: &[u32], head: Header, kmer: Kmer) -> bool
     let key = kmer::canonical(kmer, head);
     let shift = head.shift;
     let prefix = (key >> shift) as usize;
-    search(set, key, shift, start(starts, prefix), start(starts, prefix + 1))
+    search(
+        set,
+        key,
+        shift,
+        start(starts, prefix),
+        start(starts, prefix + 1),
+    )
 }

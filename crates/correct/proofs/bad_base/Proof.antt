@@ -1,11 +1,10 @@
-use Prim.Native.Nat.{_+_, _-_, _≤_}
+use Prim.Native.Nat.{_+_, _≤_}
 use native.Mathlib.Omega.{arith}
-use mathlib.Core.Path.{_≡_, ap, _∙_, subst}
-use mathlib.Core.List.{_++_}
-use lib.ListN.{length, take, drop, length-drop}
+use mathlib.Core.Path.{ap, _∙_, subst}
+use lib.ListN.{length, length-drop}
 use lib.Seq.{length-take-le}
 use borrow.Author.Needs.{needs}
-use Rattle.scan.specs.declared.Attempt.the-variants.{Mend, Refused, Full}
+use Rattle.scan.specs.declared.Attempt.the-variants.{Mend, Refused}
 use Rattle.correct.proofs.Parts.{tail-part, tail-back}
 use Rattle.correct.proofs.Turns.{rest-is, Tried, length-back, refused-fits, refused-is, mended-fits, letters-back, mended-place, no-room}
 use Rattle.correct.proofs.bad_base.Statement.{statement}

@@ -2,23 +2,16 @@ use native.Mathlib.Omega.{arith}
 use borrow.Author.Needs.{needs}
 use Rattle.correct.proofs.copied.Statement.{statement}
 use Rattle.correct.proofs.copied.Tie as tie
-use Rattle.correct.proofs.copied.Reads as reads
-use Rattle.correct.proofs.copied.Lts as lts
-use Rattle.correct.proofs.copy.Reads as copy-reads
 
--- src/lib.rt:238:9
 returns : tie.Need-returns
 returns c = search needs
 
--- src/lib.rt:240:5
 copy-requires : tie.Need-copy-requires
 copy-requires c κs = search needs
 
--- src/lib.rt:234:1
 same-length : tie.Need-same-length
 same-length c = search needs
 
--- src/lib.rt:234:1
 returns-2 : tie.Need-returns-2
 returns-2 c =
     let copied = c .before .before .copy in

@@ -1,5 +1,5 @@
-use Prim.Native.Nat.{_+_, _-_, _≤_, _<_}
-use mathlib.Core.Path.{_≡_, refl, sym, ap, _∙_}
+use Prim.Native.Nat.{_-_, _≤_}
+use mathlib.Core.Path.{_≡_}
 use lib.ListN.{length, take}
 use lib.Seq.{take-length}
 use borrow.Author.Needs.{needs}

@@ -1,7 +1,6 @@
 use Prim.Native.Nat.{ℕ}
 use native.Mathlib.Omega.{arith}
-use mathlib.Core.Path.{_≡_, refl, sym, ap, _∙_, subst, subst₂}
-use lib.ListN.{length, take}
+use mathlib.Core.Path.{_≡_, refl, sym, _∙_, subst, subst₂}
 use lib.Seq.{length-take-le}
 use borrow.Author.Needs.{needs}
 use Rattle.rules.specs.Set.{setOf}

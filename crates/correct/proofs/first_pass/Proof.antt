@@ -1,6 +1,5 @@
 use Prim.Native.Nat.{_-_}
 use native.Mathlib.Omega.{arith}
-use mathlib.Core.Path.{_≡_, sym}
 use borrow.Author.Needs.{needs}
 use Rattle.correct.proofs.InTurn.{held-even, held-odd}
 use Rattle.correct.proofs.first_pass.Statement.{statement}

@@ -1,25 +1,18 @@
 -- The invariant: where the read stands after i passes. The measure: the passes that are left.
-use Prim.Native.Nat.{ℕ, _+_, _-_, _≤_, _<_}
+use Prim.Native.Nat.{ℕ, _+_, _-_, _≤_}
 use native.Mathlib.Omega.{arith}
-use mathlib.Core.Path.{_≡_, refl, sym, ap, _∙_, subst, subst₂}
+use mathlib.Core.Path.{_≡_, refl, sym, _∙_, subst, subst₂}
 use lib.ListN.{length, getD, take}
 use borrow.Author.Needs.{needs}
 use Rattle.rules.specs.Set.{setOf}
 use Rattle.rules.specs.Job.{methodOf, pass}
 use Rattle.correct.specs.declared.Pass.{Pass}
-use Rattle.correct.specs.declared.Pass.the-variants.{Done, Full}
 use Rattle.correct.specs.Driver.{joined, PassIs}
 use Rattle.correct.specs.Through.{held}
-use Rattle.correct.proofs.Limits.{pass-limited, Totals, one-total}
+use Rattle.correct.proofs.Limits.{pass-limited}
 use Rattle.correct.proofs.Underway.{Underway, none-done, first-full, first-done, next-done, next-full, all-done}
 use Rattle.correct.proofs.through.Statement.{statement}
 use Rattle.correct.proofs.through.Tie as tie
-use Rattle.correct.proofs.through.Reads as reads
-use Rattle.correct.proofs.through.Lts as lts
-use Rattle.correct.proofs.added.Reads as added-reads
-use Rattle.correct.proofs.copied.Reads as copied-reads
-use Rattle.correct.proofs.first_pass.Reads as first-pass-reads
-use Rattle.correct.proofs.next_pass.Reads as next-pass-reads
 
 abbrev Inv-loop : tie.InvT-loop
 Inv-loop set starts head c methods read output₀ work₀ n counts₀ i₀ output work counts i =

@@ -1,14 +1,11 @@
 use native.Mathlib.Omega.{arith}
 use borrow.Author.Needs.{needs}
 use borrow.Author.Tests.{not-true, not-false}
-use mathlib.Core.Path.{_≡_, refl, sym, ap, _∙_}
-use mathlib.Core.Bool.{Bool, true, false}
-use lib.ListN.{getD, drop}
+use mathlib.Core.Path.{_≡_, refl, sym, _∙_}
+use mathlib.Core.Bool.{true, false}
+use lib.ListN.{getD}
 use Rattle.rules.specs.Letters.{addBase}
 use Rattle.rules.specs.Set.{setOf, solid}
-use Rattle.rules.specs.Driver.{keepBase}
-use Rattle.rules.proofs.Driver.{turn-solid, turn-quiet}
-use Rattle.correct.specs.Driver.{stateOf, attemptOf, turnOf}
 use Rattle.correct.proofs.Turns.{solid-turn, quiet-turn, keep-fits, kept-is}
 use Rattle.correct.proofs.turn.Statement.{statement}
 use Rattle.correct.proofs.turn.Tie as tie
