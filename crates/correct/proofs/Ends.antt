@@ -16,7 +16,7 @@ use Rattle.rules.specs.Scan.{errorLen}
 use Rattle.rules.specs.Exist.{Mend}
 use Rattle.rules.specs.Driver.{Pass, State, keepBase, mendBase, turn, turnsOf, begin, drive}
 use Rattle.rules.proofs.Scan.{scan-is}
-use Rattle.correct.specs.Driver.{unchanged}
+use Rattle.correct.specs.Pass.{unchanged}
 use Rattle.rules.proofs.Driver.{Case, is-solid, is-quiet, is-refused, is-mended, case, turn-solid, turn-quiet, turn-refused, turn-mended, turnsOf-step, turnsOf-end, Steady, finish, finish-step, refused-kept}
 
 -- a is done by the time that b is

@@ -15,7 +15,7 @@ use Rattle.rules.proofs.Driver.{drive-turns}
 use Rattle.rules.proofs.Lookups.{drive-lookups, drive-short}
 use Rattle.rules.proofs.Demands.{fair, steady}
 use Rattle.set.proofs.Opened.{opened-k-low, opened-k-high, opened-n-le}
-use Rattle.correct.specs.Driver.{maxLength}
+use Rattle.rules.specs.Calls.{maxRead}
 use Rattle.correct.proofs.Ends.{drive-fewer}
 use Rattle.correct.proofs.InTurn.{both}
 
@@ -67,10 +67,10 @@ module _ (bytes : List ℕ) (opens : setCheck bytes ≡ none) (c : ℕ) (c-low :
         | no gt ↦ omega (arith, drive-short (setOf bytes .k) (solid (setOf bytes)) (correctError (setOf bytes) c m) 0 fed (omega arith))
       ]
 
--- ---- several passes, none of them fed more than maxLength bytes
+-- ---- several passes, none of them fed more than maxRead bytes
 
 abbrev pub maxCount : ℕ
-maxCount = 1 + maxLength * maxF
+maxCount = 1 + maxRead * maxF
 
 pub record Totals (i : ℕ) (p : Pass) : Type 0 where
   pub turns : p .turns ≤ i * maxCount
@@ -78,7 +78,7 @@ pub record Totals (i : ℕ) (p : Pass) : Type 0 where
   pub attempts : p .attempts ≤ i * maxCount
   pub accepted : p .accepted ≤ i * maxCount
 
-pub one-total : (w : ℕ) (p : Pass) → w ≤ maxLength → Limited w p → Totals 1 p
+pub one-total : (w : ℕ) (p : Pass) → w ≤ maxRead → Limited w p → Totals 1 p
 one-total w p h l =
     let m = mul-le-mul-right maxF h in
     record {

@@ -12,7 +12,7 @@ use Rattle.rules.specs.GapSize.{gapSize}
 use Rattle.rules.specs.Job.{Method, One, Two, Graph, GapSize, methodOf, correctError}
 use Rattle.kmer.specs.declared.Header.{Header}
 use Rattle.set.specs.Ready.{Ready}
-use Rattle.correct.specs.Driver.{attemptOf}
+use Rattle.correct.specs.Turn.{attemptOf}
 use Rattle.correct.proofs.Turns.{set-k}
 use Rattle.correct.proofs.Limits.{length-keys}
 

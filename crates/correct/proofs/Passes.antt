@@ -16,12 +16,14 @@ use Rattle.kmer.specs.declared.Kmer.{Kmer}
 use Rattle.kmer.specs.Kmer.{HasCode}
 use Rattle.set.specs.Ready.{Ready}
 use Rattle.correct.specs.declared.Place.{Place}
-use Rattle.correct.specs.Driver.{maxLength, stateOf, unchanged, Countable, attemptOf, endOf}
+use Rattle.rules.specs.Calls.{maxRead}
+use Rattle.correct.specs.Pass.{unchanged}
+use Rattle.correct.specs.Turn.{stateOf, Countable, attemptOf, endOf}
 use Rattle.correct.proofs.Turns.{set-k}
 use Rattle.correct.proofs.Ends.{drive-short-is, drive-is, drive-long}
 use Rattle.correct.proofs.Limits.{maxF, Limited}
 
-pub countable : (w : ℕ) (p : Rules.Pass) → w ≤ maxLength → Limited w p → Countable p
+pub countable : (w : ℕ) (p : Rules.Pass) → w ≤ maxRead → Limited w p → Countable p
 countable w p h l =
     let m = mul-le-mul-right maxF h in
     record {

@@ -30,7 +30,7 @@ use Rattle.correct.specs.declared.Turned.the-variants.{To, Full}
 use Rattle.scan.specs.declared.Attempt.{Attempt}
 use Rattle.scan.specs.declared.Attempt.the-variants.{Mend as Mends, Refused, Full as NoRoom}
 use Rattle.scan.specs.Attempt.{Attempted}
-use Rattle.correct.specs.Driver.{stateOf, Stands, attemptOf, turnOf, endOf, Kept, Mended, Turning, BadAt, TurnIs}
+use Rattle.correct.specs.Turn.{stateOf, Stands, attemptOf, turnOf, endOf, Kept, Mended, Turning, BadAt, TurnIs}
 use Rattle.correct.proofs.Parts.{tail-back}
 use Rattle.correct.proofs.Ends.{Within, turn-within, refused-within}
 

@@ -9,12 +9,12 @@ use Rattle.rules.specs.Set.{KmerSet}
 use Rattle.rules.specs.Driver as Rules
 use Rattle.rules.specs.Job.{Method, methodOf, methodsOf, pass, result}
 use Rattle.rules.specs.Counts.{sum, passesOf}
-use Rattle.rules.specs.Calls.{longest}
+use Rattle.rules.specs.Calls.{maxRead, longest}
 use Rattle.correct.specs.declared.Counts.{Counts}
 use Rattle.correct.specs.declared.Pass.{Pass}
 use Rattle.correct.specs.declared.Pass.the-variants.{Done, Full}
-use Rattle.correct.specs.Driver.{maxLength, passOf, unchanged, joined, PassIs}
-use Rattle.correct.specs.Through.{through, held, ThroughIs}
+use Rattle.correct.specs.Pass.{passOf, unchanged, PassIs}
+use Rattle.correct.specs.Through.{joined, through, held, ThroughIs}
 use Rattle.correct.proofs.InTurn.{held-even, held-length, methods-next, methods-over, both, goOn, begun, next, over, fits, long, longest-end}
 use Rattle.correct.proofs.Limits.{Limited, Totals, one-total, add-total}
 
@@ -39,7 +39,7 @@ module _ (set : KmerSet) (c : ℕ) (methods read : List ℕ) where
     pub low : 1 ≤ i
     pub high : i ≤ length methods
     pub rooms : length work ≡ length output
-    pub small : length output ≤ maxLength
+    pub small : length output ≤ maxRead
     pub written : n .written ≤ length output
     pub counts : goOn set c (passOf n (held (length methods - i) output work)) (methodsOf (drop i methods)) ≡ through set c ms read
     pub longs : max (length output) (longest set c ms [] (methodsOf (drop i methods)) (take (n .written) (held (length methods - i) output work)))
@@ -48,7 +48,7 @@ module _ (set : KmerSet) (c : ℕ) (methods read : List ℕ) where
 
   module _ (limits : (m : Method) (fed : List ℕ) → Limited (length fed) (pass set c m fed)) where
     -- the first pass
-    pub first-done : (output work : List ℕ) (r : Counts) → 0 < length methods → length work ≡ length output → length output ≤ maxLength → length read ≤ maxLength
+    pub first-done : (output work : List ℕ) (r : Counts) → 0 < length methods → length work ≡ length output → length output ≤ maxRead → length read ≤ maxRead
         → PassIs (length output) (held (length methods - 1) output work) (pass set c (methodOf (getD methods 0 0)) read) (Done r)
         → Underway output work r 1
     first-done output work r some rooms small short d =
@@ -92,7 +92,7 @@ module _ (set : KmerSet) (c : ℕ) (methods read : List ℕ) where
         let room′ = held-length (length methods - (i + 1)) output′ work′ rooms in
         let bytes = ap (λ (p : Rules.Pass). p .bytes) (d .0) in
         let len : length (pass set c m fed .bytes) ≤ length output = omega (arith, ap length bytes, length-take-le (r .written) h′ (d .1), d .1) in
-        let short : length fed ≤ maxLength = omega (arith, length-take-le (n .written) h (omega (arith, u .written)), u .written, u .small) in
+        let short : length fed ≤ maxRead = omega (arith, length-take-le (n .written) h (omega (arith, u .written)), u .written, u .small) in
         record {
           low = omega arith;
           high = omega arith;
@@ -145,7 +145,7 @@ module _ (set : KmerSet) (c : ℕ) (methods read : List ℕ) where
 
 -- What a read counts in all, where no pass result is longer than an output can be.
 module _ (set : KmerSet) (c : ℕ) (limits : (m : Method) (fed : List ℕ) → Limited (length fed) (pass set c m fed)) where
-  pub through-totals : (l ms : List Method) (read : List ℕ) → length read ≤ maxLength → longest set c ms [] l read ≤ maxLength
+  pub through-totals : (l ms : List Method) (read : List ℕ) → length read ≤ maxRead → longest set c ms [] l read ≤ maxRead
       → Totals (length l) (through set c l read)
   unfolding through passesOf sum longest
   through-totals [] ms read short h = record { turns = omega arith; lookups = omega arith; attempts = omega arith; accepted = omega arith }

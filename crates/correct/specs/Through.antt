@@ -1,21 +1,22 @@
 -- Document 01, "Records", Job and Counts, and refusal 11: a read through a list of methods.
-use Prim.Native.Nat.{ℕ, _≤_, _<_, _%_}
+use Prim.Native.Nat.{ℕ, _+_, _≤_, _<_, _%_}
 use mathlib.Core.Path.{_≡_}
 use mathlib.Core.Bool.{true, false}
 use mathlib.Core.List.{List, []}
 use lib.ListN.{length}
 use lib.Dec.{eqb}
 use Rattle.rules.specs.Set.{KmerSet}
-use Rattle.rules.specs.Driver as Rules
+use Rattle.rules.specs.Driver as rules
 use Rattle.rules.specs.Job.{Method, methodsOf, result}
 use Rattle.rules.specs.Counts.{Fed, sum, passesOf, turns, lookups, attempts, corrections}
 use Rattle.rules.specs.Calls.{longest}
 use Rattle.correct.specs.declared.Pass.{Pass}
 use Rattle.correct.specs.declared.Pass.the-variants.{Done, Full}
-use Rattle.correct.specs.Driver.{passOf}
+use Rattle.correct.specs.declared.Counts.{Counts}
+use Rattle.correct.specs.Pass.{passOf}
 
 -- The methods' result, and what their passes count.
-unfoldable pub through : KmerSet → ℕ → List Method → List ℕ → Rules.Pass
+unfoldable pub through : KmerSet → ℕ → List Method → List ℕ → rules.Pass
 unfolding result sum passesOf turns lookups attempts corrections
 through set c ms read =
     let ps : List Fed = passesOf set c ms read in
@@ -41,3 +42,14 @@ pub record Through (set : KmerSet) (c : ℕ) (methods read output output′ work
 -- The buffer that holds what is read while n passes are left: the last pass ends in the output.
 unfoldable pub held : ℕ → List ℕ → List ℕ → List ℕ
 held n output work = elim (eqb (n % 2) 0) [ true ↦ output | false ↦ work ]
+
+-- The counts of passes so far and of the next.
+abbrev pub joined : Counts → Counts → Counts
+joined a b =
+    record {
+      written = b .written;
+      turns = a .turns + b .turns;
+      lookups = a .lookups + b .lookups;
+      attempts = a .attempts + b .attempts;
+      accepted = a .accepted + b .accepted;
+    }

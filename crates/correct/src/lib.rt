@@ -14,25 +14,10 @@ ghost use Rattle.rules.specs.Job.{methodOf, pass};
 ghost use Rattle.kmer.specs.Kmer.{Shifts, IsKmer, HasCode};
 ghost use Rattle.set.specs.Ready.{Ready};
 ghost use Rattle.scan.specs.Attempt.{Attempted};
-ghost use Rattle.correct.specs.Through.{held, Through};
-ghost use Rattle.correct.specs.Driver.{
-  maxLength,
-  stateOf,
-  countedOf,
-  joined,
-  unchanged,
-  Stands,
-  Countable,
-  attemptOf,
-  endOf,
-  Kept,
-  Mended,
-  Turning,
-  BadAt,
-  TurnIs,
-  PassIs,
-  Passed,
-};
+ghost use Rattle.rules.specs.Calls.{maxRead, maxOutput, maxMethods};
+ghost use Rattle.correct.specs.Pass.{unchanged, PassIs, Passed};
+ghost use Rattle.correct.specs.Turn.{stateOf, countedOf, Stands, Countable, attemptOf, endOf, Kept, Mended, Turning, BadAt, TurnIs};
+ghost use Rattle.correct.specs.Through.{held, Through, joined};
 
 // What was written and counted.
 pub struct Counts {
@@ -50,15 +35,15 @@ pub enum Pass {
 }
 
 // Where a pass stands: the k-mer, whether the previous one counts as solid, the index of the next base, and what is done.
-pub struct Place {
-    pub kmer: Kmer,
-    pub previous: bool,
-    pub at: usize,
-    pub done: Counts,
+struct Place {
+    kmer: Kmer,
+    previous: bool,
+    at: usize,
+    done: Counts,
 }
 
 // Full: what the turn has to write, or what comes after it, does not fit.
-pub enum Turned {
+enum Turned {
     To(Place),
     Full,
 }
@@ -84,7 +69,10 @@ fn correct_error(
     out: &mut [u8],
 ) -> Attempt
     requires { ⌜ Ready (now set) (now starts) head × IsKmer (head .k) kmer × (1 ≤ length (now s)) × (1 ≤ c) ⌝ }
-    ensures { λ r. ⌜ Attempted (errorLen (head .k) (solid (setOf (now (set .entry)))) (kmer .code) (now (s .entry)) .index) (now (out .entry)) (now (out .exit)) (attemptOf (now (set .entry)) method c (now (s .entry)) (kmer .code)) r ⌝ }
+    ensures { λ r. ⌜
+        Attempted (errorLen (head .k) (solid (setOf (now (set .entry)))) (kmer .code) (now (s .entry)) .index) (now (out .entry)) (now (out .exit))
+        (attemptOf (now (set .entry)) method c (now (s .entry)) (kmer .code))
+        r ⌝ }
 {
     Attempt::Full
 }
@@ -125,7 +113,8 @@ fn keep(
     lookups: u64,
     out: &mut [u8],
 ) -> Turned
-    requires { ⌜ (p .at < 2 ^ 63) × (p .done .turns < 2 ^ 63) × (p .done .lookups + (1 + lookups) < 2 ^ 64) × (p .done .attempts + attempts < 2 ^ 64) ⌝ }
+    requires { ⌜
+        (p .at < 2 ^ 63) × (p .done .turns < 2 ^ 63) × (p .done .lookups + (1 + lookups) < 2 ^ 64) × (p .done .attempts + attempts < 2 ^ 64) ⌝ }
     ensures { λ r. ⌜ Kept p base kmer solid attempts lookups (now (out .entry)) (now (out .exit)) r ⌝ }
 {
     let done = p.done;
@@ -154,7 +143,8 @@ fn mend(
     head: Header,
 ) -> Place
     requires { ⌜ Shifts head × IsKmer (head .k) bad × (p .at ≤ len) × (p .done .written + length (now letters) < 2 ^ 64) ⌝ }
-    requires { ⌜ (p .done .turns < 2 ^ 63) × (p .done .lookups + (1 + lookups) < 2 ^ 64) × (p .done .attempts < 2 ^ 63) × (p .done .accepted < 2 ^ 63) ⌝ }
+    requires { ⌜
+        (p .done .turns < 2 ^ 63) × (p .done .lookups + (1 + lookups) < 2 ^ 64) × (p .done .attempts < 2 ^ 63) × (p .done .accepted < 2 ^ 63) ⌝ }
     ensures { λ r. ⌜ Mended (head .k) p (bad .code) (now (letters .entry)) resume lookups len r ⌝ }
 {
     let mut at = len;
@@ -246,8 +236,13 @@ fn turns_of(
     read: &[u8],
     out: &mut [u8],
 ) -> Pass
-    requires { ⌜ Ready (now set) (now starts) head × (1 ≤ c) × Stands (head .k) first (now read) (now out) × Countable (endOf (now set) head method c (stateOf first (now read) (now out))) ⌝ }
-    ensures { λ r. ⌜ PassIs (length (now (out .entry))) (now (out .exit)) (endOf (now (set .entry)) head method c (stateOf first (now (read .entry)) (now (out .entry)))) r ⌝ }
+    requires { ⌜
+        Ready (now set) (now starts) head × (1 ≤ c) × Stands (head .k) first (now read) (now out)
+        × Countable (endOf (now set) head method c (stateOf first (now read) (now out))) ⌝ }
+    ensures { λ r. ⌜
+        PassIs (length (now (out .entry))) (now (out .exit))
+        (endOf (now (set .entry)) head method c (stateOf first (now (read .entry)) (now (out .entry))))
+        r ⌝ }
 {
     let mut p = first;
     while p.at < read.len() {
@@ -287,8 +282,9 @@ pub fn correct(
     read: &[u8],
     out: &mut [u8],
 ) -> Pass
-    requires { ⌜ Ready (now set) (now starts) head × (1 ≤ c) × (length (now read) ≤ maxLength) ⌝ }
-    ensures { λ r. ⌜ Passed (now (out .entry)) (now (out .exit)) (pass (setOf (now (set .entry))) c (methodOf method) (now (read .entry))) r ⌝ }
+    requires { ⌜ Ready (now set) (now starts) head × (1 ≤ c) × (length (now read) ≤ maxRead) ⌝ }
+    ensures { λ r. ⌜
+        Passed (now (out .entry)) (now (out .exit)) (pass (setOf (now (set .entry))) c (methodOf method) (now (read .entry))) r ⌝ }
 {
     let k = head.k;
     if read.len() < k {
@@ -327,8 +323,12 @@ fn first_pass(
     output: &mut [u8],
     work: &mut [u8],
 ) -> Pass
-    requires { ⌜ Ready (now set) (now starts) head × (1 ≤ c) × (1 ≤ left) × (length (now read) ≤ maxLength) × (length (now work) ≡ length (now output)) ⌝ }
-    ensures { λ r. ⌜ PassIs (length (now (output .entry))) (held (left - 1) (now (output .exit)) (now (work .exit))) (pass (setOf (now (set .entry))) c (methodOf method) (now (read .entry))) r ⌝ }
+    requires { ⌜
+        Ready (now set) (now starts) head × (1 ≤ c) × (1 ≤ left) × (length (now read) ≤ maxRead) × (length (now work) ≡ length (now output)) ⌝ }
+    ensures { λ r. ⌜
+        PassIs (length (now (output .entry))) (held (left - 1) (now (output .exit)) (now (work .exit)))
+        (pass (setOf (now (set .entry))) c (methodOf method) (now (read .entry)))
+        r ⌝ }
 {
     if left % 2 == 1 {
         correct(set, starts, head, method, c, read, output)
@@ -349,8 +349,13 @@ fn next_pass(
     output: &mut [u8],
     work: &mut [u8],
 ) -> Pass
-    requires { ⌜ Ready (now set) (now starts) head × (1 ≤ c) × (1 ≤ left) × (written ≤ length (now output)) × (length (now output) ≤ maxLength) × (length (now work) ≡ length (now output)) ⌝ }
-    ensures { λ r. ⌜ PassIs (length (now (output .entry))) (held (left - 1) (now (output .exit)) (now (work .exit))) (pass (setOf (now (set .entry))) c (methodOf method) (take written (held left (now (output .entry)) (now (work .entry))))) r ⌝ }
+    requires { ⌜
+        Ready (now set) (now starts) head × (1 ≤ c) × (1 ≤ left) × (written ≤ length (now output)) × (length (now output) ≤ maxOutput)
+        × (length (now work) ≡ length (now output)) ⌝ }
+    ensures { λ r. ⌜
+        PassIs (length (now (output .entry))) (held (left - 1) (now (output .exit)) (now (work .exit)))
+        (pass (setOf (now (set .entry))) c (methodOf method) (take written (held left (now (output .entry)) (now (work .entry)))))
+        r ⌝ }
 {
     if left % 2 == 0 {
         correct(set, starts, head, method, c, &output[..written], work)
@@ -361,7 +366,9 @@ fn next_pass(
 
 // The counts of the passes so far and of the next.
 fn added(done: Counts, next: Counts) -> Counts
-    requires { ⌜ (done .turns + next .turns < 2 ^ 64) × (done .lookups + next .lookups < 2 ^ 64) × (done .attempts + next .attempts < 2 ^ 64) × (done .accepted + next .accepted < 2 ^ 64) ⌝ }
+    requires { ⌜
+        (done .turns + next .turns < 2 ^ 64) × (done .lookups + next .lookups < 2 ^ 64)
+        × (done .attempts + next .attempts < 2 ^ 64) × (done .accepted + next .accepted < 2 ^ 64) ⌝ }
     ensures { λ r. ⌜ r ≡ joined done next ⌝ }
 {
     Counts {
@@ -385,9 +392,12 @@ pub fn through(
     output: &mut [u8],
     work: &mut [u8],
 ) -> Pass
-    requires { ⌜ Ready (now set) (now starts) head × (1 ≤ c) × (length (now methods) ≤ 8) × (length (now read) ≤ maxLength) ⌝ }
-    requires { ⌜ (length (now output) ≤ maxLength) × (length (now work) ≡ length (now output)) ⌝ }
-    ensures { λ r. ⌜ Through (setOf (now (set .entry))) c (now (methods .entry)) (now (read .entry)) (now (output .entry)) (now (output .exit)) (now (work .entry)) (now (work .exit)) r ⌝ }
+    requires { ⌜ Ready (now set) (now starts) head × (1 ≤ c) × (length (now methods) ≤ maxMethods) × (length (now read) ≤ maxRead) ⌝ }
+    requires { ⌜ (length (now output) ≤ maxOutput) × (length (now work) ≡ length (now output)) ⌝ }
+    ensures { λ r. ⌜
+        Through (setOf (now (set .entry))) c (now (methods .entry)) (now (read .entry))
+        (now (output .entry)) (now (output .exit)) (now (work .entry)) (now (work .exit))
+        r ⌝ }
 {
     let n = methods.len();
     if n == 0 {

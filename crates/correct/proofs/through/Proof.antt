@@ -7,8 +7,8 @@ use borrow.Author.Needs.{needs}
 use Rattle.rules.specs.Set.{setOf}
 use Rattle.rules.specs.Job.{methodOf, pass}
 use Rattle.correct.specs.declared.Pass.{Pass}
-use Rattle.correct.specs.Driver.{joined, PassIs}
-use Rattle.correct.specs.Through.{held}
+use Rattle.correct.specs.Pass.{PassIs}
+use Rattle.correct.specs.Through.{joined, held}
 use Rattle.correct.proofs.Limits.{pass-limited}
 use Rattle.correct.proofs.Underway.{Underway, none-done, first-full, first-done, next-done, next-full, all-done}
 use Rattle.correct.proofs.through.Statement.{statement}

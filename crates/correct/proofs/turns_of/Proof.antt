@@ -6,7 +6,7 @@ use Rattle.rules.specs.Set.{setOf, solid}
 use Rattle.rules.specs.Driver.{State}
 use Rattle.rules.proofs.Driver.{left, finish-end}
 use Rattle.correct.specs.declared.Turned.the-variants.{To}
-use Rattle.correct.specs.Driver.{stateOf, Stands, Countable, attemptOf, endOf, Turning, TurnIs}
+use Rattle.correct.specs.Turn.{stateOf, Stands, Countable, attemptOf, endOf, Turning, TurnIs}
 use Rattle.correct.proofs.Turns.{same-end, fewer-left}
 use Rattle.correct.proofs.turns_of.Statement.{statement}
 use Rattle.correct.proofs.turns_of.Tie as tie

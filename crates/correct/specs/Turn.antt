@@ -1,4 +1,4 @@
--- Document 01, "Driver": what the code's places, turns and passes are in the rules.
+-- One turn, and what the functions that make it ask and give.
 use Prim.Native.Nat.{ℕ, _+_, _≤_, _<_, _^_, min}
 use mathlib.Core.Path.{_≡_}
 use mathlib.Core.Bool.{Bool, true, false}
@@ -8,7 +8,7 @@ use Rattle.rules.specs.Letters.{addBase, inPlace}
 use Rattle.rules.specs.Set.{setOf, solid}
 use Rattle.rules.specs.Counted.{Try}
 use Rattle.rules.specs.Exist.{Mend}
-use Rattle.rules.specs.Driver as Rules
+use Rattle.rules.specs.Driver as rules
 use Rattle.rules.specs.Driver.{State}
 use Rattle.rules.specs.Job.{methodOf, correctError}
 use Rattle.rules.proofs.Driver.{finish}
@@ -18,21 +18,9 @@ use Rattle.kmer.specs.Kmer.{IsKmer, HasCode}
 use Rattle.set.specs.Ready.{Ready}
 use Rattle.correct.specs.declared.Counts.{Counts}
 use Rattle.correct.specs.declared.Place.{Place}
-use Rattle.correct.specs.declared.Turned as TurnedEnum
 use Rattle.correct.specs.declared.Turned.{Turned}
 use Rattle.correct.specs.declared.Turned.the-variants.{To, Full}
-use Rattle.correct.specs.declared.Pass.{Pass}
-use Rattle.correct.specs.declared.Pass.the-variants.{Done, Full as TooLong}
-
--- The longest read (refusal 1) and the longest output (refusal 5).
-abbrev pub maxLength : ℕ
-maxLength = 1048576
-
--- ---- one turn
-
--- What is done at a place, as the rules' pass so far.
-abbrev pub passOf : Counts → List ℕ → Rules.Pass
-passOf n out = record { bytes = take (n .written) out; turns = n .turns; lookups = n .lookups; attempts = n .attempts; accepted = n .accepted }
+use Rattle.correct.specs.Pass.{passOf}
 
 -- A place as the rules' state.
 unfoldable pub stateOf : Place → List ℕ → List ℕ → State
@@ -45,7 +33,7 @@ pub record Stands (k : ℕ) (p : Place) (read out : List ℕ) : Type 0 where
   pub written : p .done .written ≤ length out
 
 -- Counts that fit a u64, with room for a sum.
-pub record Countable (n : Rules.Pass) : Type 0 where
+pub record Countable (n : rules.Pass) : Type 0 where
   pub turns : n .turns < 2 ^ 63
   pub lookups : n .lookups < 2 ^ 63
   pub attempts : n .attempts < 2 ^ 63
@@ -56,9 +44,9 @@ abbrev pub attemptOf : List ℕ → ℕ → ℕ → List ℕ → ℕ → Try Men
 attemptOf bytes method c = correctError (setOf bytes) c (methodOf method)
 
 abbrev pub turnOf : List ℕ → Header → ℕ → ℕ → State → ℕ → List ℕ → State
-turnOf bytes head method c = Rules.turn (head .k) (solid (setOf bytes)) (attemptOf bytes method c)
+turnOf bytes head method c = rules.turn (head .k) (solid (setOf bytes)) (attemptOf bytes method c)
 
-abbrev pub endOf : List ℕ → Header → ℕ → ℕ → State → Rules.Pass
+abbrev pub endOf : List ℕ → Header → ℕ → ℕ → State → rules.Pass
 endOf bytes head method c st = finish (head .k) (solid (setOf bytes)) (attemptOf bytes method c) st .done
 
 -- One turn more: w bytes written, l lookups beside the turn's own, a attempts made and b accepted.
@@ -107,29 +95,3 @@ TurnIs bytes head method c p read out out′ (To r) =
     (stateOf r read out′ ≡ turnOf bytes head method c (stateOf p read out) (getD read (p .at) 0) (drop (p .at + 1) read))
     × Stands (head .k) r read out′
 TurnIs bytes head method c p read out out′ Full = length out < length (endOf bytes head method c (stateOf p read out) .bytes)
-
--- The counts of passes so far and of the next.
-abbrev pub joined : Counts → Counts → Counts
-joined a b =
-    record {
-      written = b .written;
-      turns = a .turns + b .turns;
-      lookups = a .lookups + b .lookups;
-      attempts = a .attempts + b .attempts;
-      accepted = a .accepted + b .accepted;
-    }
-
--- ---- a pass
-
--- A read returned unchanged, counts zero.
-abbrev pub unchanged : List ℕ → Rules.Pass
-unchanged read = record { bytes = read; turns = 0; lookups = 0; attempts = 0; accepted = 0 }
-
--- The answer to the rules' pass n: its counts, and its bytes at the front of the output; Full where they are more than its room.
-abbrev pub PassIs : ℕ → List ℕ → Rules.Pass → Pass → Type 0
-PassIs room out n (Done r) = (passOf r out ≡ n) × (r .written ≤ length out)
-PassIs room out n TooLong = room < length (n .bytes)
-
-pub record Passed (out out′ : List ℕ) (n : Rules.Pass) (r : Pass) : Type 0 where
-  pub is : PassIs (length out) out′ n r
-  pub room : length out′ ≡ length out
