@@ -74,7 +74,12 @@ fn correct_error(
         (attemptOf (now (set .entry)) method c (now (s .entry)) (kmer .code))
         r ⌝ }
 {
-    Attempt::Full
+    match method {
+        1 => exist::correct_error(set, starts, head, false, c, kmer, s, out),
+        2 => exist::correct_error(set, starts, head, true, c, kmer, s, out),
+        3 => graph::correct_error(set, starts, head, kmer, s, out),
+        _ => gap_size::correct_error(set, starts, head, c, kmer, s, out),
+    }
 }
 
 fn add_letters(kmer: Kmer, letters: &[u8], head: Header) -> Kmer
