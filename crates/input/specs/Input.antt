@@ -1,19 +1,13 @@
 -- What the answers mean in the rules' terms.
 use Prim.Native.Nat.{ℕ, _+_, _-_, _≤_, _<_}
 use mathlib.Core.Path.{_≡_}
-use mathlib.Core.Bool.{true, false}
-use mathlib.Core.Option.{Option, none, some}
+use mathlib.Core.Option.{none, some}
 use mathlib.Core.List.{List, _∷_}
 use lib.ListN.{length, take, drop}
-use lib.Dec.{ltb}
 use Rattle.rules.specs.Refusal.{Refusal, Check}
 use Rattle.rules.specs.Job.{lines}
 use Rattle.input.specs.declared.Input.{Input}
 use Rattle.input.specs.declared.Input.the-variants.{Fine, Long, Methods, Unknown, Confirm, Buffers}
-
--- An index below a number, or none where it is the number itself.
-unfoldable pub placeOf : ℕ → ℕ → Option ℕ
-placeOf i n = elim (ltb i n) [ true ↦ some i | false ↦ none ]
 
 -- Document 01's number and place for each case.
 abbrev pub checkOf : Input → Check

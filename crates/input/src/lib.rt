@@ -1,17 +1,21 @@
 // What a call is given, looked at before any set: checks 1 to 6 of document 01, the lines of a batch, and clearing a lent buffer.
 ghost use mathlib.Core.Path.{_≡_};
-ghost use mathlib.Core.List.{_∷_, _++_};
-ghost use Prim.Native.Nat.{_+_, _-_, _≤_, _<_};
-ghost use lib.ListN.{length, getD, take, drop, replicate};
-ghost use Rattle.rules.specs.Refusal.{firstFailing};
+ghost use mathlib.Core.List.{_++_};
+ghost use Prim.Native.Nat.{_-_, _≤_, _<_};
+ghost use lib.ListN.{length, getD, take, replicate};
+ghost use Rattle.rules.specs.Refusal.{atPlace, firstFailing};
 ghost use Rattle.rules.specs.Job.{known, lines};
-ghost use Rattle.rules.specs.Calls.{inputCheck, batchRight, buffersRight};
-ghost use Rattle.input.specs.Input.{checkOf, placeOf, LineAt};
+ghost use Rattle.rules.specs.Calls.{maxRead, buffersRight, inputCheck, batchRight};
+ghost use Rattle.input.specs.Input.{checkOf, LineAt};
 
 const MAX_READ: usize = 1048576;
+
 const MAX_METHODS: usize = 8;
+
 const MAX_OUTPUT: usize = 1048576;
+
 const MAX_WORK: usize = 2097152;
+
 const MAX_LINES: usize = 1024;
 
 // Fine, or refusal 1, 2, 3 with the method's index, 4 or 5.
@@ -24,26 +28,26 @@ pub enum Input {
     Buffers,
 }
 
-// The index of the first unknown method byte, or their number.
-fn first_unknown(methods: &[u8]) -> usize
-    ensures { λ r. ⌜ placeOf r (length (now (methods .entry))) ≡ firstFailing (λ i. known (getD (now (methods .entry)) i 0)) 0 (length (now (methods .entry))) ⌝ }
+fn is_known(method: u8) -> bool
+    ensures { λ r. ⌜ r ≡ known method ⌝ }
 {
-    let mut i = 0;
-    while i < methods.len() {
-        let method = methods[i];
-        if method < 1 {
-            return i;
+    1 <= method && method <= 4
+}
+
+// Check 3.
+fn check_methods(methods: &[u8]) -> Input
+    ensures { λ r. ⌜ checkOf r ≡ atPlace 3 (firstFailing (λ i. known (getD (now (methods .entry)) i 0)) 0 (length (now (methods .entry)))) ⌝ }
+{
+    for i in 0..methods.len() {
+        if !is_known(methods[i]) {
+            return Input::Unknown(i);
         }
-        if 4 < method {
-            return i;
-        }
-        i += 1;
     }
-    i
+    Input::Fine
 }
 
 fn buffers_right(input: usize, output: usize, work: usize) -> bool
-    requires { ⌜ input ≤ 1048576 ⌝ }
+    requires { ⌜ input ≤ maxRead ⌝ }
     ensures { λ r. ⌜ r ≡ buffersRight input output work ⌝ }
 {
     if MAX_OUTPUT < output {
@@ -52,13 +56,10 @@ fn buffers_right(input: usize, output: usize, work: usize) -> bool
     if MAX_WORK < work {
         return false;
     }
-    if work < 2 * output {
-        return false;
-    }
-    2 * input <= work
+    2 * output <= work && 2 * input <= work
 }
 
-// Checks 1 to 5, upward, of the lengths of input, output and work.
+// Checks 1 to 5, upward, by the lengths of input, output and work.
 pub fn check_input(input: usize, methods: &[u8], confirm: u8, output: usize, work: usize) -> Input
     ensures { λ r. ⌜ checkOf r ≡ inputCheck input (now (methods .entry)) confirm output work ⌝ }
 {
@@ -68,30 +69,27 @@ pub fn check_input(input: usize, methods: &[u8], confirm: u8, output: usize, wor
     if MAX_METHODS < methods.len() {
         return Input::Methods;
     }
-    let unknown = first_unknown(methods);
-    if unknown < methods.len() {
-        return Input::Unknown(unknown);
-    }
+    let methods_checked = check_methods(methods);
+    let Input::Fine = methods_checked else {
+        return methods_checked;
+    };
     if confirm == 0 {
         return Input::Confirm;
     }
-    if buffers_right(input, output, work) {
-        Input::Fine
-    } else {
-        Input::Buffers
+    if !buffers_right(input, output, work) {
+        return Input::Buffers;
     }
+    Input::Fine
 }
 
 fn count_lines(batch: &[u8]) -> usize
     ensures { λ r. ⌜ r ≡ length (lines (now (batch .entry))) ⌝ }
 {
     let mut count = 0;
-    let mut i = 0;
-    while i < batch.len() {
+    for i in 0..batch.len() {
         if batch[i] == 10 {
             count += 1;
         }
-        i += 1;
     }
     count
 }
@@ -104,10 +102,7 @@ pub fn check_batch(batch: &[u8]) -> bool
     if length == 0 {
         return true;
     }
-    if batch[length - 1] != 10 {
-        return false;
-    }
-    count_lines(batch) <= MAX_LINES
+    batch[length - 1] == 10 && count_lines(batch) <= MAX_LINES
 }
 
 // Where the line from `from` on ends: the index of its byte 10.
@@ -115,21 +110,19 @@ pub fn line_end(batch: &[u8], from: usize) -> usize
     requires { ⌜ (from < length (now batch)) × (getD (now batch) (length (now batch) - 1) 0 ≡ 10) ⌝ }
     ensures { λ r. ⌜ LineAt (now (batch .entry)) from r ⌝ }
 {
-    let mut i = from;
-    while batch[i] != 10 {
-        i += 1;
+    let mut end = from;
+    while batch[end] != 10 {
+        end += 1;
     }
-    i
+    end
 }
 
 // Zeros from `from` to the end.
 pub fn clear(buffer: &mut [u8], from: usize)
     requires { ⌜ from ≤ length (now buffer) ⌝ }
-    ensures { λ r. ⌜ now (buffer .exit) ≡ take from (now (buffer .entry)) ++ replicate (length (now (buffer .entry)) - from) 0 ⌝ }
+    ensures { λ _. ⌜ now (buffer .exit) ≡ take from (now (buffer .entry)) ++ replicate (length (now (buffer .entry)) - from) 0 ⌝ }
 {
-    let mut i = from;
-    while i < buffer.len() {
+    for i in from..buffer.len() {
         buffer[i] = 0;
-        i += 1;
     }
 }

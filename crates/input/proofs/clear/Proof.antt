@@ -1,41 +1,47 @@
+use Prim.Native.Nat.{_-_, _≤_}
+use native.Mathlib.Omega.{arith}
+use mathlib.Core.Path.{_≡_, refl, sym, ap, _∙_}
+use borrow.Author.Needs.{needs}
+use lib.ListN.{length}
+use Rattle.input.proofs.Zeros.{zeroed, zeros-begin, zeros-more, zeros-end}
 use Rattle.input.proofs.clear.Statement.{statement}
 use Rattle.input.proofs.clear.Tie as tie
-use Rattle.input.proofs.clear.Reads as reads
-use Rattle.input.proofs.clear.Lts as lts
 
+-- Zeros stand from `from` up to i.
 abbrev Inv-loop : tie.InvT-loop
-Inv-loop buffer₀ from i₀ buffer i = ?
+Inv-loop buffer₀ from i₀ i-end buffer i =
+    (from ≤ i) × (i ≤ length buffer₀) × (length buffer ≡ length buffer₀)
+    × (buffer ≡ zeroed buffer₀ from i)
 
 abbrev μ-loop : tie.MeasureT-loop
-μ-loop buffer₀ from i₀ buffer i = ?
+μ-loop buffer₀ from i₀ i-end buffer i = length buffer₀ - i
 
--- src/lib.rt:131:5
 loop-holds : tie.Need-loop-holds Inv-loop μ-loop
-loop-holds c = ?
+loop-holds c = (search needs, search needs, refl, zeros-begin _ (c .args .from))
 
--- src/lib.rt:132:9
 slice-write-buffer : tie.Need-slice-write-buffer Inv-loop μ-loop
-slice-write-buffer c = ?
+slice-write-buffer c = search needs
 
--- src/lib.rt:133:9
 add-i : tie.Need-add-i Inv-loop μ-loop
-add-i c = ?
+add-i c = search needs
 
--- src/lib.rt:131:5
 loop-less : tie.Need-loop-less Inv-loop μ-loop
-loop-less c = ?
+loop-less c = search needs
 
--- src/lib.rt:131:5
 loop-again : tie.Need-loop-again Inv-loop μ-loop
-loop-again c = ?
+loop-again c =
+    let l = c .before .loop in
+    let a = c .before .before .args in
+    (search needs, search needs, search needs, rw (l .inv .3) (zeros-more (a .buffer .now) (a .from) (l .i) (l .inv .0) (search needs)))
 
--- src/lib.rt:126:1
 same-length : tie.Need-same-length Inv-loop μ-loop
-same-length c = ?
+same-length c = search needs
 
--- src/lib.rt:126:1
 returns : tie.Need-returns Inv-loop μ-loop
-returns c = ?
+returns c =
+    let l = c .before .loop in
+    let s = c .before .before in
+    l .inv .3 ∙ zeros-end (s .args .buffer .now) (s .args .from) (l .i) (search needs) (s .pre)
 
 pub clear-spec : {M : Type 1} → statement M
 clear-spec =

@@ -1,41 +1,50 @@
+use Prim.Native.Nat.{ℕ, _+_, _-_, _≤_}
+use native.Mathlib.Omega.{arith}
+use mathlib.Core.Path.{_≡_, refl, sym, ap, _∙_}
+use mathlib.Core.Logic.{⊎-elim}
+use borrow.Author.Needs.{needs}
+use lib.ListN.{length, drop}
+use Rattle.rules.specs.Job.{lines}
+use Rattle.input.proofs.Lines.{count-ends, count-goes-on, count-none}
 use Rattle.input.proofs.count_lines.Statement.{statement}
 use Rattle.input.proofs.count_lines.Tie as tie
-use Rattle.input.proofs.count_lines.Reads as reads
-use Rattle.input.proofs.count_lines.Lts as lts
 
+-- The lines that have ended, and those that are left.
 abbrev Inv-loop : tie.InvT-loop
-Inv-loop batch count₀ i₀ count i = ?
+Inv-loop batch count₀ i₀ i-end count i =
+    (i ≤ length batch) × (count ≤ i) × (length (lines batch) ≡ count + length (lines (drop i batch)))
 
 abbrev μ-loop : tie.MeasureT-loop
-μ-loop batch count₀ i₀ count i = ?
+μ-loop batch count₀ i₀ i-end count i = length batch - i
 
--- src/lib.rt:90:5
 loop-holds : tie.Need-loop-holds Inv-loop μ-loop
-loop-holds c = ?
+loop-holds c = search needs
 
--- src/lib.rt:91:12
 shared-slice-read-if1 : tie.Need-shared-slice-read-if1 Inv-loop μ-loop
-shared-slice-read-if1 c = ?
+shared-slice-read-if1 c = search needs
 
--- src/lib.rt:92:13
 add-count : tie.Need-add-count Inv-loop μ-loop
-add-count c = ?
+add-count c = search needs
 
--- src/lib.rt:94:9
 add-i : tie.Need-add-i Inv-loop μ-loop
-add-i c = ?
+add-i c = search needs
 
--- src/lib.rt:90:5
 loop-less : tie.Need-loop-less Inv-loop μ-loop
-loop-less c = ?
+loop-less c = search needs
 
--- src/lib.rt:90:5
 loop-again : tie.Need-loop-again Inv-loop μ-loop
-loop-again c = ?
+loop-again c =
+    let l = c .before .before .before .loop in
+    let batch = c .before .before .before .before .args .batch .now in
+    ⊎-elim (λ w. omega (arith, count-ends batch (l .i) (search needs) (w .0 .taken)))
+    (λ w. omega (arith, count-goes-on batch (l .i) (search needs) (w .0 .left))) (c .if1 .came)
 
--- src/lib.rt:85:1
 returns : tie.Need-returns Inv-loop μ-loop
-returns c = ?
+returns c =
+    let l = c .before .loop in
+    let batch = c .before .before .args .batch .now in
+    let e : l .i ≡ length batch = search needs in
+    omega (arith, l .inv .2, ap (λ (i : ℕ). length (lines (drop i batch))) e, count-none batch)
 
 pub count-lines-spec : {M : Type 1} → statement M
 count-lines-spec =
