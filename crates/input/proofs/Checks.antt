@@ -1,10 +1,10 @@
 -- Checks 3 and 5.
-use Prim.Native.Nat.{ℕ, zero, suc, _+_, _*_, _-_, max, _≤_, _<_}
+use Prim.Native.Nat.{ℕ, suc, _+_, _*_, _-_, max, _≤_, _<_}
 use native.Mathlib.Omega.{arith}
 use native.Mathlib.Numerals.{add-one}
 use borrow.Author.Tests.{le-leb, lt-leb, leb-true, leb-false}
-use mathlib.Core.Path.{_≡_, refl, ap, _∙_}
-use mathlib.Core.Bool.{Bool, true, false, _&&_}
+use mathlib.Core.Path.{_≡_, refl}
+use mathlib.Core.Bool.{Bool, true, false}
 use mathlib.Core.Option.{none, some}
 use mathlib.Core.List.{[], _∷_}
 use mathlib.Core.Logic.{inl, inr}

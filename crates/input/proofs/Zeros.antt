@@ -4,7 +4,7 @@ use native.Mathlib.Omega.{arith}
 use native.Mathlib.Nat.{le-of-eq}
 use mathlib.Core.Path.{_≡_, refl, sym, ap, _∙_}
 use mathlib.Core.List.{List, _++_, append-nil}
-use lib.ListN.{length, take, drop, set, replicate, length-replicate, getD-replicate, drop-of-length-le}
+use lib.ListN.{length, take, set, replicate, length-replicate, getD-replicate, drop-of-length-le}
 use lib.Seq.{paste, paste-zero, paste-suc, take-all}
 
 module _ (d : List ℕ) (from : ℕ) where

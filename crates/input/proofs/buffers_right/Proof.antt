@@ -1,4 +1,4 @@
-use mathlib.Core.Path.{_≡_, sym, _∙_}
+use mathlib.Core.Path.{sym, _∙_}
 use borrow.Author.Tests.{lt-leb}
 use Rattle.input.proofs.Checks.{long-output, long-work, short-work, work-by-input}
 use borrow.Author.Needs.{needs}

@@ -4,7 +4,7 @@ use mathlib.Core.Path.{_≡_, sym, ap, _∙_}
 use mathlib.Core.Bool.{Bool}
 use borrow.Author.Tests.{lt-ltb, lt-leb, le-leb, not-true, not-false}
 use Rattle.input.proofs.Checks.{not-fine, refuses}
-use Rattle.rules.specs.Refusal.{_orElse_, unless, atPlace}
+use Rattle.rules.specs.Refusal.{_orElse_, unless}
 use Rattle.rules.specs.Calls.{inputCheck}
 use borrow.Author.Needs.{needs}
 use Rattle.input.proofs.check_input.Statement.{statement}
@@ -26,7 +26,10 @@ enum-told c = search needs
 
 returns-3 : tie.Need-returns-3
 unfolding inputCheck unless _orElse_
-returns-3 c = rw (le-leb _ _ (c .before .before .before .if1 .left), le-leb _ _ (c .before .before .if2 .left), ← (c .before .check-methods .ensures)) (refuses (c .before .check-methods .result) _ (λ e. not-fine (rw e at (c .match .keys2))))
+returns-3 c =
+    let m = c .before in
+    rw (le-leb _ _ (m .before .before .if1 .left), le-leb _ _ (m .before .if2 .left), ← (m .check-methods .ensures))
+    (refuses (m .check-methods .result) _ (λ e. not-fine (rw e at (c .match .keys2))))
 
 returns-4 : tie.Need-returns-4
 unfolding inputCheck unless _orElse_

@@ -1,4 +1,3 @@
-use mathlib.Core.Path.{_≡_, ap, sym, _∙_}
 use borrow.Author.Tests.{le-leb, lt-leb}
 use Rattle.rules.specs.Job.{known}
 use Rattle.input.proofs.is_known.Statement.{statement}

@@ -1,6 +1,6 @@
 use Prim.Native.Nat.{_-_, _≤_, _<_}
 use native.Mathlib.Omega.{arith}
-use mathlib.Core.Path.{_≡_, refl, sym, ap, _∙_}
+use mathlib.Core.Path.{_≡_, _∙_}
 use borrow.Author.Needs.{needs}
 use lib.ListN.{length, take, drop}
 use Rattle.rules.specs.Job.{linesFrom, lines}
