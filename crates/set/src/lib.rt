@@ -5,10 +5,10 @@ ghost use mathlib.Core.Path.{_≡_};
 ghost use mathlib.Core.Option.{none};
 ghost use Prim.Native.Nat.{_+_, _-_, _*_, _≤_, _<_};
 ghost use lib.ListN.{length, getD};
-ghost use Rattle.rules.specs.Set.{blocks, headerN, keyWord, keysFrom, among, setCheck, setOf, solid};
-ghost use Rattle.kmer.specs.Kmer.{IsKmer};
+ghost use Rattle.rules.specs.Set.{blocks, headerK, headerN, keyWord, keysFrom, among, setCheck, setOf, solid};
+ghost use Rattle.kmer.specs.Kmer.{Shifts, IsKmer};
 ghost use Rattle.set.specs.Standin.{flat};
-ghost use Rattle.set.specs.Ready.{Ready};
+ghost use Rattle.set.specs.Ready.{tableLength, Below, StartsAt, Filled, Ready};
 ghost use Rattle.set.specs.Bracket.{Bracket};
 
 fn byte(x: u8) -> u64
@@ -119,4 +119,73 @@ pub fn get(set: &[u8], starts: &[u32], head: Header, kmer: Kmer) -> bool
         start(starts, prefix),
         start(starts, prefix + 1),
     )
+}
+
+// How many bits a prefix has: at most 16, at most a key's 2k, and so that there are no more prefixes than keys.
+fn prefix_bits(k: usize, n: usize) -> usize
+    requires { ⌜ k ≤ 31 ⌝ }
+    ensures { λ r. ⌜ (r ≤ 16) × (r ≤ 2 * k) ⌝ }
+{
+    let mut bits = 0;
+    let mut keys = n;
+    while bits < 16 {
+        if keys < 2 {
+            return bits;
+        }
+        if 2 * k <= bits {
+            return bits;
+        }
+        bits += 1;
+        keys /= 2;
+    }
+    bits
+}
+
+// Where prefix v starts, when no key before `from` has it or a higher one.
+fn start_from(set: &[u8], n: usize, shift: u32, from: usize, v: usize) -> usize
+    requires { ⌜ (setCheck (now set) ≡ none) × (n ≡ headerN (now set)) × (shift < 64) × (from ≤ n) × Below (now set) shift v from ⌝ }
+    ensures { λ r. ⌜ StartsAt (now (set .entry)) shift v r ⌝ }
+{
+    let mut i = from;
+    while i < n {
+        if v <= (key_at(set, i) >> shift) as usize {
+            return i;
+        }
+        i += 1;
+    }
+    i
+}
+
+fn fill(set: &[u8], n: usize, shift: u32, entries: usize, starts: &mut [u32])
+    requires { ⌜ (setCheck (now set) ≡ none) × (n ≡ headerN (now set)) × (shift < 64) × (entries ≤ length (now starts)) ⌝ }
+    ensures { λ _. ⌜ Filled (now (set .entry)) shift entries (now (starts .exit)) ⌝ }
+{
+    let mut i = 0;
+    for v in 0..entries {
+        i = start_from(set, n, shift, i, v);
+        starts[v] = i as u32;
+    }
+}
+
+fn header(k: usize, n: usize, bits: usize) -> Header
+    requires { ⌜ (1 ≤ k) × (k ≤ 31) × (bits ≤ 2 * k) ⌝ }
+    ensures { λ r. ⌜ Shifts r × (r .k ≡ k) × (r .n ≡ n) × (r .shift ≡ 2 * k - bits) ⌝ }
+{
+    Header {
+        k,
+        n,
+        mask: kmer::mask(k),
+        top: kmer::mask(k - 1) + 1,
+        shift: (2 * k - bits) as u32,
+    }
+}
+
+pub fn prepare(set: &[u8], k: usize, n: usize, starts: &mut [u32]) -> Header
+    requires { ⌜ (setCheck (now set) ≡ none) × (k ≡ headerK (now set)) × (n ≡ headerN (now set)) × (length (now starts) ≡ tableLength) ⌝ }
+    ensures { λ r. ⌜ Ready (now (set .entry)) (now (starts .exit)) r ⌝ }
+{
+    let bits = prefix_bits(k, n);
+    let head = header(k, n, bits);
+    fill(set, n, head.shift, (1 << bits) + 1, starts);
+    head
 }

@@ -1,13 +1,10 @@
 use mathlib.Core.Path.{_≡_, _∙_, sym}
 use Prim.Native.Nat.{_+_, _≤_, _<_}
-use native.Mathlib.Nat.{le-of-lt}
-use native.Mathlib.Numerals.{add-one-le}
 use native.Mathlib.Omega.{arith}
 use borrow.Author.Needs.{needs}
-use lib.ListN.{length}
 use Rattle.rules.specs.Set.{solid, setOf}
-use Rattle.set.specs.Ready.{prefix, prefixes, Ready}
-use Rattle.set.proofs.Table.{prefix-lt, canonical-lt, bracket-table, starts-in-order}
+use Rattle.set.proofs.Table.{Entries, ready-entries, canonical-lt}
+use Rattle.set.specs.Ready.{prefix}
 use Rattle.set.proofs.get.Statement.{statement}
 use Rattle.set.proofs.get.Tie as tie
 use Rattle.set.proofs.get.Reads as reads
@@ -25,33 +22,32 @@ cast-prefix c = search needs
 shr-prefix : tie.Need-shr-prefix
 shr-prefix c = search needs
 
--- The key's prefix is one of the table's.
-known : (c : tie.After-canonical) → let s = c .before .before .before in
-    prefix (s .args .head .shift) (c .canonical .result) < prefixes (s .args .head .k) (s .args .head .shift)
-known c =
+-- The table's entries for the key.
+entries : (c : tie.After-canonical) → let a = c .before .before .before .args in
+    Entries (a .set .now) (a .starts .now) (prefix (a .head .shift) (c .canonical .result)) (c .canonical .result)
+entries c =
     let s = c .before .before .before in
-    prefix-lt _ _ _ (s .pre .0 .shift-le) (rw (c .canonical .ensures) (canonical-lt _ _ (s .pre .1 .small)))
+    ready-entries (s .pre .0) (c .canonical .result) (rw (c .canonical .ensures) (canonical-lt _ _ (s .pre .1 .small)))
 
 start-requires : tie.Need-start-requires
-unfolding prefix
-start-requires c κs = omega (arith, known c)
+start-requires c κs = omega (arith, entries c .room)
 
 add-start : tie.Need-add-start
-unfolding prefix
-add-start c = omega (arith, known (c .before))
+add-start c = omega (arith, entries (c .before) .room)
 
 start-requires-2 : tie.Need-start-requires-2
-unfolding prefix
-start-requires-2 c κs = omega (arith, known (c .before))
+start-requires-2 c κs = entries (c .before) .room
 
 search-requires : tie.Need-search-requires
-unfolding prefix
 search-requires c κs =
     let k = c .before .before in
-    let ready = k .before .before .before .pre .0 in
-    let lo = rw (← (c .before .start .ensures)) at (ready .starts-right _ (le-of-lt (known k))) in
-    let hi = rw (← (c .start2 .ensures)) at (ready .starts-right _ (add-one-le (known k))) in
-    (ready .opens, bracket-table _ _ lo hi, starts-in-order lo hi, search needs)
+    let e = entries k in
+    (
+      k .before .before .before .pre .0 .opens,
+      rw (c .before .start .ensures, c .start2 .ensures) (e .bracket),
+      rw (c .before .start .ensures, c .start2 .ensures) (e .in-order),
+      search needs,
+    )
 
 returns : tie.Need-returns
 unfolding solid setOf
