@@ -1,0 +1,111 @@
+use borrow.Author.Needs.{needs}
+use Rattle.job.proofs.correct_line.Statement.{statement}
+use Rattle.job.proofs.correct_line.Tie as tie
+use Rattle.job.proofs.correct_line.Reads as reads
+use Rattle.job.proofs.correct_line.Lts as lts
+use Rattle.job.proofs.correct.through.Reads as through-reads
+
+-- src/lib.rt:151:9
+returns : tie.Need-returns
+returns c = search needs
+
+-- src/lib.rt:153:15
+sub-end : tie.Need-sub-end
+sub-end c = search needs
+
+-- src/lib.rt:154:16
+sub-room : tie.Need-sub-room
+sub-room c = search needs
+
+-- src/lib.rt:155:78
+sub-through : tie.Need-sub-through
+sub-through c = search needs
+
+-- src/lib.rt:155:78
+part-through-start : tie.Need-part-through-start
+part-through-start c = search needs
+
+-- src/lib.rt:155:78
+part-through-end : tie.Need-part-through-end
+part-through-end c = search needs
+
+-- src/lib.rt:155:100
+slice-relend-prefix-through : tie.Need-slice-relend-prefix-through
+slice-relend-prefix-through c = search needs
+
+-- src/lib.rt:155:100
+slice-aggregate-through : tie.Need-slice-aggregate-through
+slice-aggregate-through c = ?
+
+-- src/lib.rt:155:9
+through-requires : tie.Need-through-requires
+through-requires c κs = ?
+
+-- src/lib.rt:156:20
+enum-known-passed : tie.Need-enum-known-passed
+enum-known-passed c = search needs
+
+-- src/lib.rt:157:9
+enum-told : tie.Need-enum-told
+enum-told c = search needs
+
+-- src/lib.rt:157:9
+same-length : tie.Need-same-length
+same-length c = search needs
+
+-- src/lib.rt:157:9
+same-length-2 : tie.Need-same-length-2
+same-length-2 c = search needs
+
+-- src/lib.rt:157:9
+returns-2 : tie.Need-returns-2
+returns-2 c = ?
+
+-- src/lib.rt:159:16
+add-last : tie.Need-add-last
+add-last c = ?
+
+-- src/lib.rt:160:5
+slice-write-output : tie.Need-slice-write-output
+slice-write-output c = ?
+
+-- src/lib.rt:162:18
+add-t15 : tie.Need-add-t15
+add-t15 c = ?
+
+-- src/lib.rt:136:1
+same-length-3 : tie.Need-same-length-3
+same-length-3 c = search needs
+
+-- src/lib.rt:136:1
+same-length-4 : tie.Need-same-length-4
+same-length-4 c = search needs
+
+-- src/lib.rt:136:1
+returns-3 : tie.Need-returns-3
+returns-3 c = ?
+
+pub correct-line-spec : {M : Type 1} → statement M
+correct-line-spec =
+    tie.close
+    (tie.spec
+    returns
+    sub-end
+    sub-room
+    sub-through
+    part-through-start
+    part-through-end
+    slice-relend-prefix-through
+    slice-aggregate-through
+    through-requires
+    enum-known-passed
+    enum-told
+    same-length
+    same-length-2
+    returns-2
+    add-last
+    slice-write-output
+    add-t15
+    same-length-3
+    same-length-4
+    returns-3)

@@ -1,0 +1,90 @@
+use borrow.Author.Needs.{needs}
+use Rattle.job.proofs.correct_read.Statement.{statement}
+use Rattle.job.proofs.correct_read.Tie as tie
+use Rattle.job.proofs.correct_read.Reads as reads
+use Rattle.job.proofs.correct_read.Lts as lts
+use Rattle.blocks.proofs.open.Reads as open-reads
+use Rattle.input.proofs.check_input.Reads as check-input-reads
+use Rattle.job.proofs.correct_one.Reads as correct-one-reads
+use Rattle.job.proofs.input_refused.Reads as input-refused-reads
+use Rattle.job.proofs.set_refused.Reads as set-refused-reads
+use Rattle.set.proofs.prepare.Reads as prepare-reads
+
+-- src/lib.rt:230:9
+check-input-requires : tie.Need-check-input-requires
+check-input-requires c κs = search needs
+
+enum-told : tie.Need-enum-told
+enum-told c = search needs
+
+-- src/lib.rt:232:32
+input-refused-requires : tie.Need-input-refused-requires
+input-refused-requires c κs = search needs
+
+-- src/lib.rt:232:9
+returns : tie.Need-returns
+returns c = ?
+
+-- src/lib.rt:234:9
+open-requires : tie.Need-open-requires
+open-requires c κs = search needs
+
+-- src/lib.rt:235:21
+enum-known-opened : tie.Need-enum-known-opened
+enum-known-opened c = search needs
+
+-- src/lib.rt:236:32
+set-refused-requires : tie.Need-set-refused-requires
+set-refused-requires c κs = search needs
+
+-- src/lib.rt:236:9
+returns-2 : tie.Need-returns-2
+returns-2 c = ?
+
+-- src/lib.rt:239:40
+slice-aggregate-prepare : tie.Need-slice-aggregate-prepare
+slice-aggregate-prepare c = search needs
+
+-- src/lib.rt:239:9
+prepare-requires : tie.Need-prepare-requires
+prepare-requires c κs = ?
+
+-- src/lib.rt:240:22
+slice-aggregate-correct-one : tie.Need-slice-aggregate-correct-one
+slice-aggregate-correct-one c = search needs
+
+-- src/lib.rt:240:5
+correct-one-requires : tie.Need-correct-one-requires
+correct-one-requires c κs = ?
+
+-- src/lib.rt:219:1
+same-length : tie.Need-same-length
+same-length c = search needs
+
+-- src/lib.rt:219:1
+same-length-2 : tie.Need-same-length-2
+same-length-2 c = search needs
+
+-- src/lib.rt:219:1
+returns-3 : tie.Need-returns-3
+returns-3 c = ?
+
+pub correct-read-spec : {M : Type 1} → statement M
+correct-read-spec =
+    tie.close
+    (tie.spec
+    check-input-requires
+    enum-told
+    input-refused-requires
+    returns
+    open-requires
+    enum-known-opened
+    set-refused-requires
+    returns-2
+    slice-aggregate-prepare
+    prepare-requires
+    slice-aggregate-correct-one
+    correct-one-requires
+    same-length
+    same-length-2
+    returns-3)

@@ -1,0 +1,3 @@
+pub mod Through
+pub mod Answer
+pub mod Reads
