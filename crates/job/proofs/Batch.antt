@@ -1,28 +1,35 @@
 -- A batch line by line: what is done and what is left.
-use Prim.Native.Nat.{ℕ, suc, _+_, _*_, _-_, _≤_, _<_}
+use Prim.Native.Nat.{ℕ, suc, _+_, _*_, _-_, _^_, _≤_, _<_}
 use native.Mathlib.Omega.{arith}
 use native.Mathlib.Nat.{add-zero, zero-add, add-assoc, sub-zero}
 use native.Mathlib.Numerals.{add-one}
 use mathlib.Core.Path.{_≡_, refl, sym, ap, ap₂, _∙_, subst}
+use mathlib.Core.Bool.{true}
 use mathlib.Core.Option.{none, some}
 use mathlib.Core.List.{List, [], _∷_, _++_, append-nil, append-assoc}
-use lib.ListN.{length, take, drop, length-append, length-drop}
+use lib.ListN.{length, take, drop, length-append, length-take, length-drop, drop-of-length-le}
 use lib.Seq.{length-take-le, take-add}
-use Rattle.rules.specs.Set.{KmerSet}
-use Rattle.rules.specs.Driver.{Pass}
-use Rattle.rules.specs.Job.{Method, pass, result}
+use Rattle.rules.specs.Set.{KmerSet, setCheck, setOf}
+use Rattle.rules.specs.Driver as Rules
+use Rattle.rules.specs.Job.{Method, pass, result, methodsOf, lines, linesFrom}
 use Rattle.rules.specs.Counts.{sum, passesOf, allPasses, turns, lookups, attempts, corrections}
-use Rattle.rules.specs.Calls.{maxRead, maxMethods, longest, tooLong, results}
+use Rattle.rules.specs.Calls.{Given, maxRead, maxMethods, maxLines, batchRight, longest, tooLong, results, corrected}
+use Rattle.input.specs.Input.{LineAt}
 use Rattle.job.specs.declared.correct.Counts.{Counts}
+use Rattle.job.specs.declared.correct.Pass.{Pass}
 use Rattle.job.specs.declared.correct.Pass.the-variants.{Done, Full}
+use Rattle.job.specs.declared.Answer.{Answer}
+use Rattle.job.specs.Answer.{Exact}
 use Rattle.job.specs.Through.{passOf, through}
-use Rattle.job.specs.Reads.{throughAll, lineThrough, LineAnswer, added}
-use Rattle.job.proofs.Standin.{Limited}
-use Rattle.job.proofs.Totals.{Small, read-small}
+use Rattle.job.specs.Reads.{Checked, NoRoomLeft, Accepted, throughAll, lineThrough, LineIs, added, Countable}
+use Rattle.job.proofs.Standin.{Limited, pass-limited}
+use Rattle.job.proofs.Totals.{Small, methods-length, read-small}
+use Rattle.job.proofs.Checked.{few-lines}
+use Rattle.job.proofs.Exact.{full-exact, fits-exact}
 use Rattle.job.proofs.Calls.{longest-same, sum-first, too-long-here, too-long-later}
 
 -- What q writes and counts, behind p.
-abbrev pub behind : Pass → Pass → Pass
+abbrev pub behind : Rules.Pass → Rules.Pass → Rules.Pass
 behind p q =
     record {
       bytes = p .bytes ++ q .bytes;
@@ -32,7 +39,7 @@ behind p q =
       accepted = p .accepted + q .accepted;
     }
 
-behind-assoc : (p q r : Pass) → behind (behind p q) r ≡ behind p (behind q r)
+behind-assoc : (p q r : Rules.Pass) → behind (behind p q) r ≡ behind p (behind q r)
 behind-assoc p q r = λ i. record {
   bytes = append-assoc (p .bytes) (q .bytes) (r .bytes) i;
   turns = add-assoc (p .turns) (q .turns) (r .turns) i;
@@ -48,7 +55,7 @@ module _ (set : KmerSet) (c : ℕ) (ms : List Method) where
   abbrev ending : List ℕ
   ending = 10 ∷ []
 
-  abbrev all : List (List ℕ) → Pass
+  abbrev all : List (List ℕ) → Rules.Pass
   all = throughAll set c ms ending
 
   all-first : (read : List ℕ) (reads : List (List ℕ)) → behind (lineThrough set c ms read) (all reads) ≡ all (read ∷ reads)
@@ -61,7 +68,7 @@ module _ (set : KmerSet) (c : ℕ) (ms : List Method) where
     accepted = sym (sum-first set c ms (corrections set c) read reads) i;
   }
 
-  all-none : (p : Pass) → behind p (all []) ≡ p
+  all-none : (p : Rules.Pass) → behind p (all []) ≡ p
   unfolding throughAll results allPasses sum
   all-none p = λ i. record {
     bytes = append-nil (p .bytes) i;
@@ -99,16 +106,16 @@ module _ (set : KmerSet) (c : ℕ) (ms : List Method) where
 
   module _ (room : ℕ) (reads : List (List ℕ)) (read : List ℕ) (rest : List (List ℕ)) (line : ℕ) (done : Counts) (o o′ : List ℕ)
       (g : Going room reads (read ∷ rest) line done o) where
-    pub line-full : LineAnswer set c ms read (done .written) o o′ Full → tooLong set c ms ending 0 room reads ≡ some line
+    pub line-full : LineIs set c ms read (done .written) o o′ Full → tooLong set c ms ending 0 room reads ≡ some line
     line-full h = g .left ∙ too-long-here set c ms ending line (room - done .written) read rest (omega (arith, g .length-is))
 
     -- A line more.
-    line-bytes : (r : Counts) → LineAnswer set c ms read (done .written) o o′ (Done r) → length o′ ≡ length o
+    line-bytes : (r : Counts) → LineIs set c ms read (done .written) o o′ (Done r) → length o′ ≡ length o
         → passOf (added done r) o′ ≡ behind (passOf done o) (lineThrough set c ms read)
     line-bytes r h same =
         let e = h .0 in
         λ i. record {
-          bytes = (take-add (done .written) (r .written) o′ ∙ ap₂ (λ (a b : List ℕ). a ++ b) (h .1) (ap (λ (p : Pass). p .bytes) e)) i;
+          bytes = (take-add (done .written) (r .written) o′ ∙ ap₂ (λ (a b : List ℕ). a ++ b) (h .1) (ap (λ (p : Rules.Pass). p .bytes) e)) i;
           turns = done .turns + e i .turns;
           lookups = done .lookups + e i .lookups;
           attempts = done .attempts + e i .attempts;
@@ -117,12 +124,12 @@ module _ (set : KmerSet) (c : ℕ) (ms : List Method) where
 
     pub line-done : (limits : (m : Method) (fed : List ℕ) → Limited (length fed) (pass set c m fed)) (r : Counts)
         → length ms ≤ maxMethods → length read ≤ maxRead → room ≤ maxRead
-        → LineAnswer set c ms read (done .written) o o′ (Done r) → length o′ ≡ length o
+        → LineIs set c ms read (done .written) o o′ (Done r) → length o′ ≡ length o
         → Going room reads rest (line + 1) (added done r) o′
     unfolding through
     line-done limits r few short fits h same =
         let w = r .written in
-        let bytes : take w (drop (done .written) o′) ≡ result set c ms read ++ ending = ap (λ (p : Pass). p .bytes) (h .0) in
+        let bytes : take w (drop (done .written) o′) ≡ result set c ms read ++ ending = ap (λ (p : Rules.Pass). p .bytes) (h .0) in
         let w-is : w ≡ length (result set c ms read) + 1 =
         sym (length-take-le w (drop (done .written) o′) (omega (arith, length-drop (done .written) o′, h .2)))
         ∙ ap length bytes ∙ length-append (result set c ms read) ending in
@@ -135,15 +142,15 @@ module _ (set : KmerSet) (c : ℕ) (ms : List Method) where
           written = omega (arith, h .2);
           left = g .left ∙ too-long-later set c ms ending line (room - done .written) read rest (omega (arith, h .3, g .length-is))
               ∙ ap₂ (λ (i n : ℕ). tooLong set c ms ending i n rest) (sym (add-one line)) left-is;
-          whole = ap (λ (p : Pass). behind p (all rest)) (line-bytes r h same)
+          whole = ap (λ (p : Rules.Pass). behind p (all rest)) (line-bytes r h same)
               ∙ behind-assoc (passOf done o) (lineThrough set c ms read) (all rest)
               ∙ ap (behind (passOf done o)) (all-first read rest)
               ∙ g .whole;
           small = record {
-            turns = omega (arith, ap (λ (p : Pass). p .turns) (h .0), more .turns, t .turns);
-            lookups = omega (arith, ap (λ (p : Pass). p .lookups) (h .0), more .lookups, t .lookups);
-            attempts = omega (arith, ap (λ (p : Pass). p .attempts) (h .0), more .attempts, t .attempts);
-            accepted = omega (arith, ap (λ (p : Pass). p .accepted) (h .0), more .accepted, t .accepted);
+            turns = omega (arith, ap (λ (p : Rules.Pass). p .turns) (h .0), more .turns, t .turns);
+            lookups = omega (arith, ap (λ (p : Rules.Pass). p .lookups) (h .0), more .lookups, t .lookups);
+            attempts = omega (arith, ap (λ (p : Rules.Pass). p .attempts) (h .0), more .attempts, t .attempts);
+            accepted = omega (arith, ap (λ (p : Rules.Pass). p .accepted) (h .0), more .accepted, t .accepted);
           };
         }
 
@@ -154,3 +161,87 @@ module _ (set : KmerSet) (c : ℕ) (ms : List Method) where
 
     pub all-done : passOf done o ≡ all reads
     all-done = sym (all-none (passOf done o)) ∙ g .whole
+
+-- ---- the code's batch: from is where the next line begins
+
+module _ (g : Given) where
+  abbrev set : KmerSet
+  set = setOf (g .set)
+
+  abbrev ms : List Method
+  ms = methodsOf (g .methods)
+
+  abbrev pub going : ℕ → ℕ → Counts → List ℕ → Type 0
+  going from = Going set (g .confirm) ms (length (g .output)) (lines (g .input)) (lines (drop from (g .input)))
+
+  abbrev pub checked : Type 0
+  checked = Checked (g .confirm) (g .methods) (length (g .input)) (length (g .output)) (length (g .work))
+
+  abbrev exactly : Answer → List ℕ → List ℕ → Type 0
+  exactly = Exact (corrected set (g .confirm) ms (10 ∷ []) g (lines (g .input)))
+
+  module _ (from end : ℕ) where
+    abbrev line-is : List ℕ
+    line-is = take (end - from) (drop from (g .input))
+
+    -- What a line is given.
+    pub line-checked : (o w : List ℕ) → checked → length o ≡ length (g .output) → length w ≡ length (g .work)
+        → Checked (g .confirm) (g .methods) (length line-is) (length o) (length w)
+    line-checked o w k same same-work =
+        record {
+          input = omega (arith, k .input, length-take (end - from) (drop from (g .input)), length-drop from (g .input));
+          methods = k .methods;
+          confirm = k .confirm;
+          output = omega (arith, k .output);
+          work = omega (arith, k .work);
+        }
+
+    module _ (line : ℕ) (done : Counts) (o o′ : List ℕ) (passed : Pass) (i : going from line done o) (l : LineAt (g .input) from end)
+        (h : LineIs set (g .confirm) ms line-is (done .written) o o′ passed) (same : length o′ ≡ length o) where
+      here : Going set (g .confirm) ms (length (g .output)) (lines (g .input)) (line-is ∷ lines (drop (end + 1) (g .input))) line done o
+      here = rw (l .is) at i
+
+      pub batch-no-room : (w : List ℕ) {r : Answer} {o″ w″ : List ℕ} → passed ≡ Full → length w ≡ length (g .work)
+          → NoRoomLeft line (length o′) (length w) o″ w″ r → exactly r o″ w″
+      batch-no-room w e same-work n =
+          let is = subst (LineIs set (g .confirm) ms line-is (done .written) o o′) e h in
+          full-exact set (g .confirm) ms (10 ∷ []) g (lines (g .input)) line
+          (line-full set (g .confirm) ms (length (g .output)) (lines (g .input)) _ _ line done o o′ here is)
+          (rw (same ∙ i .length-is, same-work) at n)
+
+      pub batch-next : (r : Counts) → passed ≡ Done r → setCheck (g .set) ≡ none → g .confirm < 256 → checked
+          → going (end + 1) (line + 1) (added done r) o′
+      batch-next r e opens high k =
+          let is = subst (LineIs set (g .confirm) ms line-is (done .written) o o′) e h in
+          line-done set (g .confirm) ms (length (g .output)) (lines (g .input)) _ _ line done o o′ here
+          (pass-limited (g .set) opens (g .confirm) (k .confirm) high) r (omega (arith, methods-length (g .methods), k .methods))
+          (line-checked o (g .work) k (i .length-is) refl .input) (k .output) is same
+
+  module _ (from line : ℕ) (done : Counts) (o : List ℕ) (i : going from line done o) (k : checked) (b : batchRight (g .input) ≡ true) where
+    pub batch-countable : Countable done × (line ≤ maxLines)
+    batch-countable =
+        let s = i .small in
+        let few : line ≤ maxLines = omega (arith, i .lines, few-lines (g .input) b) in (
+          record {
+            written = omega (arith, i .written, i .length-is, k .output);
+            turns = omega (arith, s .turns);
+            lookups = omega (arith, s .lookups);
+            attempts = omega (arith, s .attempts);
+            accepted = omega (arith, s .accepted);
+          },
+          few,
+        )
+
+    pub batch-small : (done .written ≤ length o) × (done .accepted < 2 ^ 54)
+    batch-small = (i .written, omega (arith, i .small .accepted, batch-countable .1))
+
+  pub batch-accepted : (from line : ℕ) (done : Counts) (o w : List ℕ) {r : Answer} {o′ w′ : List ℕ} → going from line done o
+      → length (g .input) ≤ from → length w ≡ length (g .work) → Accepted done o (length w) o′ w′ r → exactly r o′ w′
+  unfolding lines linesFrom
+  batch-accepted from line done o w i end same a =
+      let over : lines (drop from (g .input)) ≡ [] = ap lines (drop-of-length-le (g .input) end) in
+      let last : Going set (g .confirm) ms (length (g .output)) (lines (g .input)) [] line done o = rw over at i in
+      fits-exact set (g .confirm) ms (10 ∷ []) g (lines (g .input)) done o
+      (all-fit set (g .confirm) ms (length (g .output)) (lines (g .input)) line done o last)
+      (all-done set (g .confirm) ms (length (g .output)) (lines (g .input)) line done o last)
+      (i .written) (i .length-is) (rw same at a)

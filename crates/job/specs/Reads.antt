@@ -74,25 +74,13 @@ lineThrough set c ms line =
     record { bytes = p .bytes ++ (10 ∷ []); turns = p .turns; lookups = p .lookups; attempts = p .attempts; accepted = p .accepted }
 
 -- A line stands behind the first `at` bytes of the output; Full where a pass result and byte 10 are more than what is left.
-abbrev pub LineAnswer : KmerSet → ℕ → List Method → List ℕ → ℕ → List ℕ → List ℕ → Pass → Type 0
-LineAnswer set c ms line at o o′ (Done r) =
+abbrev pub LineIs : KmerSet → ℕ → List Method → List ℕ → ℕ → List ℕ → List ℕ → Pass → Type 0
+LineIs set c ms line at o o′ (Done r) =
     (passOf r (drop at o′) ≡ lineThrough set c ms line)
     × (take at o′ ≡ take at o)
     × (at + r .written ≤ length o)
     × (longest set c ms (10 ∷ []) ms line + 1 ≤ length o - at)
-LineAnswer set c ms line at o o′ Full = length o - at < longest set c ms (10 ∷ []) ms line + 1
-
-pub record LineIs (set : KmerSet) (c : ℕ) (ms : List Method) (line : List ℕ) (at : ℕ) (o o′ : List ℕ) (r : Pass) : Type 0 where
-  pub is : LineAnswer set c ms line at o o′ r
-  pub room : length o′ ≡ length o
-
--- Counts of which two have a sum that fits.
-pub record Countable (n : Counts) : Type 0 where
-  pub written : n .written < 2 ^ 63
-  pub turns : n .turns < 2 ^ 63
-  pub lookups : n .lookups < 2 ^ 63
-  pub attempts : n .attempts < 2 ^ 63
-  pub accepted : n .accepted < 2 ^ 63
+LineIs set c ms line at o o′ Full = length o - at < longest set c ms (10 ∷ []) ms line + 1
 
 abbrev pub added : Counts → Counts → Counts
 added a b =
@@ -103,3 +91,11 @@ added a b =
       attempts = a .attempts + b .attempts;
       accepted = a .accepted + b .accepted;
     }
+
+-- Counts that fit their types.
+pub record Countable (n : Counts) : Type 0 where
+  pub written : n .written < 2 ^ 64
+  pub turns : n .turns < 2 ^ 64
+  pub lookups : n .lookups < 2 ^ 64
+  pub attempts : n .attempts < 2 ^ 64
+  pub accepted : n .accepted < 2 ^ 64

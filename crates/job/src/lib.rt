@@ -168,7 +168,7 @@ fn correct_line(
 }
 
 fn add(a: Counts, b: Counts) -> Counts
-    requires { ⌜ Countable a × Countable b ⌝ }
+    requires { ⌜ Countable (added a b) ⌝ }
     ensures { λ r. ⌜ r ≡ added a b ⌝ }
 {
     Counts {

@@ -1,3 +1,13 @@
+use Prim.Native.Nat.{_+_, _-_, _≤_}
+use native.Mathlib.Omega.{arith}
+use mathlib.Core.Path.{_≡_, refl, sym, _∙_}
+use borrow.Author.Needs.{needs}
+use lib.ListN.{length, length-take, length-drop}
+use Rattle.rules.specs.Calls.{Given, maxLines}
+use Rattle.job.specs.Answer.{given}
+use Rattle.job.specs.Reads.{added, Countable}
+use Rattle.job.proofs.Checked.{ends-in-10}
+use Rattle.job.proofs.Batch.{going, begin, line-checked, batch-no-room, batch-next, batch-countable, batch-small, batch-accepted}
 use Rattle.job.proofs.correct_lines.Statement.{statement}
 use Rattle.job.proofs.correct_lines.Tie as tie
 use Rattle.job.proofs.correct_lines.Reads as reads
@@ -10,95 +20,113 @@ use Rattle.job.proofs.no_room.Reads as no-room-reads
 
 abbrev Inv-loop : tie.InvT-loop
 Inv-loop set starts head confirm methods batch output₀ work₀ done₀ line₀ from₀ output work done line from =
-    ?
+    (from ≤ length batch) × (length work ≡ length work₀) × going (given set confirm methods batch output₀ work₀) from line done output
 
 abbrev μ-loop : tie.MeasureT-loop
-μ-loop set starts head confirm methods batch output₀ work₀ done₀ line₀ from₀ output work done line from =
-    ?
+μ-loop set starts head confirm methods batch output₀ work₀ done₀ line₀ from₀ output work done line from = length batch - from
 
--- src/lib.rt:206:5
+-- What the call is given.
+abbrev call : (s : tie.Start Inv-loop μ-loop) → Given
+call s = given (s .args .set .now) (s .args .confirm) (s .args .methods .now) (s .args .batch .now) (s .args .output .now) (s .args .work .now)
+
 loop-holds : tie.Need-loop-holds Inv-loop μ-loop
-loop-holds c = ?
+loop-holds c = (search needs, refl, begin _ _ _ _ _)
 
--- src/lib.rt:207:13
 line-end-requires : tie.Need-line-end-requires Inv-loop μ-loop
-line-end-requires c κs = ?
+line-end-requires c κs =
+    let s = c .before .before .before .before .before .before .before .before in
+    (c .loop-test .taken, ends-in-10 (s .args .batch .now) (s .pre .2) (omega (arith, c .loop-test .taken)))
 
--- src/lib.rt:208:72
 sub-correct-line : tie.Need-sub-correct-line Inv-loop μ-loop
-sub-correct-line c = ?
+sub-correct-line c = c .line-end .ensures .after
 
--- src/lib.rt:208:72
 part-correct-line-start : tie.Need-part-correct-line-start Inv-loop μ-loop
-part-correct-line-start c = ?
+part-correct-line-start c = omega (arith, c .line-end .ensures .after)
 
--- src/lib.rt:208:72
 part-correct-line-end : tie.Need-part-correct-line-end Inv-loop μ-loop
-part-correct-line-end c = ?
+part-correct-line-end c = omega (arith, c .line-end .ensures .inside)
 
--- src/lib.rt:208:13
 correct-line-requires : tie.Need-correct-line-requires Inv-loop μ-loop
-correct-line-requires c κs = ?
+correct-line-requires c κs =
+    let l = c .before .before .before .before .before .loop in
+    let s = c .before .before .before .before .before .before .before .before .before .before .before .before in
+    (s .pre .0, line-checked (call s) (l .from) (c .before .before .before .line-end .result) (l .output) (l .work) (s .pre .1) (l .inv .2 .length-is) (l .inv .1), l .inv .2 .written)
 
--- src/lib.rt:209:24
 enum-known-passed : tie.Need-enum-known-passed Inv-loop μ-loop
-enum-known-passed c = ?
+enum-known-passed c = search needs
 
--- src/lib.rt:210:34
 enum-told : tie.Need-enum-told Inv-loop μ-loop
-enum-told c = ?
+enum-told c = search needs
 
--- src/lib.rt:210:13
 no-room-requires : tie.Need-no-room-requires Inv-loop μ-loop
-no-room-requires c κs = ?
+no-room-requires c κs = search needs
 
--- src/lib.rt:210:13
 same-length : tie.Need-same-length Inv-loop μ-loop
-same-length c = ?
+same-length c = search needs
 
--- src/lib.rt:210:13
 same-length-2 : tie.Need-same-length-2 Inv-loop μ-loop
-same-length-2 c = ?
+same-length-2 c = search needs
 
--- src/lib.rt:210:13
 returns : tie.Need-returns Inv-loop μ-loop
-returns c = ?
+returns c =
+    let e = c .before .before .before .before .before .before .before in
+    let p = e .before .before .before .before .before .before in
+    let l = p .before .before .before .before .before .before .loop in
+    let k = p .correct-line .kept .1 .1 .1 .1 .1 .1 .1 in
+    batch-no-room _ _ _ _ _ _ _ _ (l .inv .2) (p .before .before .before .before .line-end .ensures) (p .correct-line .ensures) (k .0)
+    (p .correct-line .last .1 .1 .1 .1 .1 .1 .1 .1 .0) (e .enum-told .given .1) (k .1 .0 ∙ l .inv .1) (c .before .before .before .before .no-room .ensures)
 
--- src/lib.rt:212:9
+next : (c : tie.After-known-told Inv-loop μ-loop) →
+    let p = c .before .before .before .before .before .before .before in
+    let l = p .before .before .before .before .before .before .loop in
+    going (call (p .before .before .before .before .before .before .before .before .before .before .before .before .before )) (p .before .before .before .before .line-end .result + 1) (l .line + 1) (added (l .done) (c .before .passed .given .0 .0)) (p .correct-line .last .1 .1 .1 .1 .1 .1 .1 .0)
+next c =
+    let e = c .before in
+    let p = e .before .before .before .before .before .before in
+    let l = p .before .before .before .before .before .before .loop in
+    let s = p .before .before .before .before .before .before .before .before .before .before .before .before .before in
+    batch-next (call s) (l .from) _ _ _ _ _ _ (l .inv .2) (p .before .before .before .before .line-end .ensures) (p .correct-line .ensures)
+    (p .correct-line .kept .1 .1 .1 .1 .1 .1 .1 .0) _ (e .passed .given .1) (s .pre .0 .opens) (s .fits .confirm .fits) (s .pre .1)
+
+fits : (c : tie.After-known-told Inv-loop μ-loop) → let l = c .before .before .before .before .before .before .before .before .before .before .before .before .before .loop in
+    Countable (added (l .done) (c .before .passed .given .0 .0)) × (l .line + 1 ≤ maxLines)
+fits c =
+    let s = c .before .before .before .before .before .before .before .before .before .before .before .before .before .before .before .before .before .before .before .before in
+    batch-countable (call s) (c .before .before .before .before .before .before .before .before .before .before .before .line-end .result + 1) _ _ _ (next c) (s .pre .1) (s .pre .2)
+
 add-requires : tie.Need-add-requires Inv-loop μ-loop
-add-requires c κs = ?
+add-requires c κs = fits c .0
 
--- src/lib.rt:213:9
 add-line : tie.Need-add-line Inv-loop μ-loop
-add-line c = ?
+add-line c = omega (arith, fits (c .before) .1)
 
--- src/lib.rt:214:16
 add-from : tie.Need-add-from Inv-loop μ-loop
-add-from c = ?
+add-from c = omega (arith, c .before .before .before .before .before .before .before .before .before .before .before .before .line-end .ensures .inside, c .before .before .before .before .before .before .before .before .before .before .before .before .before .before .before .before .before .before .before .before .before .good)
 
--- src/lib.rt:206:5
 loop-less : tie.Need-loop-less Inv-loop μ-loop
-loop-less c = ?
+loop-less c = search needs
 
--- src/lib.rt:206:5
 loop-again : tie.Need-loop-again Inv-loop μ-loop
-loop-again c = ?
+loop-again c =
+    let p = c .before .before .before .before .before .before .before .before in
+    (omega (arith, p .before .before .before .before .line-end .ensures .inside), p .correct-line .kept .1 .1 .1 .1 .1 .1 .1 .1 .0 ∙ p .before .before .before .before .before .before .loop .inv .1, rw (c .add .ensures) (next (c .before)))
 
--- src/lib.rt:216:5
 accept-requires : tie.Need-accept-requires Inv-loop μ-loop
-accept-requires c κs = ?
+accept-requires c κs =
+    let l = c .before .before .before .loop in
+    let s = c .before .before .before .before .before .before .before .before .before .before in
+    batch-small (call s) (l .from) _ _ _ (l .inv .2) (s .pre .1) (s .pre .2)
 
--- src/lib.rt:184:1
 same-length-3 : tie.Need-same-length-3 Inv-loop μ-loop
-same-length-3 c = ?
+same-length-3 c = search needs
 
--- src/lib.rt:184:1
 same-length-4 : tie.Need-same-length-4 Inv-loop μ-loop
-same-length-4 c = ?
+same-length-4 c = search needs
 
--- src/lib.rt:184:1
 returns-2 : tie.Need-returns-2 Inv-loop μ-loop
-returns-2 c = ?
+returns-2 c =
+    let l = c .before .before .before .before .before .before .before .before .loop in
+    batch-accepted _ _ _ _ _ (l .work) (l .inv .2) (c .before .before .before .before .before .before .before .loop-test .left) (l .inv .1) (c .before .before .before .before .accept .ensures)
 
 pub correct-lines-spec : {M : Type 1} → statement M
 correct-lines-spec =
