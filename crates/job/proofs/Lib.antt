@@ -7,3 +7,4 @@ pub mod Totals
 pub mod Single
 pub mod Line
 pub mod Batch
+pub mod Opening

@@ -1,3 +1,14 @@
+use Prim.Native.Nat.{ℕ}
+use mathlib.Core.Path.{_≡_, sym, ap, _∙_}
+use mathlib.Core.Option.{none}
+use lib.ListN.{length, length-replicate}
+use Rattle.rules.specs.Calls.{inputCheck}
+use Rattle.input.specs.Input.{checkOf}
+use Rattle.input.proofs.Checks.{not-fine}
+use Rattle.blocks.proofs.Opening.{not-set}
+use Rattle.job.proofs.Checked.{checked}
+use Rattle.job.proofs.Refused.{input-refused, set-refused as not-opened}
+use Rattle.job.proofs.Opening.{set-opened, set-checked, read-refused, read-not-opened, read-corrected}
 use borrow.Author.Needs.{needs}
 use Rattle.job.proofs.correct_read.Statement.{statement}
 use Rattle.job.proofs.correct_read.Tie as tie
@@ -23,9 +34,17 @@ input-refused-requires c κs = search needs
 
 -- src/lib.rt:232:9
 returns : tie.Need-returns
-returns c = ?
+returns c =
+    let m = c .before .before in
+    let refused = input-refused (m .check-input .result) _ (λ e. not-fine (rw e at (c .before .match .keys2))) (c .input-refused .ensures) in
+    (read-refused _ _ (sym (m .check-input .ensures) ∙ refused), tt)
 
 -- src/lib.rt:234:9
+-- Checks 1 to 5 let pass.
+fine : (c : tie.After-enum-told) → let a = c .before .before .before .before .before .before .before .before .args in
+    inputCheck (length (a .read .now)) (a .methods .now) (a .confirm) (length (a .output .now)) (length (a .work .now)) ≡ none
+fine c = sym (c .before .before .check-input .ensures) ∙ ap checkOf (c .enum-told .given .1)
+
 open-requires : tie.Need-open-requires
 open-requires c κs = search needs
 
@@ -39,7 +58,10 @@ set-refused-requires c κs = search needs
 
 -- src/lib.rt:236:9
 returns-2 : tie.Need-returns-2
-returns-2 c = ?
+returns-2 c =
+    let o = c .before .before in
+    let refused = not-opened _ (o .«open» .result) _ (λ k n e. not-set (rw e at (c .before .match2 .keys2))) (c .set-refused .ensures) (o .«open» .ensures) in
+    (read-not-opened _ _ (fine (o .before)) refused, tt)
 
 -- src/lib.rt:239:40
 slice-aggregate-prepare : tie.Need-slice-aggregate-prepare
@@ -47,7 +69,10 @@ slice-aggregate-prepare c = search needs
 
 -- src/lib.rt:239:9
 prepare-requires : tie.Need-prepare-requires
-prepare-requires c κs = ?
+prepare-requires c κs =
+    let k = c .before .before in
+    let t = set-checked _ _ _ _ (k .opened .given .1) (k .before .before .«open» .ensures) in
+    (t .0, t .1, t .2, length-replicate {A = ℕ} 65537 0)
 
 -- src/lib.rt:240:22
 slice-aggregate-correct-one : tie.Need-slice-aggregate-correct-one
@@ -55,7 +80,7 @@ slice-aggregate-correct-one c = search needs
 
 -- src/lib.rt:240:5
 correct-one-requires : tie.Need-correct-one-requires
-correct-one-requires c κs = ?
+correct-one-requires c κs = (c .before .before .before .before .prepare .ensures, checked _ _ _ _ _ (fine (c .before .before .before .before .before .before .before .before .before .before )))
 
 -- src/lib.rt:219:1
 same-length : tie.Need-same-length
@@ -67,7 +92,11 @@ same-length-2 c = search needs
 
 -- src/lib.rt:219:1
 returns-3 : tie.Need-returns-3
-returns-3 c = ?
+returns-3 c =
+    let q = c .before .before .before .before in
+    let k = q .before .before .before .before .before .before .before .before in
+    let f = fine (k .before .before .before ) in
+    read-corrected _ _ f (set-opened _ _ _ _ (k .opened .given .1) (k .before .before .«open» .ensures)) (checked _ _ _ _ _ f .confirm) (q .correct-one .ensures)
 
 pub correct-read-spec : {M : Type 1} → statement M
 correct-read-spec =
