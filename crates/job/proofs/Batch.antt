@@ -18,10 +18,12 @@ use Rattle.input.specs.Input.{LineAt}
 use Rattle.job.specs.declared.correct.Counts.{Counts}
 use Rattle.job.specs.declared.correct.Pass.{Pass}
 use Rattle.job.specs.declared.correct.Pass.the-variants.{Done, Full}
+use Rattle.job.specs.declared.Refusal.the-variants.{NoRoom}
 use Rattle.job.specs.declared.Answer.{Answer}
+use Rattle.job.specs.declared.Answer.the-variants.{Report as Reported, Refused}
 use Rattle.job.specs.Answer.{Exact}
 use Rattle.job.specs.Through.{passOf, through}
-use Rattle.job.specs.Reads.{Checked, NoRoomLeft, Accepted, throughAll, lineThrough, LineIs, added, Countable}
+use Rattle.job.specs.Reads.{Checked, Cleared, reportOn, throughAll, lineThrough, LineIs, added, Countable}
 use Rattle.job.proofs.Standin.{Limited, pass-limited}
 use Rattle.job.proofs.Totals.{Small, methods-length, read-small}
 use Rattle.job.proofs.Checked.{few-lines}
@@ -202,12 +204,12 @@ module _ (g : Given) where
       here = rw (l .is) at i
 
       pub batch-no-room : (w : List ℕ) {r : Answer} {o″ w″ : List ℕ} → passed ≡ Full → length w ≡ length (g .work)
-          → NoRoomLeft line (length o′) (length w) o″ w″ r → exactly r o″ w″
+          → (r ≡ Refused (NoRoom line)) × Cleared 0 o′ (length w) o″ w″ → exactly r o″ w″
       batch-no-room w e same-work n =
           let is = subst (LineIs set (g .confirm) ms line-is (done .written) o o′) e h in
           full-exact set (g .confirm) ms (10 ∷ []) g (lines (g .input)) line
           (line-full set (g .confirm) ms (length (g .output)) (lines (g .input)) _ _ line done o o′ here is)
-          (rw (same ∙ i .length-is, same-work) at n)
+          o′ (same ∙ i .length-is) (n .0) (rw same-work at (n .1))
 
       pub batch-next : (r : Counts) → passed ≡ Done r → setCheck (g .set) ≡ none → g .confirm < 256 → checked
           → going (end + 1) (line + 1) (added done r) o′
@@ -236,7 +238,7 @@ module _ (g : Given) where
     batch-small = (i .written, omega (arith, i .small .accepted, batch-countable .1))
 
   pub batch-accepted : (from line : ℕ) (done : Counts) (o w : List ℕ) {r : Answer} {o′ w′ : List ℕ} → going from line done o
-      → length (g .input) ≤ from → length w ≡ length (g .work) → Accepted done o (length w) o′ w′ r → exactly r o′ w′
+      → length (g .input) ≤ from → length w ≡ length (g .work) → (r ≡ Reported (reportOn done)) × Cleared (done .written) o (length w) o′ w′ → exactly r o′ w′
   unfolding lines linesFrom
   batch-accepted from line done o w i end same a =
       let over : lines (drop from (g .input)) ≡ [] = ap lines (drop-of-length-le (g .input) end) in
@@ -244,4 +246,4 @@ module _ (g : Given) where
       fits-exact set (g .confirm) ms (10 ∷ []) g (lines (g .input)) done o
       (all-fit set (g .confirm) ms (length (g .output)) (lines (g .input)) line done o last)
       (all-done set (g .confirm) ms (length (g .output)) (lines (g .input)) line done o last)
-      (i .written) (i .length-is) (rw same at a)
+      (i .written) (i .length-is) (a .0) (rw same at (a .1))

@@ -19,16 +19,13 @@ use Rattle.rules.proofs.Demands.{ceilings}
 use Rattle.job.specs.declared.correct.Counts.{Counts}
 use Rattle.job.specs.declared.Report.{Report}
 use Rattle.job.specs.declared.Refusal.{Refusal}
+use Rattle.job.specs.declared.Refusal.the-variants.{NoRoom}
 use Rattle.job.specs.declared.Answer.{Answer}
 use Rattle.job.specs.declared.Answer.the-variants.{Report as Reported, Refused}
 use Rattle.job.specs.Through.{passOf}
 use Rattle.job.specs.Answer.{refusalOf, reportOf, answerOf, Exact, Ceiling}
-use Rattle.job.specs.Reads.{NoRoomLeft, Accepted, reportOn, throughAll}
+use Rattle.job.specs.Reads.{Cleared, reportOn, throughAll}
 use Rattle.job.proofs.Calls.{corrected-full, corrected-fits}
-
--- A buffer cleared from its start.
-pub all-zero : (n : ℕ) {l : List ℕ} → l ≡ replicate (n - 0) 0 → l ≡ replicate n 0
-all-zero n e = rw (sub-zero n) at e
 
 -- Refusals 1 to 10.
 pub refused-exact : (g : Given) (after : After) (r : Refusal) → after ≡ unchanged g (refusalOf r) → Exact after (Refused r) (g .output) (g .work)
@@ -46,13 +43,13 @@ module _ (set : KmerSet) (c : ℕ) (ms : List Method) (ending : List ℕ) (g : G
 
   -- Refusal 11.
   pub full-exact : (line : ℕ) {r : Answer} {o w : List ℕ} → tooLong set c ms ending 0 (length (g .output)) reads ≡ some line
-      → NoRoomLeft line (length (g .output)) (length (g .work)) o w r → Exact after r o w
+      → (out : List ℕ) → length out ≡ length (g .output) → r ≡ Refused (NoRoom line) → Cleared 0 out (length (g .work)) o w → Exact after r o w
   unfolding noRoom
-  full-exact line e h =
+  full-exact line e out same a h =
       let is = corrected-full set c ms ending g reads line e in
       record {
-        answer = ap answerOf (h .answer) ∙ ap (λ (a : After). a .answer) (sym is);
-        output = h .output ∙ ap (λ (a : After). a .output) (sym is);
+        answer = ap answerOf a ∙ ap (λ (x : After). x .answer) (sym is);
+        output = h .output ∙ rw (sub-zero (length out), same, ap (λ (x : After). x .output) is);
         work = h .work ∙ ap (λ (a : After). a .work) (sym is);
       }
 
@@ -71,15 +68,15 @@ module _ (set : KmerSet) (c : ℕ) (ms : List Method) (ending : List ℕ) (g : G
   -- Accepted: out holds the results when the rest is cleared.
   pub fits-exact : (done : Counts) (out : List ℕ) {r : Answer} {o w : List ℕ} → tooLong set c ms ending 0 (length (g .output)) reads ≡ none
       → passOf done out ≡ throughAll set c ms ending reads → done .written ≤ length out
-      → length out ≡ length (g .output) → Accepted done out (length (g .work)) o w r → Exact after r o w
+      → length out ≡ length (g .output) → r ≡ Reported (reportOn done) → Cleared (done .written) out (length (g .work)) o w → Exact after r o w
   unfolding throughAll
-  fits-exact done out e s l same h =
+  fits-exact done out e s l same a h =
       let is = corrected-fits set c ms ending g reads e in
       let t : take (done .written) out ≡ results set c ms ending reads = ap (λ (p : Pass). p .bytes) s in
       let left : length out - done .written ≡ length (g .output) - length (results set c ms ending reads) =
       omega (arith, length-take-le (done .written) out l, ap length t) in
       record {
-        answer = ap answerOf (h .answer) ∙ ap accepted (report-is done out l s) ∙ ap (λ (a : After). a .answer) (sym is);
+        answer = ap answerOf a ∙ ap accepted (report-is done out l s) ∙ ap (λ (x : After). x .answer) (sym is);
         output = h .output ∙ ap₂ (λ (l : List ℕ) (n : ℕ). l ++ replicate n 0) t left ∙ ap (λ (a : After). a .output) (sym is);
         work = h .work ∙ ap (λ (a : After). a .work) (sym is);
       }

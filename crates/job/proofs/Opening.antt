@@ -95,6 +95,6 @@ module _ (g : Given) where
       unfolding correctBatch givenCheck
       batch-corrected r {o} {w} opens low h = (
         subst (λ (a : After). Exact a r o w)
-        (sym (call-opened (10 ∷ []) (lines (g .input)) (checks orElse six) g (setOf (g .set)) passed opens)) h,
+            (sym (call-opened (10 ∷ []) (lines (g .input)) (checks orElse six) g (setOf (g .set)) passed opens)) h,
         under-ceiling (setOf (g .set)) (g .confirm) (methodsOf (g .methods)) (10 ∷ []) g (lines (g .input)) (g .set) opens low r h,
       )

@@ -15,10 +15,12 @@ use Rattle.rules.specs.Calls.{longest, tooLong, results, corrected}
 use Rattle.job.specs.declared.correct.Counts.{Counts}
 use Rattle.job.specs.declared.correct.Pass.{Pass}
 use Rattle.job.specs.declared.correct.Pass.the-variants.{Done, Full}
+use Rattle.job.specs.declared.Refusal.the-variants.{NoRoom}
 use Rattle.job.specs.declared.Answer.{Answer}
+use Rattle.job.specs.declared.Answer.the-variants.{Report as Reported, Refused}
 use Rattle.job.specs.Through.{through, ThroughIs, Through}
 use Rattle.job.specs.Answer.{given, Exact}
-use Rattle.job.specs.Reads.{Checked, NoRoomLeft, Accepted, throughAll}
+use Rattle.job.specs.Reads.{Checked, Cleared, reportOn, throughAll}
 use Rattle.job.proofs.Standin.{pass-limited}
 use Rattle.job.proofs.Totals.{methods-length, read-small}
 use Rattle.job.proofs.Calls.{too-long-here, too-long-later}
@@ -58,12 +60,12 @@ module _ (bytes : List ℕ) (c : ℕ) (methods read output o₁ : List ℕ) (wor
   work-same : length w₁ ≡ length work
   work-same = length-front work part (length output) (t .work-room)
 
-  pub single-no-room : {r : Answer} {o w : List ℕ} → passed ≡ Full → NoRoomLeft 0 (length o₁) (length w₁) o w r → exactly r o w
+  pub single-no-room : {r : Answer} {o w : List ℕ} → passed ≡ Full → (r ≡ Refused (NoRoom 0)) × Cleared 0 o₁ (length w₁) o w → exactly r o w
   single-no-room e h =
       let is = subst (ThroughIs (setOf bytes) c (methodsOf methods) read (length output) o₁) e (t .is) in
       full-exact (setOf bytes) c (methodsOf methods) [] (given bytes c methods read output work) (read ∷ []) 0
       (single-full (setOf bytes) c (methodsOf methods) read (length output) is)
-      (rw (t .output-room, work-same) at h)
+      o₁ (t .output-room) (h .0) (rw work-same at (h .1))
 
   module _ (done : Counts) (e : passed ≡ Done done) where
     is : ThroughIs (setOf bytes) c (methodsOf methods) read (length output) o₁ (Done done)
@@ -77,8 +79,8 @@ module _ (bytes : List ℕ) (c : ℕ) (methods read output o₁ : List ℕ) (wor
         (omega (arith, is .2, h .output)) in
         (is .1, omega (arith, ap (λ (p : Rules.Pass). p .accepted) (is .0), s .accepted))
 
-    pub single-accepted : {r : Answer} {o w : List ℕ} → Accepted done o₁ (length w₁) o w r → exactly r o w
+    pub single-accepted : {r : Answer} {o w : List ℕ} → (r ≡ Reported (reportOn done)) × Cleared (done .written) o₁ (length w₁) o w → exactly r o w
     single-accepted h =
         fits-exact (setOf bytes) c (methodsOf methods) [] (given bytes c methods read output work) (read ∷ []) done o₁
         (single-fits (setOf bytes) c (methodsOf methods) read (length output) (is .2))
-        (is .0 ∙ sym (single-all (setOf bytes) c (methodsOf methods) read)) (is .1) (t .output-room) (rw work-same at h)
+        (is .0 ∙ sym (single-all (setOf bytes) c (methodsOf methods) read)) (is .1) (t .output-room) (h .0) (rw work-same at (h .1))

@@ -6,6 +6,7 @@ use lib.ListN.{length}
 use Rattle.rules.specs.Set.{setOf, setCheck}
 use Rattle.rules.specs.Job.{Method, pass}
 use Rattle.rules.specs.Driver.{Pass}
+
 abbrev pub maxF : ℕ
 maxF = 503317293
 

@@ -14,10 +14,6 @@ use Rattle.job.specs.declared.correct.Pass.{Pass}
 use Rattle.job.specs.declared.correct.Pass.the-variants.{Done, Full}
 use Rattle.job.specs.Through.{passOf, through}
 use Rattle.job.specs.declared.Report.{Report}
-use Rattle.job.specs.declared.Refusal.{Refusal}
-use Rattle.job.specs.declared.Refusal.the-variants.{NoRoom}
-use Rattle.job.specs.declared.Answer.{Answer}
-use Rattle.job.specs.declared.Answer.the-variants.{Report as Reported, Refused}
 
 -- What checks 1 to 5 leave, by the lengths of input, output and work.
 pub record Checked (c : ℕ) (ms : List ℕ) (i o w : ℕ) : Type 0 where
@@ -29,12 +25,12 @@ pub record Checked (c : ℕ) (ms : List ℕ) (i o w : ℕ) : Type 0 where
 
 -- ---- the end of a call
 
--- Refusal 11 at a line: both buffers are zero.
-pub record NoRoomLeft (line o w : ℕ) (o′ w′ : List ℕ) (r : Answer) : Type 0 where
-  pub answer : r ≡ Refused (NoRoom line)
-  pub output : o′ ≡ replicate o 0
+-- The bytes written stay, the rest of the output and the whole work buffer, of length w, are zero.
+pub record Cleared (written : ℕ) (o : List ℕ) (w : ℕ) (o′ w′ : List ℕ) : Type 0 where
+  pub output : o′ ≡ take written o ++ replicate (length o - written) 0
   pub work : w′ ≡ replicate w 0
 
+-- The report on what was written and counted.
 abbrev pub reportOn : Counts → Report
 reportOn n =
     record {
@@ -45,12 +41,6 @@ reportOn n =
       accepted = n .accepted;
       «yield_» = yieldOf (n .accepted) (n .attempts);
     }
-
--- The bytes written stay, the rest of the output and the whole work buffer are zero.
-pub record Accepted (done : Counts) (o : List ℕ) (w : ℕ) (o′ w′ : List ℕ) (r : Answer) : Type 0 where
-  pub answer : r ≡ Reported (reportOn done)
-  pub output : o′ ≡ take (done .written) o ++ replicate (length o - done .written) 0
-  pub work : w′ ≡ replicate w 0
 
 -- ---- the reads of a call in turn
 

@@ -19,7 +19,16 @@ pub enum Pass {
     Full,
 }
 
-pub fn through(set: &[u8], starts: &[u32], head: Header, c: u8, methods: &[u8], read: &[u8], output: &mut [u8], work: &mut [u8]) -> Pass
+pub fn through(
+    set: &[u8],
+    starts: &[u32],
+    head: Header,
+    c: u8,
+    methods: &[u8],
+    read: &[u8],
+    output: &mut [u8],
+    work: &mut [u8],
+) -> Pass
     requires { ⌜ Ready (now set) (now starts) head × (1 ≤ c) × (length (now methods) ≤ 8) × (length (now read) ≤ maxLength) ⌝ }
     requires { ⌜ (length (now output) ≤ maxLength) × (length (now work) ≡ length (now output)) ⌝ }
     ensures { λ r. ⌜ Through (setOf (now (set .entry))) c (now (methods .entry)) (now (read .entry)) (now (output .entry)) (now (output .exit)) (now (work .entry)) (now (work .exit)) r ⌝ }

@@ -1,7 +1,9 @@
 // The calls of document 01: a single read, and a batch.
 mod correct;
+
 use blocks::Opened;
-use correct::{Counts, Pass};
+use correct::Counts;
+use correct::Pass;
 use input::Input;
 use kmer::Header;
 ghost use mathlib.Core.Path.{_≡_};
@@ -15,7 +17,10 @@ ghost use Rattle.rules.specs.Job.{methodsOf, lines};
 ghost use Rattle.rules.specs.Calls.{batchRight, corrected, correctRead, correctBatch};
 ghost use Rattle.set.specs.Ready.{Ready};
 ghost use Rattle.job.specs.Answer.{Exact, Ceiling, given, InputRefused, SetRefused};
-ghost use Rattle.job.specs.Reads.{Checked, NoRoomLeft, Accepted, LineIs, Countable, added};
+ghost use Rattle.job.specs.Reads.{Checked, Cleared, reportOn, LineIs, Countable, added};
+
+// What set::prepare fills.
+const STARTS: usize = 65537;
 
 // Document 01, "Report".
 pub struct Report {
@@ -74,12 +79,20 @@ fn set_refused(opened: Opened) -> Refusal
     }
 }
 
+// Zeros behind the bytes written, and in the whole work buffer.
+fn clear_rest(written: usize, output: &mut [u8], work: &mut [u8])
+    requires { ⌜ written ≤ length (now output) ⌝ }
+    ensures { λ _. ⌜ Cleared written (now (output .entry)) (length (now (work .entry))) (now (output .exit)) (now (work .exit)) ⌝ }
+{
+    input::clear(output, written);
+    input::clear(work, 0);
+}
+
 // Refusal 11.
 fn no_room(line: usize, output: &mut [u8], work: &mut [u8]) -> Answer
-    ensures { λ r. ⌜ NoRoomLeft line (length (now (output .entry))) (length (now (work .entry))) (now (output .exit)) (now (work .exit)) r ⌝ }
+    ensures { λ r. ⌜ (r ≡ Answer.Refused (Refusal.NoRoom line)) × Cleared 0 (now (output .entry)) (length (now (work .entry))) (now (output .exit)) (now (work .exit)) ⌝ }
 {
-    input::clear(output, 0);
-    input::clear(work, 0);
+    clear_rest(0, output, work);
     Answer::Refused(Refusal::NoRoom(line))
 }
 
@@ -96,10 +109,9 @@ fn yield_of(accepted: u64, attempts: u64) -> u64
 
 fn accept(done: Counts, output: &mut [u8], work: &mut [u8]) -> Answer
     requires { ⌜ (done .written ≤ length (now output)) × (done .accepted < 2 ^ 54) ⌝ }
-    ensures { λ r. ⌜ Accepted done (now (output .entry)) (length (now (work .entry))) (now (output .exit)) (now (work .exit)) r ⌝ }
+    ensures { λ r. ⌜ (r ≡ Answer.Report (reportOn done)) × Cleared (done .written) (now (output .entry)) (length (now (work .entry))) (now (output .exit)) (now (work .exit)) ⌝ }
 {
-    input::clear(output, done.written);
-    input::clear(work, 0);
+    clear_rest(done.written, output, work);
     Answer::Report(Report {
         written: done.written,
         turns: done.turns,
@@ -125,7 +137,16 @@ fn correct_one(
     ensures { λ r. ⌜ Exact (corrected (setOf (now (set .entry))) confirm (methodsOf (now (methods .entry))) [] (given (now (set .entry)) confirm (now (methods .entry)) (now (read .entry)) (now (output .entry)) (now (work .entry))) (now (read .entry) ∷ [])) r (now (output .exit)) (now (work .exit)) ⌝ }
 {
     let room = output.len();
-    let passed = correct::through(set, starts, head, confirm, methods, read, output, &mut work[..room]);
+    let passed = correct::through(
+        set,
+        starts,
+        head,
+        confirm,
+        methods,
+        read,
+        output,
+        &mut work[..room],
+    );
     let Pass::Done(done) = passed else {
         return no_room(0, output, work);
     };
@@ -152,7 +173,16 @@ fn correct_line(
     }
     let end = output.len() - 1;
     let room = end - at;
-    let passed = correct::through(set, starts, head, confirm, methods, line, &mut output[at..end], &mut work[..room]);
+    let passed = correct::through(
+        set,
+        starts,
+        head,
+        confirm,
+        methods,
+        line,
+        &mut output[at..end],
+        &mut work[..room],
+    );
     let Pass::Done(done) = passed else {
         return Pass::Full;
     };
@@ -205,7 +235,17 @@ fn correct_lines(
     let mut from = 0;
     while from < batch.len() {
         let end = input::line_end(batch, from);
-        let passed = correct_line(set, starts, head, confirm, methods, &batch[from..end], done.written, output, work);
+        let passed = correct_line(
+            set,
+            starts,
+            head,
+            confirm,
+            methods,
+            &batch[from..end],
+            done.written,
+            output,
+            work,
+        );
         let Pass::Done(more) = passed else {
             return no_room(line, output, work);
         };
@@ -235,7 +275,7 @@ pub fn correct_read(
     let Opened::Set(k, n) = opened else {
         return Answer::Refused(set_refused(opened));
     };
-    let mut starts = [0u32; 65537];
+    let mut starts = [0u32; STARTS];
     let head = set::prepare(set, k, n, &mut starts);
     correct_one(set, &starts, head, confirm, methods, read, output, work)
 }
@@ -262,7 +302,7 @@ pub fn correct_batch(
     let Opened::Set(k, n) = opened else {
         return Answer::Refused(set_refused(opened));
     };
-    let mut starts = [0u32; 65537];
+    let mut starts = [0u32; STARTS];
     let head = set::prepare(set, k, n, &mut starts);
     correct_lines(set, &starts, head, confirm, methods, batch, output, work)
 }

@@ -99,7 +99,7 @@ slice-aggregate-correct-lines c = search needs
 correct-lines-requires : tie.Need-correct-lines-requires
 correct-lines-requires c κs =
     let b = c .before .before .before .before .before .before .before .before .before .before in
-    (c .before .before .before .before .prepare .ensures, checked _ _ _ _ _ (fine (b .before .before )), right b)
+    (c .before .before .before .before .prepare .ensures, checked _ _ _ _ _ (fine (b .before .before)), right b)
 
 -- src/lib.rt:243:1
 same-length : tie.Need-same-length
@@ -115,7 +115,7 @@ returns-4 c =
     let q = c .before .before .before .before in
     let k = q .before .before .before .before .before .before .before .before in
     let b = k .before .before .before in
-    let f = fine (b .before .before ) in
+    let f = fine (b .before .before) in
     batch-corrected _ f (right b) _ (set-opened _ _ _ _ (k .opened .given .1) (k .before .before .«open» .ensures)) (checked _ _ _ _ _ f .confirm) (q .correct-lines .ensures)
 
 pub correct-batch-spec : {M : Type 1} → statement M

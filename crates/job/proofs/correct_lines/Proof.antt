@@ -79,7 +79,7 @@ returns c =
 next : (c : tie.After-known-told Inv-loop μ-loop) →
     let p = c .before .before .before .before .before .before .before in
     let l = p .before .before .before .before .before .before .loop in
-    going (call (p .before .before .before .before .before .before .before .before .before .before .before .before .before )) (p .before .before .before .before .line-end .result + 1) (l .line + 1) (added (l .done) (c .before .passed .given .0 .0)) (p .correct-line .last .1 .1 .1 .1 .1 .1 .1 .0)
+    going (call (p .before .before .before .before .before .before .before .before .before .before .before .before .before)) (p .before .before .before .before .line-end .result + 1) (l .line + 1) (added (l .done) (c .before .passed .given .0 .0)) (p .correct-line .last .1 .1 .1 .1 .1 .1 .1 .0)
 next c =
     let e = c .before in
     let p = e .before .before .before .before .before .before in

@@ -80,7 +80,7 @@ slice-aggregate-correct-one c = search needs
 
 -- src/lib.rt:240:5
 correct-one-requires : tie.Need-correct-one-requires
-correct-one-requires c κs = (c .before .before .before .before .prepare .ensures, checked _ _ _ _ _ (fine (c .before .before .before .before .before .before .before .before .before .before )))
+correct-one-requires c κs = (c .before .before .before .before .prepare .ensures, checked _ _ _ _ _ (fine (c .before .before .before .before .before .before .before .before .before .before)))
 
 -- src/lib.rt:219:1
 same-length : tie.Need-same-length
@@ -95,7 +95,7 @@ returns-3 : tie.Need-returns-3
 returns-3 c =
     let q = c .before .before .before .before in
     let k = q .before .before .before .before .before .before .before .before in
-    let f = fine (k .before .before .before ) in
+    let f = fine (k .before .before .before) in
     read-corrected _ _ f (set-opened _ _ _ _ (k .opened .given .1) (k .before .before .«open» .ensures)) (checked _ _ _ _ _ f .confirm) (q .correct-one .ensures)
 
 pub correct-read-spec : {M : Type 1} → statement M

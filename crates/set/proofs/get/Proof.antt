@@ -41,8 +41,7 @@ start-requires-2 c κs = entries (c .before) .room
 search-requires : tie.Need-search-requires
 search-requires c κs =
     let k = c .before .before in
-    let e = entries k in
-    (
+    let e = entries k in (
       k .before .before .before .pre .0 .opens,
       rw (c .before .start .ensures, c .start2 .ensures) (e .bracket),
       rw (c .before .start .ensures, c .start2 .ensures) (e .in-order),
