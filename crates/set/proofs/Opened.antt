@@ -1,18 +1,20 @@
--- What `setCheck bytes ≡ none` says of a set's bytes: lengths, k, n, and the n keys.
+-- What `setCheck bytes ≡ none` says of the bytes: k, n, the count of blocks, and the n keys.
 use Prim.Native.Nat.{ℕ, zero, suc, _+_, _*_, _-_, _/_, _%_, _^_, _≤_, _<_}
 use native.Mathlib.Omega.{arith}
-use mathlib.Core.Path.{_≡_, refl, sym, ap, _∙_}
-use mathlib.Core.Bool.{Bool, true, false, _&&_, _||_, false≢true}
+use mathlib.Core.Path.{_≡_, refl, sym, ap}
+use mathlib.Core.Bool.{Bool, true, false, _||_}
 use mathlib.Core.Option.{Option, none, some}
 use mathlib.Core.Logic.{_⊎_, inl, inr}
 use mathlib.Core.List.{List}
 use native.Mathlib.Nat.{not-suc-le-zero, eq-or-lt-of-le}
 use borrow.Author.Tests.{ltb-true, leb-true, eqb-true, lt-ltb, ne-eqb}
-use lib.Dec.{eqb, ltb, leb}
+use lib.Dec.{eqb, ltb}
 use lib.ListN.{length}
 use Rattle.rules.specs.Letters.{canonical}
-use Rattle.rules.specs.Refusal.{Check, _orElse_, unless, atPlace, firstFailing}
-use Rattle.rules.specs.Set.{maxK, maxKeys, blocks, blockWord, headerK, headerN, keyWord, keysFrom, setOf, lengthRight, checkRight, isNone, headerRight, keyRight, setCheck}
+use Rattle.blocks.proofs.Tests.{both}
+use Rattle.blocks.proofs.Opening.{refused-by}
+use Rattle.rules.specs.Refusal.{Check, accepted, _orElse_, unless, atPlace, firstFailing}
+use Rattle.rules.specs.Set.{KmerSet, opened, maxK, maxKeys, blocks, headerK, headerN, keyWord, keysFrom, setOf, lengthRight, checkRight, headerRight, keyRight, setCheck}
 
 -- ---- checks that let pass
 
@@ -34,15 +36,6 @@ unfolding atPlace
 nowhere r none e = refl
 nowhere r (some p) e = none≢some (sym e)
 
-found-none : (p : Option ℕ) → isNone p ≡ true → p ≡ none
-unfolding isNone
-found-none none e = refl
-found-none (some i) e = absurd (false≢true e)
-
-both-true : (a b : Bool) → (a && b) ≡ true → (a ≡ true) × (b ≡ true)
-both-true true b e = (refl, e)
-both-true false b e = absurd (false≢true e)
-
 -- None of the m tests from i on fails.
 none-fails : (ok : ℕ → Bool) (i m : ℕ) → firstFailing ok i m ≡ none → (j : ℕ) → i ≤ j → j < i + m → ok j ≡ true
 unfolding firstFailing
@@ -58,6 +51,24 @@ none-fails ok i (suc m) e j l h = go (ok i) refl (λ n g. none-fails ok (suc i) 
     go false q later = none≢some (sym (rw (q, firstFailing) at e))
 
 -- ---- an opened set
+
+-- What opening accepts has passed the checks.
+pub accepted-opens : (bytes : List ℕ) {s : KmerSet} → opened bytes ≡ accepted s → setCheck bytes ≡ none
+accepted-opens bytes {s} e = go (setCheck bytes) refl
+  where
+    go : (check : Check) → setCheck bytes ≡ check → check ≡ none
+    go none q = refl
+    go (some r) q = let d = refused-by bytes r q in let z : _≡_ {A = ℕ} 0 1 = cc in absurd (omega arith)
+
+keys-length : (bytes : List ℕ) (i m : ℕ) → length (keysFrom bytes i m) ≡ m
+unfolding keysFrom
+keys-length bytes i zero = refl
+keys-length bytes i (suc m) = ap suc (keys-length bytes (suc i) m)
+
+-- A set has n keys.
+pub set-count : (bytes : List ℕ) → length (setOf bytes .keys) ≡ headerN bytes
+unfolding setOf
+set-count bytes = keys-length bytes 0 (headerN bytes)
 
 module _ (bytes : List ℕ) (opens : setCheck bytes ≡ none) where
   -- The four checks, in their order.
@@ -75,15 +86,11 @@ module _ (bytes : List ℕ) (opens : setCheck bytes ≡ none) where
   header : (headerK bytes % 2 ≡ 1) × (headerK bytes ≤ maxK) × (headerN bytes ≤ maxKeys) × (blocks bytes ≡ 1 + (headerN bytes + 62) / 63)
   unfolding headerRight
   header =
-      let e = both-true _ _ (checks .2) in
-      let d = both-true _ _ (e .0) in
-      let c = both-true _ _ (d .0) in
-      let b = both-true _ _ (c .0) in
+      let e = both _ _ (checks .2) in
+      let d = both _ _ (e .0) in
+      let c = both _ _ (d .0) in
+      let b = both _ _ (c .0) in
       (eqb-true _ _ (b .0), leb-true _ _ (b .1), leb-true _ _ (c .1), eqb-true _ _ (e .1))
-
-  pub opened-length : length bytes ≡ 512 * blocks bytes
-  unfolding lengthRight blocks
-  opened-length = let z : length bytes % 512 ≡ 0 = eqb-true _ _ (both-true (ltb 0 (length bytes)) _ (checks .0) .1) in omega arith
 
   pub opened-k-odd : headerK bytes % 2 ≡ 1
   opened-k-odd = header .0
@@ -111,8 +118,8 @@ module _ (bytes : List ℕ) (opens : setCheck bytes ≡ none) where
     unfolding keyRight
     key =
         let right = none-fails (keyRight bytes) 0 _ (checks .3) i (omega arith) (omega (arith, opened-room)) in
-        let c = both-true _ _ (rw (lt-ltb _ _ below, keyRight) at right) in
-        let b = both-true _ _ (c .0) in
+        let c = both _ _ (rw (lt-ltb _ _ below, keyRight) at right) in
+        let b = both _ _ (c .0) in
         (b .0, b .1, c .1)
 
     pub opened-key-canonical : canonical (headerK bytes) (keyWord bytes i) ≡ keyWord bytes i
