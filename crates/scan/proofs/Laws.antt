@@ -7,7 +7,6 @@ use mathlib.Core.Bool.{Bool, true, false}
 use mathlib.Core.Option.{Option, none, some}
 use mathlib.Core.List.{List, [], _∷_}
 use lib.ListN.{length, drop, getD, drop-of-length-le}
-
 use lib.Seq.{drop-cons}
 use mir.Val.{boolByte as bit}
 use Rattle.rules.specs.Letters.{add, addBase, code}
