@@ -15,16 +15,17 @@ use Rattle.rules.specs.Job.{Method, pass, result, methodsOf, lines, linesFrom}
 use Rattle.rules.specs.Counts.{sum, passesOf, allPasses, turns, lookups, attempts, corrections}
 use Rattle.rules.specs.Calls.{Given, maxRead, maxMethods, maxLines, batchRight, longest, tooLong, results, corrected}
 use Rattle.input.specs.Input.{LineAt}
-use Rattle.job.specs.declared.correct.Counts.{Counts}
-use Rattle.job.specs.declared.correct.Pass.{Pass}
-use Rattle.job.specs.declared.correct.Pass.the-variants.{Done, Full}
+use Rattle.correct.specs.declared.Counts.{Counts}
+use Rattle.correct.specs.declared.Pass.{Pass}
+use Rattle.correct.specs.declared.Pass.the-variants.{Done, Full}
 use Rattle.job.specs.declared.Refusal.the-variants.{NoRoom}
 use Rattle.job.specs.declared.Answer.{Answer}
 use Rattle.job.specs.declared.Answer.the-variants.{Report as Reported, Refused}
 use Rattle.job.specs.Answer.{Exact}
-use Rattle.job.specs.Through.{passOf, through}
+use Rattle.correct.specs.Pass.{passOf}
+use Rattle.correct.specs.Through.{through}
 use Rattle.job.specs.Reads.{Checked, Cleared, reportOn, throughAll, lineThrough, LineIs, added, Countable}
-use Rattle.job.proofs.Standin.{Limited, pass-limited}
+use Rattle.correct.proofs.Limits.{Limited, pass-limited}
 use Rattle.job.proofs.Totals.{Small, methods-length, read-small}
 use Rattle.job.proofs.Checked.{few-lines}
 use Rattle.job.proofs.Exact.{full-exact, fits-exact}

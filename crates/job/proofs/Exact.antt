@@ -16,13 +16,13 @@ use Rattle.rules.specs.Job.{Method}
 use Rattle.rules.specs.Counts.{Fed, sum, allPasses, W, ceiling}
 use Rattle.rules.specs.Calls.{Given, After, unchanged, noRoom, tooLong, results, report, corrected}
 use Rattle.rules.proofs.Demands.{ceilings}
-use Rattle.job.specs.declared.correct.Counts.{Counts}
+use Rattle.correct.specs.declared.Counts.{Counts}
 use Rattle.job.specs.declared.Report.{Report}
 use Rattle.job.specs.declared.Refusal.{Refusal}
 use Rattle.job.specs.declared.Refusal.the-variants.{NoRoom}
 use Rattle.job.specs.declared.Answer.{Answer}
 use Rattle.job.specs.declared.Answer.the-variants.{Report as Reported, Refused}
-use Rattle.job.specs.Through.{passOf}
+use Rattle.correct.specs.Pass.{passOf}
 use Rattle.job.specs.Answer.{refusalOf, reportOf, answerOf, Exact, Ceiling}
 use Rattle.job.specs.Reads.{Cleared, reportOn, throughAll}
 use Rattle.job.proofs.Calls.{corrected-full, corrected-fits}

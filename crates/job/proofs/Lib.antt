@@ -2,7 +2,6 @@ pub mod Calls
 pub mod Checked
 pub mod Refused
 pub mod Exact
-pub mod Standin
 pub mod Totals
 pub mod Single
 pub mod Line

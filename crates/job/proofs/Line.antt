@@ -9,10 +9,11 @@ use lib.Seq.{length-take-le, take-at, drop-at, take-append-le, take-set-le, take
 use Rattle.rules.specs.Set.{setOf}
 use Rattle.rules.specs.Driver as Rules
 use Rattle.rules.specs.Job.{Method, methodsOf}
-use Rattle.job.specs.declared.correct.Counts.{Counts}
-use Rattle.job.specs.declared.correct.Pass.{Pass}
-use Rattle.job.specs.declared.correct.Pass.the-variants.{Done, Full}
-use Rattle.job.specs.Through.{passOf, through, ThroughIs, Through}
+use Rattle.correct.specs.declared.Counts.{Counts}
+use Rattle.correct.specs.declared.Pass.{Pass}
+use Rattle.correct.specs.declared.Pass.the-variants.{Done, Full}
+use Rattle.correct.specs.Pass.{passOf}
+use Rattle.correct.specs.Through.{through, ThroughIs, Through}
 use Rattle.job.specs.Reads.{lineThrough, LineIs}
 use Rattle.job.proofs.Calls.{longest-same}
 

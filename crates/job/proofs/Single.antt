@@ -12,16 +12,16 @@ use Rattle.rules.specs.Driver as Rules
 use Rattle.rules.specs.Job.{Method, methodsOf, result}
 use Rattle.rules.specs.Counts.{Fed, sum, passesOf, allPasses, turns, lookups, attempts, corrections}
 use Rattle.rules.specs.Calls.{longest, tooLong, results, corrected}
-use Rattle.job.specs.declared.correct.Counts.{Counts}
-use Rattle.job.specs.declared.correct.Pass.{Pass}
-use Rattle.job.specs.declared.correct.Pass.the-variants.{Done, Full}
+use Rattle.correct.specs.declared.Counts.{Counts}
+use Rattle.correct.specs.declared.Pass.{Pass}
+use Rattle.correct.specs.declared.Pass.the-variants.{Done, Full}
 use Rattle.job.specs.declared.Refusal.the-variants.{NoRoom}
 use Rattle.job.specs.declared.Answer.{Answer}
 use Rattle.job.specs.declared.Answer.the-variants.{Report as Reported, Refused}
-use Rattle.job.specs.Through.{through, ThroughIs, Through}
+use Rattle.correct.specs.Through.{through, ThroughIs, Through}
 use Rattle.job.specs.Answer.{given, Exact}
 use Rattle.job.specs.Reads.{Checked, Cleared, reportOn, throughAll}
-use Rattle.job.proofs.Standin.{pass-limited}
+use Rattle.correct.proofs.Limits.{pass-limited}
 use Rattle.job.proofs.Totals.{methods-length, read-small}
 use Rattle.job.proofs.Calls.{too-long-here, too-long-later}
 use Rattle.job.proofs.Exact.{full-exact, fits-exact}

@@ -10,8 +10,8 @@ use Rattle.rules.specs.Driver.{Pass}
 use Rattle.rules.specs.Job.{Method, methodsOf, pass}
 use Rattle.rules.specs.Counts.{Fed, sum, passesOf, turns, lookups, attempts, corrections}
 use Rattle.rules.specs.Calls.{maxRead, maxMethods, longest}
-use Rattle.job.specs.Through.{through}
-use Rattle.job.proofs.Standin.{maxF, Limited}
+use Rattle.correct.specs.Through.{through}
+use Rattle.correct.proofs.Limits.{maxF, Limited}
 
 -- What a read that is never longer than 1,048,576 bytes can count in 8 passes.
 abbrev pub maxTurns : ℕ

@@ -9,10 +9,11 @@ use Rattle.rules.specs.Driver as Rules
 use Rattle.rules.specs.Job.{Method}
 use Rattle.rules.specs.Counts.{sum, allPasses, turns, lookups, attempts, corrections}
 use Rattle.rules.specs.Calls.{maxRead, maxMethods, maxOutput, longest, results}
-use Rattle.job.specs.declared.correct.Counts.{Counts}
-use Rattle.job.specs.declared.correct.Pass.{Pass}
-use Rattle.job.specs.declared.correct.Pass.the-variants.{Done, Full}
-use Rattle.job.specs.Through.{passOf, through}
+use Rattle.correct.specs.declared.Counts.{Counts}
+use Rattle.correct.specs.declared.Pass.{Pass}
+use Rattle.correct.specs.declared.Pass.the-variants.{Done, Full}
+use Rattle.correct.specs.Pass.{passOf}
+use Rattle.correct.specs.Through.{through}
 use Rattle.job.specs.declared.Report.{Report}
 
 -- What checks 1 to 5 leave, by the lengths of input, output and work.

@@ -1,5 +1,4 @@
 // The calls of document 01: a single read, and a batch.
-mod correct;
 
 use blocks::Opened;
 use correct::Counts;

@@ -9,7 +9,6 @@ use Rattle.job.proofs.correct_line.Statement.{statement}
 use Rattle.job.proofs.correct_line.Tie as tie
 use Rattle.job.proofs.correct_line.Reads as reads
 use Rattle.job.proofs.correct_line.Lts as lts
-use Rattle.job.proofs.correct.through.Reads as through-reads
 
 -- src/lib.rt:151:9
 returns : tie.Need-returns

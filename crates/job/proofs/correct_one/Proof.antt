@@ -10,7 +10,6 @@ use Rattle.job.proofs.correct_one.Tie as tie
 use Rattle.job.proofs.correct_one.Reads as reads
 use Rattle.job.proofs.correct_one.Lts as lts
 use Rattle.job.proofs.accept.Reads as accept-reads
-use Rattle.job.proofs.correct.through.Reads as through-reads
 use Rattle.job.proofs.no_room.Reads as no-room-reads
 
 -- src/lib.rt:128:86
