@@ -1,0 +1,116 @@
+use Prim.Native.Nat.{ℕ}
+use mathlib.Core.Path.{_≡_, sym, ap, _∙_}
+use mathlib.Core.Bool.{true}
+use mathlib.Core.Option.{none}
+use borrow.Author.Tests.{not-true, not-false}
+use lib.ListN.{length, length-replicate}
+use Rattle.rules.specs.Calls.{inputCheck, batchRight}
+use Rattle.input.specs.Input.{checkOf}
+use Rattle.input.proofs.Checks.{not-fine}
+use Rattle.blocks.proofs.Opening.{not-set}
+use Rattle.job.proofs.Checked.{checked}
+use Rattle.job.proofs.Refused.{input-refused, set-refused as not-opened}
+use Rattle.job.proofs.Opening.{set-opened, set-checked, batch-refused, batch-not-right, batch-not-opened, batch-corrected}
+use borrow.Author.Needs.{needs}
+use Rattle.job.proofs.correct_batch.Statement.{statement}
+use Rattle.job.proofs.correct_batch.Tie as tie
+
+check-input-requires : tie.Need-check-input-requires
+check-input-requires c κs = search needs
+
+enum-told : tie.Need-enum-told
+enum-told c = search needs
+
+input-refused-requires : tie.Need-input-refused-requires
+input-refused-requires c κs = search needs
+
+returns : tie.Need-returns
+returns c =
+    let m = c .before .before in
+    let refused = input-refused (m .check-input .result) _ (λ e. not-fine (rw e at (c .before .match .keys2))) (c .input-refused .ensures) in
+    (batch-refused _ _ (sym (m .check-input .ensures) ∙ refused), tt)
+
+-- Checks 1 to 5 let pass.
+fine : (c : tie.After-enum-told) → let a = c .before .before .before .before .before .before .before .before .args in
+    inputCheck (length (a .batch .now)) (a .methods .now) (a .confirm) (length (a .output .now)) (length (a .work .now)) ≡ none
+fine c = sym (c .before .before .check-input .ensures) ∙ ap checkOf (c .enum-told .given .1)
+
+check-batch-requires : tie.Need-check-batch-requires
+check-batch-requires c κs = search needs
+
+returns-2 : tie.Need-returns-2
+returns-2 c =
+    let b = c .before in
+    (batch-not-right _ (fine (b .before)) (sym (b .check-batch .ensures) ∙ not-true _ (c .if1 .taken)), tt)
+
+right : (c : tie.Else1) → batchRight (c .before .before .before .before .before .before .before .before .before .before .args .batch .now) ≡ true
+right c = sym (c .before .check-batch .ensures) ∙ not-false _ (c .if1 .left)
+
+open-requires : tie.Need-open-requires
+open-requires c κs = search needs
+
+enum-known-opened : tie.Need-enum-known-opened
+enum-known-opened c = search needs
+
+set-refused-requires : tie.Need-set-refused-requires
+set-refused-requires c κs = search needs
+
+returns-3 : tie.Need-returns-3
+returns-3 c =
+    let o = c .before .before in
+    let b = o .before in
+    let refused = not-opened _ (o .«open» .result) _ (λ k n e. not-set (rw e at (c .before .match2 .keys2))) (c .set-refused .ensures) (o .«open» .ensures) in
+    (batch-not-opened _ (fine (b .before .before)) (right b) _ refused, tt)
+
+slice-aggregate-prepare : tie.Need-slice-aggregate-prepare
+slice-aggregate-prepare c = search needs
+
+prepare-requires : tie.Need-prepare-requires
+prepare-requires c κs =
+    let k = c .before .before in
+    let t = set-checked _ _ _ _ (k .opened .given .1) (k .before .before .«open» .ensures) in
+    (t .0, t .1, t .2, length-replicate {A = ℕ} 65537 0)
+
+slice-aggregate-correct-lines : tie.Need-slice-aggregate-correct-lines
+slice-aggregate-correct-lines c = search needs
+
+correct-lines-requires : tie.Need-correct-lines-requires
+correct-lines-requires c κs =
+    let b = c .before .before .before .before .before .before .before .before .before .before in
+    (c .before .before .before .before .prepare .ensures, checked _ _ _ _ _ (fine (b .before .before)), right b)
+
+same-length : tie.Need-same-length
+same-length c = search needs
+
+same-length-2 : tie.Need-same-length-2
+same-length-2 c = search needs
+
+returns-4 : tie.Need-returns-4
+returns-4 c =
+    let q = c .before .before .before .before in
+    let k = q .before .before .before .before .before .before .before .before in
+    let b = k .before .before .before in
+    let f = fine (b .before .before) in
+    batch-corrected _ f (right b) _ (set-opened _ _ _ _ (k .opened .given .1) (k .before .before .«open» .ensures)) (checked _ _ _ _ _ f .confirm) (q .correct-lines .ensures)
+
+pub correct-batch-spec : {M : Type 1} → statement M
+correct-batch-spec =
+    tie.close
+    (tie.spec
+    check-input-requires
+    enum-told
+    input-refused-requires
+    returns
+    check-batch-requires
+    returns-2
+    open-requires
+    enum-known-opened
+    set-refused-requires
+    returns-3
+    slice-aggregate-prepare
+    prepare-requires
+    slice-aggregate-correct-lines
+    correct-lines-requires
+    same-length
+    same-length-2
+    returns-4)
