@@ -28,7 +28,7 @@ module _ (k : ℕ) (sol : ℕ → Bool) (c : ℕ) (s : List ℕ) (scenarios : �
 
   -- no alternative: refused after its 4 lookups
   pub no-x : (index : ℕ) (out : List ℕ) → alternative k sol y .answer ≡ none
-    → Attempted index out out (rules.exist k sol c s scenarios y) (Refused 4)
+      → Attempted index out out (rules.exist k sol c s scenarios y) (Refused 4)
   unfolding rules.exist _>>=_ next after refuse
   no-x index out a = record { is = (rw a, rw a (four-and 0 refl)); room = refl }
     where
@@ -43,32 +43,38 @@ module _ (k : ℕ) (sol : ℕ → Bool) (c : ℕ) (s : List ℕ) (scenarios : �
     lookups : (l : ℕ) → rules.choose k sol c s y (mendsOf r) .lookups ≡ l → rules.exist k sol c s scenarios y .lookups ≡ 4 + r .lookups + l
     unfolding rules.exist _>>=_ next after
     lookups l e =
-      rw a
+        rw a
         (let f : rules.choose k sol c s y (rules.kept k sol c s (scenarios x s) .answer) .lookups ≡ l
-               = ap (λ (ms : List rules.Mend). rules.choose k sol c s y ms .lookups) (kept .answer) ∙ e in
-         omega (arith, four, kept .lookups))
+        = ap (λ (ms : List rules.Mend). rules.choose k sol c s y ms .lookups) (kept .answer) ∙ e in
+        omega (arith, four, kept .lookups))
 
     pub refused : (index : ℕ) (out : List ℕ) (l : ℕ) → ChoiceIs (rules.choose k sol c s y (mendsOf r)) (NoChoice l)
-      → Attempted index out out (rules.exist k sol c s scenarios y) (Refused (4 + r .lookups + l))
+        → Attempted index out out (rules.exist k sol c s scenarios y) (Refused (4 + r .lookups + l))
     refused index out l e = record { is = (answer ∙ e .0, lookups l (e .1)); room = refl }
 
     pub full : (index : ℕ) (out : List ℕ) (m : declared.Mend) (l : ℕ) → ChoiceIs (rules.choose k sol c s y (mendsOf r)) (Use m l)
-      → length out < m .letters → Attempted index out out (rules.exist k sol c s scenarios y) Full
+        → length out < m .letters → Attempted index out out (rules.exist k sol c s scenarios y) Full
     full index out m l e lt =
-      record { is =
-          ( λ md g.
-              let same : mendOf m ≡ md = Option·some-injective (mendOf m) md (sym (answer ∙ e .0) ∙ g) in
-              let n = last-length (m .letters) (m .code) in
-              let q : length (mendOf m .letters) ≡ length (md .letters) = ap (λ (d : rules.Mend). length (d .letters)) same in omega arith
-          , λ g. absurd (Option·none-ne-some (mendOf m) (sym g ∙ answer ∙ e .0)) )
-             ; room = refl }
+        record {
+          is = (
+            λ md g.
+                let same : mendOf m ≡ md = Option·some-injective (mendOf m) md (sym (answer ∙ e .0) ∙ g) in
+                let n = last-length (m .letters) (m .code) in
+                let q : length (mendOf m .letters) ≡ length (md .letters) = ap (λ (d : rules.Mend). length (d .letters)) same in omega arith,
+            λ g. absurd (Option·none-ne-some (mendOf m) (sym g ∙ answer ∙ e .0)),
+          );
+          room = refl;
+        }
 
     pub mended : (index : ℕ) (out out′ : List ℕ) (m : declared.Mend) (l : ℕ) → ChoiceIs (rules.choose k sol c s y (mendsOf r)) (Use m l)
-      → take (m .letters) out′ ≡ mendOf m .letters → length out′ ≡ length out → m .letters ≤ length out
-      → Attempted index out out′ (rules.exist k sol c s scenarios y) (Mend (m .letters) (m .resume) (4 + r .lookups + l))
+        → take (m .letters) out′ ≡ mendOf m .letters → length out′ ≡ length out → m .letters ≤ length out
+        → Attempted index out out′ (rules.exist k sol c s scenarios y) (Mend (m .letters) (m .resume) (4 + r .lookups + l))
     mended index out out′ m l e t n le =
-      record { is =
-          ( answer ∙ e .0 ∙ ap (λ (ls : List ℕ). some (record { letters = ls; resume = m .resume })) (sym t)
-          , omega arith
-          , lookups l (e .2) )
-             ; room = n }
+        record {
+          is = (
+            answer ∙ e .0 ∙ ap (λ (ls : List ℕ). some (record { letters = ls; resume = m .resume })) (sym t),
+            omega arith,
+            lookups l (e .2),
+          );
+          room = n;
+        }

@@ -25,28 +25,28 @@ use Rattle.rules.proofs.Walk.{walk-cost}
 
 -- ---- One and Two
 
-module _ (j : ℕ) (sol : ℕ → Bool) (c′ : ℕ) where
-  pub one-fair : Fair (suc j) sol (λ s y. exist (suc j) sol (suc c′) s (one (suc j) sol) y) (12 + 3 * suc c′)
-  one-fair =
+module _ (j : ℕ) (sol : ℕ → Bool) (c′ F : ℕ) where
+  pub one-fair : 12 + 3 * suc c′ ≤ F → Fair (suc j) sol (λ s y. exist (suc j) sol (suc c′) s (one (suc j) sol) y) F
+  one-fair le =
       record {
         least = omega arith;
         at = λ b s y. let l = one-cost (suc j) sol (suc c′) (b ∷ s) y in
             record {
               refusal = λ a. omega arith;
               staying = λ m a z. (omega arith, one-stays j sol c′ b s y m a z);
-              going = λ m r a z. (λ le. omega arith, λ le. omega arith);
+              going = λ m r a z. (λ h. times F r _ (omega arith) (omega arith), λ h. times F (length s) _ (omega arith) (omega arith));
             };
       }
 
-  pub two-fair : Fair (suc j) sol (λ s y. exist (suc j) sol (suc c′) s (two (suc j) sol) y) (69 + 13 * suc c′)
-  two-fair =
+  pub two-fair : 69 + 13 * suc c′ ≤ F → Fair (suc j) sol (λ s y. exist (suc j) sol (suc c′) s (two (suc j) sol) y) F
+  two-fair le =
       record {
         least = omega arith;
         at = λ b s y. let l = two-cost (suc j) sol (suc c′) (b ∷ s) y in
             record {
               refusal = λ a. omega arith;
               staying = λ m a z. (omega arith, two-stays j sol c′ b s y m a z);
-              going = λ m r a z. (λ le. omega arith, λ le. omega arith);
+              going = λ m r a z. (λ h. times F r _ (omega arith) (omega arith), λ h. times F (length s) _ (omega arith) (omega arith));
             };
       }
 
@@ -94,9 +94,9 @@ module _ (k n : ℕ) (sol : ℕ → Bool) where
             );
       }
 
-  pub graph-fair : Fair k sol (graph k n sol) (6 + 30 * n)
+  pub graph-fair : (F : ℕ) → 6 + 30 * n ≤ F → Fair k sol (graph k n sol) F
   unfolding graph
-  graph-fair = record { least = omega arith; at = λ b s y. graphFrom-fair (6 + 30 * n) b s y (le-refl (6 + 30 * n)) }
+  graph-fair F le = record { least = omega arith; at = λ b s y. graphFrom-fair F b s y le }
 
 -- ---- GapSize
 
@@ -183,15 +183,12 @@ module _ (k : ℕ) (sol : ℕ → Bool) where
         (omega (arith, gap-cost m (x ∷ []) x 0 (also-distinct refl end-distinct) (also g end)))))
         (omega (arith, sole-cost k sol (y / 4)))
 
-module _ (j n : ℕ) (sol : ℕ → Bool) (c′ : ℕ) (few : Few (suc j) n sol) where
+module _ (j n : ℕ) (sol : ℕ → Bool) (c′ : ℕ) (few : Few (suc j) n sol) (F : ℕ) (enough : 17 + suc j + 3 * suc c′ + 30 * n ≤ F) where
   abbrev k : ℕ
   k = suc j
 
   abbrev c : ℕ
   c = suc c′
-
-  abbrev F : ℕ
-  F = 17 + k + 3 * c + 30 * n
 
   gap-at : (b : ℕ) (s : List ℕ) (y : ℕ) → FairAt k sol F b s y (gapSize k n sol c (b ∷ s) y)
   unfolding gapSize after errorLen

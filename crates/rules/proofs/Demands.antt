@@ -30,10 +30,11 @@ use Rattle.rules.proofs.Exactly.{Exactly, x-good, graph-exactly, gapSiz
 fair-at : (j : ℕ) (keys : List ℕ) (c′ : ℕ) (m : Method)
     → (let set : KmerSet = record { k = suc j; keys = keys } in Fair (suc j) (solid set) (correctError set (suc c′) m) (F set (suc c′) m))
 unfolding F correctError
-fair-at j keys c′ One = one-fair j (solid (record { k = suc j; keys = keys })) c′
-fair-at j keys c′ Two = two-fair j (solid (record { k = suc j; keys = keys })) c′
-fair-at j keys c′ Graph = graph-fair (suc j) (length keys) (solid (record { k = suc j; keys = keys }))
-fair-at j keys c′ GapSize = gap-fair j (length keys) (solid (record { k = suc j; keys = keys })) c′ (few (record { k = suc j; keys = keys }))
+fair-at j keys c′ One = one-fair j (solid (record { k = suc j; keys = keys })) c′ _ (omega arith)
+fair-at j keys c′ Two = two-fair j (solid (record { k = suc j; keys = keys })) c′ _ (omega arith)
+fair-at j keys c′ Graph = graph-fair (suc j) (length keys) (solid (record { k = suc j; keys = keys })) _ (omega arith)
+fair-at j keys c′ GapSize =
+    gap-fair j (length keys) (solid (record { k = suc j; keys = keys })) c′ (few (record { k = suc j; keys = keys })) _ (omega arith)
 
 pub fair : (set : KmerSet) → 1 ≤ set .k → (c : ℕ) → 1 ≤ c → (m : Method) → Fair (set .k) (solid set) (correctError set c m) (F set c m)
 fair set lk c lc m = go (set .k) c refl refl lk lc

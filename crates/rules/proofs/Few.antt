@@ -105,12 +105,15 @@ module _ (set : KmerSet) where
   unfolding solid canonical both
   covers y lt h = go (evenOnes (set .k) y) refl
     where
+      key : among (canonical (set .k) y) (set .keys) ≡ true
+      key = h
+
       go : (t : Bool) → evenOnes (set .k) y ≡ t → among y both ≡ true
-      go true e = among-left y (set .keys) (map (revcomp (set .k)) (set .keys)) (rw (e, canonical) at h)
+      go true e = among-left y (set .keys) (map (revcomp (set .k)) (set .keys)) (rw (e, canonical) at key)
       go false e =
           among-right y (set .keys) (map (revcomp (set .k)) (set .keys))
           (subst (λ (z : ℕ). among z (map (revcomp (set .k)) (set .keys)) ≡ true) (revcomp-twice (set .k) y lt)
-          (among-map (revcomp (set .k)) (revcomp (set .k) y) (set .keys) (rw (e, canonical) at h)))
+          (among-map (revcomp (set .k)) (revcomp (set .k) y) (set .keys) (rw (e, canonical) at key)))
 
   cover-all : (ys : List ℕ) → All (SolidKmer (set .k) (solid set)) ys → All (λ z. among z both ≡ true) ys
   unfolding SolidKmer

@@ -1,114 +1,78 @@
--- Document 01, "Sample reads": the reads marked * as one table, and the sample set. Serves demand 2: the definitions give the document's bytes and counts.
-use Prim.Native.Nat.{ℕ, zero, suc, _/_, _%_}
+-- The theorem `samples`: the rules give what document 01 prints, by computation. Serves demand 2.
+use Prim.Native.Nat.{ℕ}
 use mathlib.Core.Path.{_≡_, refl}
-use mathlib.Core.Option.{none}
+use mathlib.Core.Option.{Option, none, some}
 use mathlib.Core.List.{List, [], _∷_, _++_, map}
-use lib.ListN.{replicate}
-use Rattle.rules.specs.Refusal.{Outcome, accepted}
+use lib.ListN.{replicate, set}
+use Rattle.rules.specs.Refusal.{Refusal, Outcome, accepted, refused}
 use Rattle.rules.specs.Set.{KmerSet, check, opened}
 use Rattle.rules.specs.Driver.{Pass}
-use Rattle.rules.specs.Job.{Method, One, Two, Graph, GapSize, pass}
+use Rattle.rules.specs.Job.{pass}
 use Rattle.rules.specs.Report.{Report}
-use Rattle.rules.specs.Calls.{Given, After, correctBatch}
+use Rattle.rules.specs.Calls.{Given, After, correctRead, correctBatch}
+use Rattle.rules.specs.Samples.{A, C, T, G, sampleSet, sampleBytes, Sample, line, table}
 
-abbrev pub A : ℕ
-A = 65
+-- A line as the rules have it: its bytes, turns and lookups computed.
+pub byRules : Sample → Sample
+unfolding pass sampleSet line
+byRules s = (let p : Pass = pass sampleSet (s .confirm) (s .method) (s .read) in line (s .method) (s .confirm) (s .read) (p .bytes) (p .turns) (p .lookups))
 
-abbrev pub C : ℕ
-C = 67
-
-abbrev pub T : ℕ
-T = 84
-
-abbrev pub G : ℕ
-G = 71
-
--- k = 3, keys 6, 23, 51, 58, 60
-unfoldable pub sampleSet : KmerSet
-sampleSet = record { k = 3; keys = 6 ∷ 23 ∷ 51 ∷ 58 ∷ 60 ∷ [] }
-
--- a line of the table: method, confirm, read, and then bytes, turns, lookups
-abbrev pub Line : Type 0
-Line = Method × ℕ × List ℕ × List ℕ × ℕ × ℕ
-
--- what the rules give for a line
-pub given : Line → List ℕ × ℕ × ℕ
-unfolding pass sampleSet
-given l = (let p : Pass = pass sampleSet (l .1) (l .0) (l .2) in (p .bytes, p .turns, p .lookups))
-
--- what the document says of it
-pub said : Line → List ℕ × ℕ × ℕ
-said l = (l .3, l .4, l .5)
-
-pub table : List Line
-table =
-    (One, 1, A ∷ A ∷ C ∷ G ∷ C ∷ [], A ∷ A ∷ C ∷ T ∷ C ∷ [], 2, 12)
-    ∷ (One, 1, A ∷ A ∷ C ∷ C ∷ [], A ∷ A ∷ C ∷ T ∷ C ∷ [], 2, 11)
-    ∷ (One, 1, A ∷ A ∷ C ∷ G ∷ T ∷ C ∷ [], A ∷ A ∷ C ∷ T ∷ C ∷ [], 2, 13)
-    ∷ (One, 1, A ∷ A ∷ C ∷ G ∷ [], A ∷ A ∷ C ∷ G ∷ [], 1, 10)
-    ∷ (One, 1, A ∷ A ∷ C ∷ G ∷ C ∷ C ∷ G ∷ [], A ∷ A ∷ C ∷ T ∷ C ∷ C ∷ G ∷ [], 4, 16)
-    ∷ (Two, 1, A ∷ A ∷ C ∷ C ∷ G ∷ [], A ∷ A ∷ C ∷ C ∷ G ∷ [], 2, 37)
-    ∷ (Two, 2, A ∷ A ∷ C ∷ C ∷ G ∷ [], A ∷ A ∷ C ∷ T ∷ C ∷ C ∷ G ∷ [], 3, 37)
-    ∷ (Graph, 1, A ∷ A ∷ C ∷ G ∷ C ∷ C ∷ G ∷ [], A ∷ A ∷ C ∷ T ∷ C ∷ C ∷ G ∷ [], 1, 24)
-    ∷ (Graph, 1, A ∷ A ∷ C ∷ G ∷ C ∷ [], A ∷ A ∷ C ∷ G ∷ C ∷ [], 2, 53)
-    ∷ (GapSize, 1, A ∷ A ∷ C ∷ G ∷ C ∷ C ∷ G ∷ [], A ∷ A ∷ C ∷ T ∷ C ∷ C ∷ G ∷ [], 4, 19)
-    ∷ (One, 1, A ∷ A ∷ [], A ∷ A ∷ [], 0, 0)
-    ∷ (One, 1, [], [], 0, 0)
-    ∷ (One, 1, A ∷ A ∷ C ∷ [], A ∷ A ∷ C ∷ [], 0, 1)
-    ∷ []
-
--- every line is as the document says
-pub samples : map given table ≡ map said table
-unfolding given said table
+-- Every line of the table is as the rules have it.
+pub samples : map byRules table ≡ table
+unfolding byRules table
 samples = refl
 
--- ---- the sample set's 1,024 bytes
-
--- the m bytes of a number, lowest first
-bytesOf : ℕ → ℕ → List ℕ
-bytesOf zero w = []
-bytesOf (suc m) w = w % 256 ∷ bytesOf m (w / 256)
-
--- words as bytes
-flat : List ℕ → List ℕ
-unfolding bytesOf
-flat [] = []
-flat (w ∷ ws) = bytesOf 8 w ++ flat ws
-
--- block 0 and one block of keys, each with its check word
-unfoldable pub sampleBytes : List ℕ
-unfolding flat
-sampleBytes =
-    flat (3 ∷ 5 ∷ replicate 61 0 ++ (9 ∷ []))
-    ++ flat (6 ∷ 23 ∷ 51 ∷ 58 ∷ 60 ∷ replicate 58 0 ++ (200 ∷ []))
-
--- they open with k = 3 and those five keys; the check words are 9 and 200
+-- The set's bytes open with k = 3 and those five keys; the check words are 9 and 200.
 pub sampleOpens : (opened sampleBytes ≡ accepted sampleSet) × (check sampleBytes 0 ≡ 9) × (check sampleBytes 1 ≡ 200)
 unfolding opened check sampleBytes sampleSet
 sampleOpens = (refl, refl, refl)
 
--- ---- the printed case
+-- ---- calls
 
--- Job 1, 3 with lines AACGCCG and AA
-pub printed : Given
-unfolding sampleBytes
-printed =
-    record {
-      set = sampleBytes;
-      confirm = 1;
-      methods = 3 ∷ [];
-      input = A ∷ A ∷ C ∷ G ∷ C ∷ C ∷ G ∷ 10 ∷ A ∷ A ∷ 10 ∷ [];
-      output = replicate 12 1;
-      work = replicate 24 1;
-    }
+-- A call on a set's bytes: confirm, methods and input, and the lengths of output and work, both filled with 1.
+pub given : List ℕ → ℕ → List ℕ → List ℕ → ℕ → ℕ → Given
+given bytes c ms input out work = record { set = bytes; confirm = c; methods = ms; input = input; output = replicate out 1; work = replicate work 1 }
 
--- the batch call gives both lines, 1 turn, 24 lookups, 11 bytes, and zeros behind them
+abbrev pub AACGTC : List ℕ
+AACGTC = A ∷ A ∷ C ∷ G ∷ T ∷ C ∷ []
+
+abbrev pub AACGCCG : List ℕ
+AACGCCG = A ∷ A ∷ C ∷ G ∷ C ∷ C ∷ G ∷ []
+
+-- Job 1, 3 with lines AACGCCG and AA: both lines, 1 turn, 24 lookups, 11 bytes, and zeros behind them.
 pub printedCase :
-    correctBatch printed
+    correctBatch (given sampleBytes 1 (3 ∷ []) (AACGCCG ++ (10 ∷ A ∷ A ∷ 10 ∷ [])) 12 24)
     ≡ record {
       answer = accepted (record { written = 11; turns = 1; lookups = 24; attempts = 1; accepted = 1; yield = 1000 });
       output = A ∷ A ∷ C ∷ T ∷ C ∷ C ∷ G ∷ 10 ∷ A ∷ A ∷ 10 ∷ 0 ∷ [];
       work = replicate 24 0;
     }
-unfolding correctBatch printed
+unfolding correctBatch given sampleBytes
 printedCase = refl
+
+-- What a call refuses: number and place.
+pub refusalOf : After → Option (ℕ × ℕ)
+refusalOf a = elim (a .answer) [ accepted r ↦ none | refused r ↦ some (r .number, r .place) ]
+
+-- Refusals 2 to 11, each met once (1 needs more than a million bytes). 11 compares pass results: AACGTC fits 5 bytes after One alone,
+-- and not after Graph, which leaves it as it is; a batch of one byte 10 has no room in no output.
+pub refusals :
+    map refusalOf
+    (correctRead (given sampleBytes 1 (replicate 9 1) AACGTC 9 18)
+    ∷ correctRead (given sampleBytes 1 (1 ∷ 2 ∷ 5 ∷ []) AACGTC 9 18)
+    ∷ correctRead (given sampleBytes 0 (1 ∷ []) AACGTC 9 18)
+    ∷ correctRead (given sampleBytes 1 (1 ∷ []) AACGTC 9 17)
+    ∷ correctBatch (given sampleBytes 1 (1 ∷ []) AACGTC 9 18)
+    ∷ correctRead (given [] 1 (1 ∷ []) AACGTC 9 18)
+    ∷ correctRead (given (set sampleBytes 520 7) 1 (1 ∷ []) AACGTC 9 18)
+    ∷ correctRead (given (set (set sampleBytes 0 2) 504 8) 1 (1 ∷ []) AACGTC 9 18)
+    ∷ correctRead (given (set (set sampleBytes 520 6) 1016 183) 1 (1 ∷ []) AACGTC 9 18)
+    ∷ correctRead (given sampleBytes 1 (1 ∷ []) AACGTC 5 12)
+    ∷ correctRead (given sampleBytes 1 (3 ∷ 1 ∷ []) AACGTC 5 12)
+    ∷ correctBatch (given sampleBytes 1 [] (A ∷ 10 ∷ 10 ∷ []) 2 6)
+    ∷ correctBatch (given sampleBytes 1 [] (10 ∷ []) 0 2)
+    ∷ [])
+    ≡ some (2, 0) ∷ some (3, 2) ∷ some (4, 0) ∷ some (5, 0) ∷ some (6, 0) ∷ some (7, 0) ∷ some (8, 1) ∷ some (9, 0) ∷ some (10, 1)
+    ∷ none ∷ some (11, 0) ∷ some (11, 1) ∷ some (11, 0) ∷ []
+unfolding correctRead correctBatch given sampleBytes refusalOf
+refusals = refl

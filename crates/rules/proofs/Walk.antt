@@ -114,7 +114,7 @@ unfolding moved
 marked w y = go (eqb (suc (w .moves)) (w .marks-at)) refl
   where
     go : (b : Bool) → eqb (suc (w .moves)) (w .marks-at) ≡ b → Marked w y
-    go true e = record { marks = inl (eqb-true _ _ e, rw (e, moved), rw (e, moved)) }
+    go true e = record { marks = inl (eqb-true _ _ e, rw (e, moved), rw (e, moved) (omega arith)) }
     go false e = record { marks = inr (eqb-false _ _ e, rw (e, moved), rw (e, moved)) }
 
 module _ (k : ℕ) (sol : ℕ → Bool) where

@@ -31,21 +31,19 @@ maxLines = 1024
 
 -- ---- refused because of the input
 
--- What a call is given: the set's bytes, confirm, method bytes, a read or a batch, and the two lent buffers.
-pub record Given : Type 0 where
-  pub set : List ℕ
-  pub confirm : ℕ
-  pub methods : List ℕ
-  pub input : List ℕ
-  pub output : List ℕ
-  pub work : List ℕ
+-- 5: output or work too long, or work shorter than twice the longer of output and read or batch. By their lengths.
+unfoldable pub buffersRight : ℕ → ℕ → ℕ → Bool
+buffersRight input output work = leb output maxOutput && leb work maxWork && leb (2 * max output input) work
 
--- 5: output or work too long, or work shorter than twice the longer of output and read or batch.
-unfoldable pub buffersRight : Given → Bool
-buffersRight g =
-    leb (length (g .output)) maxOutput
-    && leb (length (g .work)) maxWork
-    && leb (2 * max (length (g .output)) (length (g .input))) (length (g .work))
+-- Checks 1 to 5, upward: the input's length, the method bytes, confirm, and the lengths of output and work.
+unfoldable pub inputCheck : ℕ → List ℕ → ℕ → ℕ → ℕ → Check
+unfolding unless atPlace firstFailing known buffersRight _orElse_
+inputCheck input methods confirm output work =
+    unless (leb input maxRead) 1
+    orElse unless (leb (length methods) maxMethods) 2
+    orElse atPlace 3 (firstFailing (λ i. known (getD methods i 0)) 0 (length methods))
+    orElse unless (ltb 0 confirm) 4
+    orElse unless (buffersRight input output work) 5
 
 -- 6: a batch is empty or has a final 10, and no more than 1,024 lines.
 unfoldable pub batchRight : List ℕ → Bool
@@ -54,17 +52,16 @@ batchRight batch =
     (eqb (length batch) 0 || eqb (getD batch (length batch - 1) 0) 10)
     && leb (length (lines batch)) maxLines
 
--- Checks 1 to 5, upward.
-unfoldable pub inputCheck : Given → Check
-unfolding unless atPlace firstFailing known buffersRight _orElse_
-inputCheck g =
-    unless (leb (length (g .input)) maxRead) 1
-    orElse unless (leb (length (g .methods)) maxMethods) 2
-    orElse atPlace 3 (firstFailing (λ i. known (getD (g .methods) i 0)) 0 (length (g .methods)))
-    orElse unless (ltb 0 (g .confirm)) 4
-    orElse unless (buffersRight g) 5
-
 -- ---- the calls
+
+-- What a call is given: the set's bytes, confirm, method bytes, a read or a batch, and the two lent buffers.
+pub record Given : Type 0 where
+  pub set : List ℕ
+  pub confirm : ℕ
+  pub methods : List ℕ
+  pub input : List ℕ
+  pub output : List ℕ
+  pub work : List ℕ
 
 -- What a call answers, and every byte of the two buffers afterwards.
 pub record After : Type 0 where
@@ -148,12 +145,17 @@ call ending reads refusal g =
       ]
     ]
 
+-- Checks 1 to 5 of what is given.
+unfoldable pub givenCheck : Given → Check
+unfolding inputCheck
+givenCheck g = inputCheck (length (g .input)) (g .methods) (g .confirm) (length (g .output)) (length (g .work))
+
 -- The single-read call: a list of one read.
 unfoldable pub correctRead : Given → After
-unfolding call inputCheck
-correctRead g = call [] (g .input ∷ []) (inputCheck g) g
+unfolding call givenCheck
+correctRead g = call [] (g .input ∷ []) (givenCheck g) g
 
 -- The batch call: lines corrected in turn, output line by line with byte 10.
 unfoldable pub correctBatch : Given → After
-unfolding call inputCheck batchRight lines
-correctBatch g = call (10 ∷ []) (lines (g .input)) (inputCheck g orElse (let b = unless (batchRight (g .input)) 6 in b)) g
+unfolding call givenCheck batchRight lines
+correctBatch g = call (10 ∷ []) (lines (g .input)) (givenCheck g orElse (let six = unless (batchRight (g .input)) 6 in six)) g

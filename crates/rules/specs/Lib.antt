@@ -13,3 +13,4 @@ pub mod Graph
 pub mod GapSize
 pub mod Driver
 pub mod Calls
+pub mod Samples

@@ -1,4 +1,3 @@
--- proved by a colleague beside you; Whole.antt goes with it
 use native.Mathlib.Omega.{arith}
 use mathlib.Core.Path.{subst}
 use borrow.Author.Needs.{needs}

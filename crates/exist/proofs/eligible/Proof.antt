@@ -7,7 +7,6 @@ use Rattle.rules.specs.Exist.{Scenario}
 use Rattle.kmer.specs.Kmer.{IsKmer}
 use Rattle.scenario.specs.Scenario.{scenarios, nth, trialOf}
 use native.Mathlib.Omega.{arith}
-
 use mathlib.Core.Bool.{true}
 use mathlib.Core.List.{[]}
 use borrow.Author.Tests.{not-true, not-false}

@@ -1,0 +1,76 @@
+-- Document 01, "Sample reads": its set and its reads marked *.
+use Prim.Native.Nat.{ℕ, zero, suc, _/_, _%_}
+use mathlib.Core.List.{List, [], _∷_, _++_}
+use lib.ListN.{replicate}
+use Rattle.rules.specs.Set.{KmerSet}
+use Rattle.rules.specs.Job.{Method, One, Two, Graph, GapSize}
+
+abbrev pub A : ℕ
+A = 65
+
+abbrev pub C : ℕ
+C = 67
+
+abbrev pub T : ℕ
+T = 84
+
+abbrev pub G : ℕ
+G = 71
+
+-- k = 3, keys 6, 23, 51, 58, 60.
+unfoldable pub sampleSet : KmerSet
+sampleSet = record { k = 3; keys = 6 ∷ 23 ∷ 51 ∷ 58 ∷ 60 ∷ [] }
+
+-- The m bytes of a number, lowest first.
+unfoldable pub bytesOf : ℕ → ℕ → List ℕ
+bytesOf zero w = []
+bytesOf (suc m) w = w % 256 ∷ bytesOf m (w / 256)
+
+-- 64-bit words as bytes.
+unfoldable pub wordBytes : List ℕ → List ℕ
+unfolding bytesOf
+wordBytes [] = []
+wordBytes (w ∷ ws) = bytesOf 8 w ++ wordBytes ws
+
+-- The set's 1,024 bytes: block 0 and one block of keys, checks 9 and 200.
+unfoldable pub sampleBytes : List ℕ
+unfolding wordBytes
+sampleBytes =
+    wordBytes (3 ∷ 5 ∷ replicate 61 0 ++ (9 ∷ []))
+    ++ wordBytes (6 ∷ 23 ∷ 51 ∷ 58 ∷ 60 ∷ replicate 58 0 ++ (200 ∷ []))
+
+-- A line of the table: method, confirm, read; and bytes, turns, lookups.
+pub record Sample : Type 0 where
+  pub method : Method
+  pub confirm : ℕ
+  pub read : List ℕ
+  pub bytes : List ℕ
+  pub turns : ℕ
+  pub lookups : ℕ
+
+unfoldable pub line : Method → ℕ → List ℕ → List ℕ → ℕ → ℕ → Sample
+line m c read bytes t l = record { method = m; confirm = c; read = read; bytes = bytes; turns = t; lookups = l }
+
+-- The reads marked *. Those shorter than k are the same under every method.
+unfoldable pub table : List Sample
+unfolding line
+table =
+    line One 1 (A ∷ A ∷ C ∷ G ∷ C ∷ []) (A ∷ A ∷ C ∷ T ∷ C ∷ []) 2 12
+    ∷ line One 1 (A ∷ A ∷ C ∷ C ∷ []) (A ∷ A ∷ C ∷ T ∷ C ∷ []) 2 11
+    ∷ line One 1 (A ∷ A ∷ C ∷ G ∷ T ∷ C ∷ []) (A ∷ A ∷ C ∷ T ∷ C ∷ []) 2 13
+    ∷ line One 1 (A ∷ A ∷ C ∷ G ∷ []) (A ∷ A ∷ C ∷ G ∷ []) 1 10
+    ∷ line One 1 (A ∷ A ∷ C ∷ G ∷ C ∷ C ∷ G ∷ []) (A ∷ A ∷ C ∷ T ∷ C ∷ C ∷ G ∷ []) 4 16
+    ∷ line Two 1 (A ∷ A ∷ C ∷ C ∷ G ∷ []) (A ∷ A ∷ C ∷ C ∷ G ∷ []) 2 37
+    ∷ line Two 2 (A ∷ A ∷ C ∷ C ∷ G ∷ []) (A ∷ A ∷ C ∷ T ∷ C ∷ C ∷ G ∷ []) 3 37
+    ∷ line Graph 1 (A ∷ A ∷ C ∷ G ∷ C ∷ C ∷ G ∷ []) (A ∷ A ∷ C ∷ T ∷ C ∷ C ∷ G ∷ []) 1 24
+    ∷ line Graph 1 (A ∷ A ∷ C ∷ G ∷ C ∷ []) (A ∷ A ∷ C ∷ G ∷ C ∷ []) 2 53
+    ∷ line GapSize 1 (A ∷ A ∷ C ∷ G ∷ C ∷ C ∷ G ∷ []) (A ∷ A ∷ C ∷ T ∷ C ∷ C ∷ G ∷ []) 4 19
+    ∷ line One 1 (A ∷ A ∷ []) (A ∷ A ∷ []) 0 0
+    ∷ line Two 1 (A ∷ A ∷ []) (A ∷ A ∷ []) 0 0
+    ∷ line Graph 1 (A ∷ A ∷ []) (A ∷ A ∷ []) 0 0
+    ∷ line GapSize 1 (A ∷ A ∷ []) (A ∷ A ∷ []) 0 0
+    ∷ line One 1 [] [] 0 0
+    ∷ line Two 1 [] [] 0 0
+    ∷ line Graph 1 [] [] 0 0
+    ∷ line GapSize 1 [] [] 0 0
+    ∷ []
