@@ -33,10 +33,15 @@ pub struct More {
     pub lookups: u64,
 }
 
-// The mend to use, or a refusal; the lookups of one base more.
-pub enum Choice {
-    Mend(Mend, u64),
-    Refused(u64),
+// The mend to use.
+pub enum Pick {
+    Mend(Mend),
+    Refused,
+}
+
+pub struct Choice {
+    pub pick: Pick,
+    pub lookups: u64,
 }
 
 // The tried k-mer, unless the score is 0 from the outset: the trial refuses, its k-mer isn't solid, or o + c exceeds the length of s.
@@ -211,7 +216,10 @@ fn choose(
     let kept = scenarii.kept;
     let count = scenarii.count;
     if count == 1 {
-        return Choice::Mend(kept[0], 0);
+        return Choice {
+            pick: Pick::Mend(kept[0]),
+            lookups: 0,
+        };
     }
     let mut chosen = Mend {
         code: 0,
@@ -230,9 +238,15 @@ fn choose(
         }
     }
     if remaining == 1 {
-        Choice::Mend(chosen, lookups)
+        Choice {
+            pick: Pick::Mend(chosen),
+            lookups,
+        }
     } else {
-        Choice::Refused(lookups)
+        Choice {
+            pick: Pick::Refused,
+            lookups,
+        }
     }
 }
 
@@ -255,16 +269,15 @@ pub fn correct_error(
     };
     let confirm = c as usize;
     let scenarii = get_scenarii(set, starts, head, two, confirm, x, s);
-    let lookups = 4 + scenarii.lookups;
     let choice = choose(set, starts, head, confirm, kmer, s, scenarii);
-    match choice {
-        Choice::Refused(more) => Attempt::Refused(lookups + more),
-        Choice::Mend(mend, more) => {
-            if out.len() < mend.letters {
-                return Attempt::Full;
-            }
-            write(mend, out);
-            Attempt::Mend(mend.letters, mend.resume, lookups + more)
-        }
+    let lookups = 4 + scenarii.lookups + choice.lookups;
+    let pick = choice.pick;
+    let Pick::Mend(mend) = pick else {
+        return Attempt::Refused(lookups);
+    };
+    if out.len() < mend.letters {
+        return Attempt::Full;
     }
+    write(mend, out);
+    Attempt::Mend(mend.letters, mend.resume, lookups)
 }

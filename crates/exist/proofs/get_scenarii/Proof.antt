@@ -18,14 +18,6 @@ use Rattle.exist.proofs.Scores.{Run, run-none, run-on, run-bad, run-all
 use Rattle.exist.proofs.Chosen.{mends-store, small-store}
 use Rattle.exist.proofs.get_scenarii.Statement.{statement}
 use Rattle.exist.proofs.get_scenarii.Tie as tie
-use Rattle.exist.proofs.get_scenarii.Reads as reads
-use Rattle.exist.proofs.get_scenarii.Lts as lts
-use Rattle.exist.proofs.eligible.Reads as eligible-reads
-use Rattle.scan.proofs.add_base.Reads as add-base-reads
-use Rattle.scenario.proofs.correct.Reads as correct-reads
-use Rattle.scenario.proofs.number_of.Reads as number-of-reads
-use Rattle.scenario.proofs.row_of.Reads as row-of-reads
-use Rattle.set.proofs.get.Reads as get-reads
 
 abbrev Inv-loop : tie.InvT-loop
 Inv-loop set starts head two c x s kept count lookups₀ end number₀ first start last kmer₀ j₀ lookups number kmer j =
@@ -44,7 +36,6 @@ Inv-scenarios set starts head two c x s kept₀ count₀ lookups₀ end number�
 abbrev μ-scenarios : tie.MeasureT-scenarios
 μ-scenarios set starts head two c x s kept₀ count₀ lookups₀ end number₀ kept count lookups number = end - number
 
--- src/lib.rt:101:9
 abbrev start : tie.At-scenarios Inv-loop μ-loop Inv-scenarios μ-scenarios → tie.Start Inv-loop μ-loop Inv-scenarios μ-scenarios
 start c = c .before .before .before .before .before
 
@@ -94,37 +85,29 @@ spent c =
 number-of-requires : tie.Need-number-of-requires Inv-loop μ-loop Inv-scenarios μ-scenarios
 number-of-requires c κs = search needs
 
--- src/lib.rt:102:5
 scenarios-holds : tie.Need-scenarios-holds Inv-loop μ-loop Inv-scenarios μ-scenarios
 scenarios-holds c = (search needs, search needs, search needs, refl, λ i h. absurd (omega arith), done-none _ _ _ _ _)
 
--- src/lib.rt:103:13
 eligible-requires : tie.Need-eligible-requires Inv-loop μ-loop Inv-scenarios μ-scenarios
 eligible-requires c κs =
     let b = start (c .before) in
     (b .pre .0, b .pre .1, numbered c, b .pre .2, b .pre .3)
 
--- src/lib.rt:104:9
 add-lookups : tie.Need-add-lookups Inv-loop μ-loop Inv-scenarios μ-scenarios
 add-lookups c = omega (arith, c .before .eligible .ensures .few, few (c .before .before .before))
 
--- src/lib.rt:106:24
 enum-known-tried : tie.Need-enum-known-tried Inv-loop μ-loop Inv-scenarios μ-scenarios
 enum-known-tried c = search needs
 
--- src/lib.rt:107:13
 enum-told : tie.Need-enum-told Inv-loop μ-loop Inv-scenarios μ-scenarios
 enum-told c = search needs
 
--- src/lib.rt:107:13
 add-number : tie.Need-add-number Inv-loop μ-loop Inv-scenarios μ-scenarios
 add-number c = omega (arith, few (c .before .before .before .before .before))
 
--- src/lib.rt:102:5
 scenarios-less : tie.Need-scenarios-less Inv-loop μ-loop Inv-scenarios μ-scenarios
 scenarios-less c = search needs
 
--- src/lib.rt:102:5
 scenarios-again : tie.Need-scenarios-again Inv-loop μ-loop Inv-scenarios μ-scenarios
 scenarios-again c =
     let e = c .before .before .before in
@@ -132,48 +115,38 @@ scenarios-again c =
     let q = subst (EligibleIs _ _ _ _ _ _) (c .enum-told .given .1) (e .eligible .ensures .is) in
     (search needs, search needs, omega (arith, e .eligible .ensures .few), a .inv .3, a .inv .4, done-refused _ _ _ _ _ (a .inv .5) (inside (e .before)) q)
 
--- src/lib.rt:109:21
 row-of-requires : tie.Need-row-of-requires Inv-loop μ-loop Inv-scenarios μ-scenarios
 row-of-requires c κs = numbered (c .before .before .before .before .before)
 
--- src/lib.rt:110:20
 add-last : tie.Need-add-last Inv-loop μ-loop Inv-scenarios μ-scenarios
 add-last c = omega (arith, near c)
 
--- src/lib.rt:112:9
 loop-holds : tie.Need-loop-holds Inv-loop μ-loop Inv-scenarios μ-scenarios
 loop-holds c = (refl, search needs, search needs, given c .1, omega arith, run-none _ _ _ _ _ _)
 
--- src/lib.rt:113:41
 shared-slice-read-add-base :
     tie.Need-shared-slice-read-add-base Inv-loop μ-loop Inv-scenarios μ-scenarios
 shared-slice-read-add-base c = omega (arith, long (c .before .before .before))
 
--- src/lib.rt:113:13
 add-base-requires : tie.Need-add-base-requires Inv-loop μ-loop Inv-scenarios μ-scenarios
 add-base-requires c κs = search needs
 
--- src/lib.rt:114:13
 add-lookups-2 : tie.Need-add-lookups-2 Inv-loop μ-loop Inv-scenarios μ-scenarios
 add-lookups-2 c =
     let l = c .before .before .before in
     omega (arith, spent l, few (at (l .before) .before .before))
 
--- src/lib.rt:115:17
 get-requires : tie.Need-get-requires Inv-loop μ-loop Inv-scenarios μ-scenarios
 get-requires c κs = search needs
 
--- src/lib.rt:116:17
 add-number-2 : tie.Need-add-number-2 Inv-loop μ-loop Inv-scenarios μ-scenarios
 add-number-2 c =
     let l = c .before .before .before .before .before in
     omega (arith, l .loop .inv .0, few (at (l .before) .before .before))
 
--- src/lib.rt:102:5
 scenarios-less-2 : tie.Need-scenarios-less-2 Inv-loop μ-loop Inv-scenarios μ-scenarios
 scenarios-less-2 c = search needs
 
--- src/lib.rt:102:5
 scenarios-again-2 : tie.Need-scenarios-again-2 Inv-loop μ-loop Inv-scenarios μ-scenarios
 scenarios-again-2 c =
     let g = c .before in
@@ -194,15 +167,12 @@ scenarios-again-2 c =
       rw (l .loop .inv .0, z) (done-refused _ _ _ _ _ (a .inv .5) (inside (e .before)) q),
     )
 
--- src/lib.rt:112:13
 add-j : tie.Need-add-j Inv-loop μ-loop Inv-scenarios μ-scenarios
 add-j c = omega (arith, near (c .before .before .before .before .before .before))
 
--- src/lib.rt:112:9
 loop-less : tie.Need-loop-less Inv-loop μ-loop Inv-scenarios μ-scenarios
 loop-less c = search needs
 
--- src/lib.rt:112:9
 loop-again : tie.Need-loop-again Inv-loop μ-loop Inv-scenarios μ-scenarios
 loop-again c =
     let g = c .before in
@@ -217,33 +187,26 @@ loop-again c =
       run-on _ _ _ _ _ _ (l .loop .inv .5) (l .loop .inv .1) (i .loop-test .taken) (long (l .before)) (n .add-base .ensures .is) (g .get .ensures) (not-false _ (c .if1 .left)),
     )
 
--- src/lib.rt:119:23
 correct-requires : tie.Need-correct-requires Inv-loop μ-loop Inv-scenarios μ-scenarios
 correct-requires c κs = rw (c .before .loop .inv .0) (numbered (at (c .before .before) .before))
 
--- src/lib.rt:119:9
 mul-kept : tie.Need-mul-kept Inv-loop μ-loop Inv-scenarios μ-scenarios
 mul-kept c = omega (arith, stored (c .before .before .before))
 
--- src/lib.rt:119:9
 array-set-from-kept : tie.Need-array-set-from-kept Inv-loop μ-loop Inv-scenarios μ-scenarios
 array-set-from-kept c = stored (c .before .before .before)
 
--- src/lib.rt:120:9
 add-count : tie.Need-add-count Inv-loop μ-loop Inv-scenarios μ-scenarios
 add-count c = omega (arith, stored (c .before .before .before))
 
--- src/lib.rt:102:21
 add-number-3 : tie.Need-add-number-3 Inv-loop μ-loop Inv-scenarios μ-scenarios
 add-number-3 c =
     let l = c .before .before in
     omega (arith, l .loop .inv .0, few (at (l .before) .before .before))
 
--- src/lib.rt:102:5
 scenarios-less-3 : tie.Need-scenarios-less-3 Inv-loop μ-loop Inv-scenarios μ-scenarios
 scenarios-less-3 c = search needs
 
--- src/lib.rt:102:5
 scenarios-again-3 : tie.Need-scenarios-again-3 Inv-loop μ-loop Inv-scenarios μ-scenarios
 scenarios-again-3 c =
     let i = c .before in
@@ -265,7 +228,6 @@ scenarios-again-3 c =
       rw (mends-store (a .kept) (a .count) (c .correct .result) room, gives .is, l .loop .inv .0, z) (done-kept _ _ _ _ _ (a .inv .5) (inside (e .before)) q),
     )
 
--- src/lib.rt:82:1
 returns : tie.Need-returns Inv-loop μ-loop Inv-scenarios μ-scenarios
 returns c =
     let a = c .before .scenarios in
