@@ -9,8 +9,8 @@ use lib.ListN.{length, take}
 use Rattle.rules.specs.Letters.{last}
 use Rattle.rules.specs.Counted.{Try, after}
 use Rattle.rules.specs.Scan.{alternative}
-use Rattle.rules.specs.Exist as rules
 use Rattle.rules.specs.Exist.{Scenario, kept, choose, exist}
+use Rattle.rules.specs.Exist as rules
 use Rattle.scan.proofs.Laws.{alternative-is, sole-lookups}
 use Rattle.scan.specs.Attempt.{Attempted}
 use Rattle.scan.specs.declared.Attempt.the-variants.{Mend as Mended, Refused, Full}

@@ -8,8 +8,8 @@ use lib.ListN.{length, getD, take, drop}
 use lib.Dec.{eqb}
 use Rattle.rules.specs.Letters.{letter, last}
 use Rattle.rules.specs.Counted.{Counted, Try, after}
-use Rattle.rules.specs.Exist as rules
 use Rattle.rules.specs.Exist.{Scenario}
+use Rattle.rules.specs.Exist as rules
 use Rattle.kmer.specs.Kmer.{IsKmer}
 use Rattle.scan.specs.declared.Next.{Next}
 use Rattle.scan.specs.declared.Next.the-variants.{Kmer, Refused}

@@ -1,17 +1,16 @@
-use mathlib.Core.List.{List}
+use Prim.Native.Nat.{_-_, _≤_}
+use native.Mathlib.Omega.{arith}
+use mathlib.Core.List.{List, map}
+use mathlib.Core.Path.{_≡_, sym, ap, _∙_}
+use mathlib.Core.Logic.{⊎-elim}
+use lib.ListN.{length, take}
+use borrow.Author.Needs.{needs}
 use Rattle.rules.specs.Counted.{Try}
 use Rattle.rules.specs.Exist.{Mend}
-use Rattle.exist.specs.Exist.{mendsOf}
-use Prim.Native.Nat.{ℕ, _-_, _≤_, _<_}
-use native.Mathlib.Omega.{arith}
-use mathlib.Core.Path.{_≡_, refl, sym, ap, _∙_}
-use mathlib.Core.Logic.{⊎-elim}
-use mathlib.Core.List.{map}
-use lib.ListN.{length, take}
 use Rattle.rules.specs.Set.{solid, setOf}
 use Rattle.scenario.specs.Scenario.{mendOf, Small}
+use Rattle.exist.specs.Exist.{mendsOf}
 use Rattle.exist.proofs.Chosen.{mends-length, mends-cons, mends-one, Asked, asked-none, asked-yes, asked-no, choose-one, choose-found, choose-refused}
-use borrow.Author.Needs.{needs}
 use Rattle.exist.proofs.choose.Statement.{statement}
 use Rattle.exist.proofs.choose.Tie as tie
 

@@ -1,5 +1,6 @@
-use Prim.Native.Nat.{ℕ, _+_}
+use Prim.Native.Nat.{_+_}
 use mathlib.Core.Path.{_≡_, ap, subst}
+use borrow.Author.Needs.{needs}
 use Rattle.rules.specs.Set.{solid, setOf}
 use Rattle.rules.specs.Counted.{Try}
 use Rattle.rules.specs.Scan.{alternative}
@@ -10,7 +11,6 @@ use Rattle.scenario.specs.Scenario.{scenarios}
 use Rattle.exist.specs.declared.Pick.the-variants.{Mend as Use}
 use Rattle.exist.specs.Exist.{PickIs}
 use Rattle.exist.proofs.Attempts.{exist-none, exist-answer, exist-lookups, refused, full, mended}
-use borrow.Author.Needs.{needs}
 use Rattle.exist.proofs.correct_error.Statement.{statement}
 use Rattle.exist.proofs.correct_error.Tie as tie
 

@@ -1,11 +1,9 @@
-use Prim.Native.Nat.{ℕ, _+_, _-_, _≤_, _<_}
+use Prim.Native.Nat.{_-_, _≤_}
 use native.Mathlib.Omega.{arith}
-use native.Mathlib.Numerals.{add-one}
-use mathlib.Core.Path.{_≡_, refl, sym, ap, _∙_}
-use lib.ListN.{length, take, drop, getD, length-set, drop-of-length-le}
-use lib.Seq.{drop-cons, take-suc, take-suc-set, take-all}
+use mathlib.Core.Path.{_≡_, refl, ap, _∙_}
+use lib.ListN.{length, drop}
 use borrow.Author.Needs.{needs}
-use Rattle.rules.specs.Letters.{add, addAll, inPlace, last}
+use Rattle.rules.specs.Letters.{add, addAll, last}
 use Rattle.kmer.specs.Kmer.{IsKmer}
 use Rattle.exist.proofs.Letters.{last-length, letter-code, add-next, add-end, placed}
 use Rattle.exist.proofs.in_place.Statement.{statement}

@@ -1,5 +1,5 @@
-use Rattle.exist.proofs.Letters.{letter-is}
 use borrow.Author.Needs.{needs}
+use Rattle.exist.proofs.Letters.{letter-is}
 use Rattle.exist.proofs.letter_at.Statement.{statement}
 use Rattle.exist.proofs.letter_at.Tie as tie
 

@@ -1,8 +1,8 @@
+use mathlib.Core.Path.{refl}
 use lib.Dec.{lit≤}
-use mathlib.Core.Path.{refl, sym, ap, _∙_}
+use borrow.Author.Needs.{needs}
 use Rattle.scenario.specs.Scenario.{mendOf}
 use Rattle.exist.proofs.Chosen.{more-short, more-long}
-use borrow.Author.Needs.{needs}
 use Rattle.exist.proofs.one_more.Statement.{statement}
 use Rattle.exist.proofs.one_more.Tie as tie
 
