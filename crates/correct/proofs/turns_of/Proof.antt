@@ -5,9 +5,9 @@ use borrow.Author.Needs.{needs}
 use Rattle.rules.specs.Set.{setOf, solid}
 use Rattle.rules.specs.Driver.{State}
 use Rattle.rules.proofs.Driver.{left, finish-end}
-use Rattle.correct.specs.declared.Turned.the-variants.{To}
-use Rattle.correct.specs.Turn.{stateOf, Stands, Countable, attemptOf, endOf, Turning, TurnIs}
-use Rattle.correct.proofs.Turns.{same-end, fewer-left}
+use Rattle.turn.specs.declared.Turned.the-variants.{To}
+use Rattle.turn.specs.Turn.{stateOf, Stands, Countable, attemptOf, endOf, Turning, TurnIs}
+use Rattle.turn.proofs.Turns.{same-end, fewer-left}
 use Rattle.correct.proofs.turns_of.Statement.{statement}
 use Rattle.correct.proofs.turns_of.Tie as tie
 
