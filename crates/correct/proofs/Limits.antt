@@ -33,7 +33,7 @@ pub record Limited (w : ℕ) (p : Pass) : Type 0 where
 
 module _ (bytes : List ℕ) (opens : setCheck bytes ≡ none) (c : ℕ) (c-low : 1 ≤ c) (c-high : c < 256) where
   F-le : (m : Method) → F (setOf bytes) c m ≤ maxF
-  unfolding F
+  unfolding F setOf
   F-le One = omega arith
   F-le Two = omega arith
   F-le Graph = omega (arith, keys-are bytes, opened-n-le bytes opens)
