@@ -5,10 +5,10 @@ use lib.ListN.{length, length-drop}
 use lib.Seq.{length-take-le}
 use borrow.Author.Needs.{needs}
 use Rattle.scan.specs.declared.Attempt.the-variants.{Mend, Refused}
-use Rattle.correct.proofs.Parts.{tail-part, tail-back}
-use Rattle.correct.proofs.Turns.{rest-is, Tried, length-back, refused-fits, refused-is, mended-fits, letters-back, mended-place, no-room}
-use Rattle.correct.proofs.bad_base.Statement.{statement}
-use Rattle.correct.proofs.bad_base.Tie as tie
+use Rattle.turn.proofs.Parts.{tail-part, tail-back}
+use Rattle.turn.proofs.Turns.{rest-is, Tried, length-back, refused-fits, refused-is, mended-fits, letters-back, mended-place, no-room}
+use Rattle.turn.proofs.bad_base.Statement.{statement}
+use Rattle.turn.proofs.bad_base.Tie as tie
 
 -- The attempt, told of the whole read and output of which it was lent parts.
 tried : (c : tie.After-correct-error)
@@ -17,7 +17,7 @@ tried : (c : tie.After-correct-error)
 tried c =
     let s = c .before .before .before .before .before .before .before in
     let a = s .args in
-    rw (tail-part (a .read .now) (a .p .at) ∙ rest-is _ _ _ _ _ _ _ _ (s .pre .0), tail-part (a .out .now) (a .p .done .written))
+    rw (tail-part (a .read .now) (a .p .at) ∙ rest-is _ _ _ _ _ _ _ _ (s .pre .0), tail-part (a .out .now) (a .p .written))
     at (c .correct-error .ensures)
 
 mended : (c : tie.After-tried)
@@ -42,11 +42,11 @@ refused c =
 -- The letters are inside the output.
 inside : (c : tie.After-tried)
     → let a = c .before .before .before .before .before .before .before .before .before .before .before .args in
-    a .p .done .written + c .tried .given .0 .0 ≤ length (a .out .now)
+    a .p .written + c .tried .given .0 .0 ≤ length (a .out .now)
 inside c =
     let s = c .before .before .before .before .before .before .before .before .before .before .before in
     let m = mended c in
-    omega (arith, m .is .1, m .room, length-drop (s .args .p .done .written) (s .args .out .now), s .pre .0 .stands .written)
+    omega (arith, m .is .1, m .room, length-drop (s .args .p .written) (s .args .out .now), s .pre .0 .stands .written)
 
 sub-correct-error : tie.Need-sub-correct-error
 sub-correct-error c = search needs
@@ -91,7 +91,7 @@ part-mend-end c =
     omega (
       arith,
       inside m,
-      ap length (tail-back (s .args .out .now) (g .correct-error .last .1 .1 .1 .1 .1 .1 .1 .0) (s .args .p .done .written)),
+      ap length (tail-back (s .args .out .now) (g .correct-error .last .1 .1 .1 .1 .1 .1 .1 .0) (s .args .p .written)),
       length-back _ _ _ _ _ _ _ _ (s .pre .0) _ (s .pre .1) (g .correct-error .last .1 .1 .1 .1 .1 .1 .1 .0) (mended m .room),
     )
 
@@ -101,20 +101,12 @@ mend-requires c κs =
     let g = m .before .before .before .before in
     let s = g .before .before .before .before .before .before .before in
     let q = m .tried .given .0 in
-    let l = g .correct-error .last .1 .1 .1 .1 .1 .1 .1 .0 in (
-      (
-        s .pre .0 .ready .shifts,
-        s .pre .1 .kmer .kmer,
-        s .pre .0 .stands .at,
-        omega (
-          arith,
-          inside m,
-          s .good,
-          ap length (letters-back _ _ _ _ _ _ _ _ (s .pre .0) _ (s .pre .1) l (q .0)),
-          length-take-le (q .0) l (mended m .is .1),
-        ),
-      ),
-      mended-fits _ _ _ _ _ _ _ _ (s .pre .0) _ (s .pre .1) l (q .0) (q .1 .0) (q .1 .1 .0) (mended m),
+    let l = g .correct-error .last .1 .1 .1 .1 .1 .1 .1 .0 in
+    let back = ap length (letters-back _ _ _ _ _ _ _ _ (s .pre .0) _ (s .pre .1) l (q .0)) ∙ length-take-le (q .0) l (mended m .is .1) in (
+      s .pre .0 .ready .shifts,
+      s .pre .1 .kmer .kmer,
+      s .pre .0 .stands .at,
+      mended-fits _ _ _ _ _ _ _ _ (s .pre .0) _ (s .pre .1) l _ (omega (arith, inside m, s .good, back)) (q .0) (q .1 .0) (q .1 .1 .0) (mended m),
     )
 
 enum-known-tried-2 : tie.Need-enum-known-tried-2
@@ -128,8 +120,7 @@ keep-requires c κs =
     let r = c .before .before .before in
     let g = r .before .before .before .before in
     let s = g .before .before .before .before .before .before .before in
-    let f = refused-fits _ _ _ _ _ _ _ _ (s .pre .0) _ (s .pre .1) _ _ (refused r) in
-    (omega (arith, s .good, s .pre .0 .more), f .0, f .1, f .2)
+    (omega (arith, s .good, s .pre .0 .more), refused-fits _ _ _ _ _ _ _ _ (s .pre .0) _ (s .pre .1) _ (omega (arith, s .good)) _ (refused r))
 
 enum-told : tie.Need-enum-told
 enum-told c = search needs
@@ -144,7 +135,7 @@ returns c =
     let s = g .before .before .before .before .before .before .before in
     let q = m .tried .given .0 in
     let l = g .correct-error .last .1 .1 .1 .1 .1 .1 .1 .0 in
-    rw (tail-back (s .args .out .now) l (s .args .p .done .written))
+    rw (tail-back (s .args .out .now) l (s .args .p .written))
     (mended-place _ _ _ _ _ _ _ _ (s .pre .0) _ (s .pre .1) l (q .0) (q .1 .0) (q .1 .1 .0) (c .mend .result) (mended m)
     (rw (letters-back _ _ _ _ _ _ _ _ (s .pre .0) _ (s .pre .1) l (q .0)) at (c .mend .ensures)))
 
@@ -159,7 +150,7 @@ returns-2 c =
     let s = g .before .before .before .before .before .before .before in
     let l = g .correct-error .last .1 .1 .1 .1 .1 .1 .1 .0 in
     refused-is _ _ _ _ _ _ _ _ (s .pre .0) _ (s .pre .1) l _ _ (k .keep .result) (refused r)
-    (rw (tail-back (s .args .out .now) l (s .args .p .done .written)) at (k .keep .ensures))
+    (rw (tail-back (s .args .out .now) l (s .args .p .written)) at (k .keep .ensures))
 
 same-length-3 : tie.Need-same-length-3
 same-length-3 c = search needs

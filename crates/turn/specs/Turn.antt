@@ -16,21 +16,23 @@ use Rattle.kmer.specs.declared.Header.{Header}
 use Rattle.kmer.specs.declared.Kmer.{Kmer}
 use Rattle.kmer.specs.Kmer.{IsKmer, HasCode}
 use Rattle.set.specs.Ready.{Ready}
-use Rattle.correct.specs.declared.Counts.{Counts}
-use Rattle.correct.specs.declared.Place.{Place}
-use Rattle.correct.specs.declared.Turned.{Turned}
-use Rattle.correct.specs.declared.Turned.the-variants.{To, Full}
-use Rattle.correct.specs.Pass.{passOf}
+use Rattle.turn.specs.declared.Place.{Place}
+use Rattle.turn.specs.declared.Turned.{Turned}
+use Rattle.turn.specs.declared.Turned.the-variants.{To, Full}
+
+-- What is done at a place, as the rules' pass so far.
+abbrev pub doneOf : Place → List ℕ → rules.Pass
+doneOf p out = record { bytes = take (p .written) out; turns = p .turns; lookups = p .lookups; attempts = p .attempts; accepted = p .accepted }
 
 -- A place as the rules' state.
 unfoldable pub stateOf : Place → List ℕ → List ℕ → State
-stateOf p read out = record { kmer = p .kmer .code; previous = p .previous; rest = drop (p .at) read; done = passOf (p .done) out }
+stateOf p read out = record { kmer = p .kmer .code; previous = p .previous; rest = drop (p .at) read; done = doneOf p out }
 
 -- A place has a k-mer, and is inside the read and the output.
 pub record Stands (k : ℕ) (p : Place) (read out : List ℕ) : Type 0 where
   pub kmer : IsKmer k (p .kmer)
   pub at : p .at ≤ length read
-  pub written : p .done .written ≤ length out
+  pub written : p .written ≤ length out
 
 -- Counts that fit a u64, with room for a sum.
 pub record Countable (n : rules.Pass) : Type 0 where
@@ -49,31 +51,39 @@ turnOf bytes head method c = rules.turn (head .k) (solid (setOf bytes)) (attempt
 abbrev pub endOf : List ℕ → Header → ℕ → ℕ → State → rules.Pass
 endOf bytes head method c st = finish (head .k) (solid (setOf bytes)) (attemptOf bytes method c) st .done
 
--- One turn more: w bytes written, l lookups beside the turn's own, a attempts made and b accepted.
-abbrev pub countedOf : Counts → ℕ → ℕ → ℕ → ℕ → Counts
-countedOf n w l a b =
+-- One turn more: where it leads, and what it adds: w bytes written, l lookups beside the turn's own, a attempts made and b accepted.
+abbrev pub placeOf : Place → Kmer → Bool → ℕ → ℕ → ℕ → ℕ → ℕ → Place
+placeOf p kmer previous at w l a b =
     record {
-      written = n .written + w;
-      turns = n .turns + 1;
-      lookups = n .lookups + (1 + l);
-      attempts = n .attempts + a;
-      accepted = n .accepted + b;
+      kmer = kmer;
+      previous = previous;
+      at = at;
+      written = p .written + w;
+      turns = p .turns + 1;
+      lookups = p .lookups + (1 + l);
+      attempts = p .attempts + a;
+      accepted = p .accepted + b;
     }
+
+-- What it adds fits.
+pub record Fits (p : Place) (w l a b : ℕ) : Type 0 where
+  pub written : p .written + w < 2 ^ 64
+  pub turns : p .turns < 2 ^ 63
+  pub lookups : p .lookups + (1 + l) < 2 ^ 64
+  pub attempts : p .attempts + a < 2 ^ 64
+  pub accepted : p .accepted + b < 2 ^ 64
 
 -- A base kept, as `keepBase` of the rules has it; Full where the output has no room for it.
 abbrev pub Kept : Place → ℕ → Kmer → Bool → ℕ → ℕ → List ℕ → List ℕ → Turned → Type 0
 Kept p base kmer solid a l out out′ (To r) =
-    (r ≡ record { kmer = kmer; previous = solid; at = p .at + 1; done = countedOf (p .done) 1 l a 0 })
-    × (out′ ≡ set out (p .done .written) base)
-    × (p .done .written < length out)
-Kept p base kmer solid a l out out′ Full = length out ≤ p .done .written
+    (r ≡ placeOf p kmer solid (p .at + 1) 1 l a 0) × (out′ ≡ set out (p .written) base) × (p .written < length out)
+Kept p base kmer solid a l out out′ Full = length out ≤ p .written
 
 -- An accepted attempt at the bad k-mer y, as `mendBase` of the rules has it, in a read of length n.
 pub record Mended (k : ℕ) (p : Place) (y : ℕ) (letters : List ℕ) (resume l n : ℕ) (r : Place) : Type 0 where
-  pub kmer : HasCode k (inPlace k y letters) (r .kmer)
-  pub previous : r .previous ≡ true
-  pub at : r .at ≡ min (p .at + resume) n
-  pub done : r .done ≡ countedOf (p .done) (length letters) l 1 1
+  pub kmer : Kmer
+  pub placed : HasCode k (inPlace k y letters) kmer
+  pub is : r ≡ placeOf p kmer true (min (p .at + resume) n) (length letters) l 1 1
 
 -- What a turn asks: a base is left, and the counts of the whole pass fit.
 pub record Turning (bytes starts : List ℕ) (head : Header) (method c : ℕ) (p : Place) (read out : List ℕ) : Type 0 where

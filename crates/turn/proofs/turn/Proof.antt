@@ -6,9 +6,9 @@ use mathlib.Core.Bool.{true, false}
 use lib.ListN.{getD}
 use Rattle.rules.specs.Letters.{addBase}
 use Rattle.rules.specs.Set.{setOf, solid}
-use Rattle.correct.proofs.Turns.{solid-turn, quiet-turn, keep-fits, kept-is}
-use Rattle.correct.proofs.turn.Statement.{statement}
-use Rattle.correct.proofs.turn.Tie as tie
+use Rattle.turn.proofs.Turns.{solid-turn, quiet-turn, keep-fits, kept-is}
+use Rattle.turn.proofs.turn.Statement.{statement}
+use Rattle.turn.proofs.turn.Tie as tie
 
 shared-slice-read-base : tie.Need-shared-slice-read-base
 shared-slice-read-base c = search needs
@@ -29,8 +29,8 @@ keep-requires : tie.Need-keep-requires
 keep-requires c κs =
     let g = c .before .before in
     let s = g .before .before .before .before .before .before .before in
-    let f = keep-fits _ _ _ _ _ _ _ _ (s .pre) true 0 0 (solid-turn _ _ _ _ _ _ _ _ (s .pre) (answer g ∙ c .before .if1 .taken)) in
-    (omega (arith, s .good, s .pre .more), f .0, f .1, f .2)
+    let f = keep-fits _ _ _ _ _ _ _ _ (s .pre) (omega (arith, s .good)) true 0 0 (solid-turn _ _ _ _ _ _ _ _ (s .pre) (answer g ∙ c .before .if1 .taken)) in
+    (omega (arith, s .good, s .pre .more), f)
 
 same-length : tie.Need-same-length
 same-length c = search needs
@@ -47,9 +47,9 @@ keep-requires-2 : tie.Need-keep-requires-2
 keep-requires-2 c κs =
     let g = c .before .before .before in
     let s = g .before .before .before .before .before .before .before in
-    let f = keep-fits _ _ _ _ _ _ _ _ (s .pre) false 0 0
+    let f = keep-fits _ _ _ _ _ _ _ _ (s .pre) (omega (arith, s .good)) false 0 0
     (quiet-turn _ _ _ _ _ _ _ _ (s .pre) (answer g ∙ c .before .before .if1 .left) (not-true _ (c .before .if2 .taken))) in
-    (omega (arith, s .good, s .pre .more), f .0, f .1, f .2)
+    (omega (arith, s .good, s .pre .more), f)
 
 same-length-2 : tie.Need-same-length-2
 same-length-2 c = search needs

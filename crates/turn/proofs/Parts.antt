@@ -1,16 +1,12 @@
--- Bytes copied, and parts of a buffer.
+-- Parts of a buffer, and letters added to a k-mer.
 use Prim.Native.Nat.{ℕ, _+_, _-_, _<_}
 use native.Mathlib.Nat.{le-of-eq}
 use native.Mathlib.Numerals.{add-one}
-use mathlib.Core.Path.{_≡_, sym, ap, _∙_}
-use mathlib.Core.List.{List, [], _∷_, _++_, append-nil}
-use lib.ListN.{length, getD, take, drop, set, length-drop, drop-of-length-le}
+use mathlib.Core.Path.{_≡_}
+use mathlib.Core.List.{List, _++_, append-nil}
+use lib.ListN.{length, getD, take, drop, length-drop, drop-of-length-le}
 use Rattle.rules.specs.Letters.{addAll, addBase}
-use lib.Seq.{drop-cons, take-suc, take-suc-set, take-all}
-
--- one byte more is copied
-pub copy-one : (s d : List ℕ) (i : ℕ) → i < length s → i < length d → take i d ≡ take i s → take (i + 1) (set d i (getD s i 0)) ≡ take (i + 1) s
-copy-one s d i h g e = rw add-one (take-suc-set d i (getD s i 0) g ∙ ap (λ (l : List ℕ). l ++ (getD s i 0 ∷ [])) e ∙ sym (take-suc s i 0 h))
+use lib.Seq.{drop-cons, take-all}
 
 -- `&d[a..]`
 pub tail-part : (d : List ℕ) (a : ℕ) → take (length d - a) (drop a d) ≡ drop a d

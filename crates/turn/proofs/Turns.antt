@@ -21,18 +21,17 @@ use Rattle.rules.proofs.Driver.{turn-solid, turn-quiet, turn-refused, turn-mend
 use Rattle.rules.proofs.Demands.{steady}
 use Rattle.kmer.specs.declared.Header.{Header}
 use Rattle.kmer.specs.declared.Kmer.{Kmer}
-use Rattle.kmer.specs.Kmer.{HasCode}
+use Rattle.kmer.specs.Kmer.{IsKmer, HasCode}
 use Rattle.set.specs.Ready.{Ready}
-use Rattle.correct.specs.declared.Counts.{Counts}
-use Rattle.correct.specs.declared.Place.{Place}
-use Rattle.correct.specs.declared.Turned.{Turned}
-use Rattle.correct.specs.declared.Turned.the-variants.{To, Full}
+use Rattle.turn.specs.declared.Place.{Place}
+use Rattle.turn.specs.declared.Turned.{Turned}
+use Rattle.turn.specs.declared.Turned.the-variants.{To, Full}
 use Rattle.scan.specs.declared.Attempt.{Attempt}
 use Rattle.scan.specs.declared.Attempt.the-variants.{Mend as Mends, Refused, Full as NoRoom}
 use Rattle.scan.specs.Attempt.{Attempted}
-use Rattle.correct.specs.Turn.{stateOf, Stands, attemptOf, turnOf, endOf, Kept, Mended, Turning, BadAt, TurnIs}
-use Rattle.correct.proofs.Parts.{tail-back}
-use Rattle.correct.proofs.Ends.{Within, turn-within, refused-within}
+use Rattle.turn.specs.Turn.{stateOf, Stands, attemptOf, turnOf, endOf, Fits, Kept, Mended, Turning, BadAt, TurnIs}
+use Rattle.turn.proofs.Parts.{tail-back}
+use Rattle.turn.proofs.Ends.{Within, turn-within, refused-within}
 
 -- k is the set's
 pub set-k : {bytes starts : List ℕ} {head : Header} → Ready bytes starts head → setOf bytes .k ≡ head .k
@@ -69,7 +68,7 @@ module _ (bytes starts : List ℕ) (head : Header) (method c : ℕ) (p : Place) 
   y = addBase k (p .kmer .code) b
 
   abbrev w : ℕ
-  w = p .done .written
+  w = p .written
 
   pub rest-is : drop (p .at) read ≡ b ∷ s
   rest-is = drop-cons read (p .at) 0 (t .more) ∙ ap (λ (i : ℕ). b ∷ drop i read) (sym (add-one (p .at)))
@@ -100,21 +99,31 @@ module _ (bytes starts : List ℕ) (head : Header) (method c : ℕ) (p : Place) 
   unfolding stateOf
   done-within x e = subst (λ (q : State). Within (q .done) (endOf bytes head method c st)) e (turn-within k sol ce (ready-steady (t .ready) method c (t .confirm)) st b s rest-is)
 
-  pub keep-fits : (v : Bool) (a l : ℕ) → turnOf bytes head method c st b s ≡ keepBase st b s y v a l
-      → (p .done .turns < 2 ^ 63) × (p .done .lookups + (1 + l) < 2 ^ 64) × (p .done .attempts + a < 2 ^ 64)
+  pub keep-fits : length out < 2 ^ 63 → (v : Bool) (a l : ℕ) → turnOf bytes head method c st b s ≡ keepBase st b s y v a l → Fits p 1 l a 0
   unfolding stateOf keepBase
-  keep-fits v a l e =
+  keep-fits small v a l e =
       let d = done-within _ e in
       let n = t .counts in
-      (omega (arith, d .turns, n .turns), omega (arith, d .lookups, n .lookups), omega (arith, d .attempts, n .attempts))
+      record {
+        written = omega (arith, t .stands .written);
+        turns = omega (arith, d .turns, n .turns);
+        lookups = omega (arith, d .lookups, n .lookups);
+        attempts = omega (arith, d .attempts, n .attempts);
+        accepted = omega (arith, d .accepted, n .accepted);
+      }
 
-  pub mend-fits : (m : Mend) (l : ℕ) → turnOf bytes head method c st b s ≡ mendBase k st (b ∷ s) y m l
-      → (p .done .turns < 2 ^ 63) × (p .done .lookups + (1 + l) < 2 ^ 64) × (p .done .attempts < 2 ^ 63) × (p .done .accepted < 2 ^ 63)
+  pub mend-fits : (w′ : ℕ) → w + w′ < 2 ^ 64 → (m : Mend) (l : ℕ) → turnOf bytes head method c st b s ≡ mendBase k st (b ∷ s) y m l → Fits p w′ l 1 1
   unfolding stateOf mendBase
-  mend-fits m l e =
+  mend-fits w′ small m l e =
       let d = done-within _ e in
       let n = t .counts in
-      (omega (arith, d .turns, n .turns), omega (arith, d .lookups, n .lookups), omega (arith, d .attempts, n .attempts), omega (arith, d .accepted, n .accepted))
+      record {
+        written = small;
+        turns = omega (arith, d .turns, n .turns);
+        lookups = omega (arith, d .lookups, n .lookups);
+        attempts = omega (arith, d .attempts, n .attempts);
+        accepted = omega (arith, d .accepted, n .accepted);
+      }
 
   -- ---- a base kept, in an output that an attempt may have changed behind what is written
 
@@ -134,10 +143,10 @@ module _ (bytes starts : List ℕ) (head : Header) (method c : ℕ) (p : Place) 
               rest = s;
               done = record {
                 bytes = by i;
-                turns = p .done .turns + 1;
-                lookups = p .done .lookups + (1 + l);
-                attempts = p .done .attempts + a;
-                accepted = add-zero (p .done .accepted) i;
+                turns = p .turns + 1;
+                lookups = p .lookups + (1 + l);
+                attempts = p .attempts + a;
+                accepted = add-zero (p .accepted) i;
               };
             })
             ∙ sym e,
@@ -165,16 +174,17 @@ module _ (bytes starts : List ℕ) (head : Header) (method c : ℕ) (p : Place) 
       → TurnIs bytes head method c p read out out₁ (To r)
   unfolding stateOf mendBase
   mended-is m l out₁ r d by room e =
-      let n : take (r .done .written) out₁ ≡ take w out ++ m .letters = ap (λ (q : Counts). take (q .written) out₁) (d .done) ∙ by in
-      let at : drop (r .at) read ≡ drop (m .resume) (b ∷ s) = ap (λ (i : ℕ). drop i read) (d .at) ∙ go-on (m .resume) in (
-        (λ i. record {
-          kmer = d .kmer .is i;
-          previous = d .previous i;
-          rest = at i;
-          done = record { bytes = n i; turns = d .done i .turns; lookups = d .done i .lookups; attempts = d .done i .attempts; accepted = d .done i .accepted };
-        })
+      let stop : r .at ≡ min (p .at + m .resume) (length read) = ap (λ (q : Place). q .at) (d .is) in
+      let end : r .written ≡ w + length (m .letters) = ap (λ (q : Place). q .written) (d .is) in (
+        ap (λ (q : Place). stateOf q read out₁) (d .is)
+            ∙ (λ i. record {
+              kmer = d .placed .is i;
+              previous = true;
+              rest = go-on (m .resume) i;
+              done = record { bytes = by i; turns = p .turns + 1; lookups = p .lookups + (1 + l); attempts = p .attempts + 1; accepted = p .accepted + 1 };
+            })
             ∙ sym e,
-        record { kmer = d .kmer .kmer; at = omega (arith, d .at); written = omega (arith, ap (λ (q : Counts). q .written) (d .done)) },
+        record { kmer = subst (λ (q : Place). IsKmer k (q .kmer)) (sym (d .is)) (d .placed .kmer); at = omega arith; written = omega arith },
       )
 
   -- ---- no room for an attempt
@@ -223,8 +233,8 @@ module _ (bytes starts : List ℕ) (head : Header) (method c : ℕ) (p : Place) 
         let at-y = rw (f .kmer .is) at (a .is) in
         refused-turn weak (f .previous) (at-y .0) ∙ ap (keepBase st b s y false 1) (at-y .1)
 
-    pub refused-fits : (n : ℕ) → Tried (Refused n) → (p .done .turns < 2 ^ 63) × (p .done .lookups + (1 + n) < 2 ^ 64) × (p .done .attempts + 1 < 2 ^ 64)
-    refused-fits n a = keep-fits false 1 n (refused-keep n a)
+    pub refused-fits : length out < 2 ^ 63 → (n : ℕ) → Tried (Refused n) → Fits p 1 n 1 0
+    refused-fits small n a = keep-fits small false 1 n (refused-keep n a)
 
     pub refused-is : (n : ℕ) (out′ : List ℕ) (r : Turned) → Tried (Refused n) → Kept p b bad false 1 n (take w out ++ l) out′ r
         → TurnIs bytes head method c p read out out′ r
@@ -238,9 +248,8 @@ module _ (bytes starts : List ℕ) (head : Header) (method c : ℕ) (p : Place) 
         let m : Mend = record { letters = take n l; resume = r } in
         mended-turn m weak (f .previous) (at-y .0) ∙ ap (mendBase k st (b ∷ s) y m) (at-y .2)
 
-    pub mended-fits : (n r q : ℕ) → Tried (Mends n r q)
-        → (p .done .turns < 2 ^ 63) × (p .done .lookups + (1 + q) < 2 ^ 64) × (p .done .attempts < 2 ^ 63) × (p .done .accepted < 2 ^ 63)
-    mended-fits n r q a = mend-fits _ q (mended-base n r q a)
+    pub mended-fits : (w′ : ℕ) → w + w′ < 2 ^ 64 → (n r q : ℕ) → Tried (Mends n r q) → Fits p w′ q 1 1
+    mended-fits w′ small n r q a = mend-fits w′ small _ q (mended-base n r q a)
 
     -- the letters, as the part `&out[w..w + n]` of the output that came back
     pub letters-back : (n : ℕ) → take (w + n - w) (drop w (take w out ++ (l ++ drop (length out - w) (drop w out)))) ≡ take n l

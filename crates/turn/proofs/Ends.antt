@@ -1,22 +1,19 @@
 -- What a pass has done so far, against its end: the rules' driver over any corrector.
-use Prim.Native.Nat.{ℕ, zero, suc, _+_, _*_, _-_, _≤_, _<_}
+use Prim.Native.Nat.{ℕ, zero, suc, _+_, _*_, _-_, _≤_}
 use native.Mathlib.Omega.{arith}
 use native.Mathlib.Nat.{zero-add}
 use mathlib.Core.Path.{_≡_, refl, sym, ap, _∙_}
 use mathlib.Core.Bool.{Bool, true, false}
 use mathlib.Core.Option.{none}
 use mathlib.Core.List.{List, [], _∷_}
-use borrow.Author.Tests.{le-ltb, lt-ltb}
-use native.Mathlib.Decide.{decLe}
-use lib.ListN.{length, take, drop, length-append, length-drop}
+use lib.ListN.{length, take, length-append}
 use lib.Seq.{length-take-le}
 use Rattle.rules.specs.Letters.{addBase}
 use Rattle.rules.specs.Counted.{Try}
 use Rattle.rules.specs.Scan.{errorLen}
 use Rattle.rules.specs.Exist.{Mend}
-use Rattle.rules.specs.Driver.{Pass, State, keepBase, mendBase, turn, turnsOf, begin, drive}
+use Rattle.rules.specs.Driver.{Pass, State, keepBase, mendBase, turn, turnsOf}
 use Rattle.rules.proofs.Scan.{scan-is}
-use Rattle.correct.specs.Pass.{unchanged}
 use Rattle.rules.proofs.Driver.{Case, is-solid, is-quiet, is-refused, is-mended, case, turn-solid, turn-quiet, turn-refused, turn-mended, turnsOf-step, turnsOf-end, Steady, finish, finish-step, refused-kept}
 
 -- a is done by the time that b is
@@ -26,11 +23,6 @@ pub record Within (a b : Pass) : Type 0 where
   pub lookups : a .lookups ≤ b .lookups
   pub attempts : a .attempts ≤ b .attempts
   pub accepted : a .accepted ≤ b .accepted
-
--- an attempt is made in a turn, and accepted once at most
-pub record Fewer (a : Pass) : Type 0 where
-  pub attempts : a .attempts ≤ a .turns
-  pub accepted : a .accepted ≤ a .turns
 
 module _ (k : ℕ) (sol : ℕ → Bool) (ce : List ℕ → ℕ → Try Mend) where
   -- a property that each way of a turn keeps holds from a state to what its turns lead to
@@ -46,7 +38,7 @@ module _ (k : ℕ) (sol : ℕ → Bool) (ce : List ℕ → ℕ → Try Mend) whe
         go (is-refused e p a) = rw (turn-refused k sol ce st b s e p a) (keeps st b s _ false 1 _ (omega arith) h)
         go (is-mended m e p a) = rw (turn-mended k sol ce st b s m e p a) (mends st (b ∷ s) _ m _ h)
 
-    turnsOf-keeps : (f : ℕ) (st : State) → P (st .done) → P (turnsOf k sol ce f st .done)
+    pub turnsOf-keeps : (f : ℕ) (st : State) → P (st .done) → P (turnsOf k sol ce f st .done)
     unfolding turnsOf
     turnsOf-keeps zero st h = h
     turnsOf-keeps (suc f) st h = go (turnsOf-keeps f) (st .rest) refl
@@ -75,13 +67,6 @@ module _ (k : ℕ) (sol : ℕ → Bool) (ce : List ℕ → ℕ → Try Mend) whe
         accepted = omega (arith, h .accepted);
       })
       f st (record { bytes = omega arith; turns = omega arith; lookups = omega arith; attempts = omega arith; accepted = omega arith })
-
-  pub turnsOf-fewer : (f : ℕ) (st : State) → Fewer (st .done) → Fewer (turnsOf k sol ce f st .done)
-  unfolding keepBase mendBase
-  turnsOf-fewer =
-      turnsOf-keeps Fewer
-      (λ st b s y p a l le h. record { attempts = omega (arith, h .attempts); accepted = omega (arith, h .accepted) })
-      (λ st s y m l h. record { attempts = omega (arith, h .attempts); accepted = omega (arith, h .accepted) })
 
   -- what a turn has done is done at the end
   pub turn-within : Steady k sol ce → (st : State) (b : ℕ) (s : List ℕ) → st .rest ≡ b ∷ s → Within (turn k sol ce st b s .done) (finish k sol ce st .done)
@@ -119,28 +104,3 @@ module _ (k : ℕ) (sol : ℕ → Bool) (ce : List ℕ → ℕ → Try Mend) whe
       let taken = length-take-le i (b ∷ s) high in
       let more = turnsOf-within (n - i) (turnsOf k sol ce i st) .bytes in
       rw (split, turnsOf-add i (n - i) st) (omega arith)
-
-  -- ---- a whole pass
-
-  pub drive-short-is : (read : List ℕ) → length read < k → drive k sol ce read ≡ unchanged read
-  unfolding drive
-  drive-short-is read lt = rw (drive, lt-ltb (length read) k lt)
-
-  pub drive-is : (read : List ℕ) → k ≤ length read → drive k sol ce read ≡ finish k sol ce (begin k sol ce read) .done
-  unfolding drive finish begin
-  drive-is read le =
-      rw (drive, le-ltb (length read) k le)
-      (ap (λ (n : ℕ). turnsOf k sol ce (2 * n) (begin k sol ce read) .done) (sym (length-drop k read)))
-
-  pub drive-fewer : (read : List ℕ) → Fewer (drive k sol ce read)
-  unfolding begin finish
-  drive-fewer read = elim (decLe k (length read)) [
-    | yes le ↦ rw (drive-is read le) (turnsOf-fewer _ (begin k sol ce read) (record { attempts = omega arith; accepted = omega arith }))
-    | no gt ↦ rw (drive-short-is read (omega arith)) (record { attempts = omega arith; accepted = omega arith })
-  ]
-
-  -- the first k-mer is part of the result
-  pub drive-long : (read : List ℕ) → k ≤ length read → k ≤ length (drive k sol ce read .bytes)
-  unfolding begin finish
-  drive-long read le =
-      rw (drive-is read le) (omega (arith, turnsOf-within (2 * length (drop k read)) (begin k sol ce read) .bytes, length-take-le k read le))

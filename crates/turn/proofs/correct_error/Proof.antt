@@ -1,7 +1,7 @@
 use borrow.Author.Needs.{needs}
-use Rattle.correct.proofs.Methods.{by-one, by-two, by-graph, by-gap-size}
-use Rattle.correct.proofs.correct_error.Statement.{statement}
-use Rattle.correct.proofs.correct_error.Tie as tie
+use Rattle.turn.proofs.Methods.{by-one, by-two, by-graph, by-gap-size}
+use Rattle.turn.proofs.correct_error.Statement.{statement}
+use Rattle.turn.proofs.correct_error.Tie as tie
 
 correct-error-requires : tie.Need-correct-error-requires
 correct-error-requires c κs = search needs

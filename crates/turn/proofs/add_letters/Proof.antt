@@ -4,9 +4,9 @@ use lib.ListN.{length, drop, drop-of-length-le}
 use borrow.Author.Needs.{needs}
 use Rattle.rules.specs.Letters.{addAll}
 use Rattle.kmer.specs.Kmer.{IsKmer}
-use Rattle.correct.proofs.Parts.{next-letter}
-use Rattle.correct.proofs.add_letters.Statement.{statement}
-use Rattle.correct.proofs.add_letters.Tie as tie
+use Rattle.turn.proofs.Parts.{next-letter}
+use Rattle.turn.proofs.add_letters.Statement.{statement}
+use Rattle.turn.proofs.add_letters.Tie as tie
 
 abbrev Inv-loop : tie.InvT-loop
 Inv-loop letters head y₀ i₀ i-end y i =
