@@ -37,34 +37,40 @@ EligibleIs k sol c s sc l (Kmer y) =
     (rules.tried k sol c s sc ≡ after l (confirm k sol c s sc (y .code))) × IsKmer k y × (sc .o + c ≤ length s)
 EligibleIs k sol c s sc l Refused = rules.tried k sol c s sc ≡ record { answer = none; lookups = l }
 
+-- A trial as far as its first confirm base; at most 8 lookups, so that the counts fit.
 pub record Eligible (k : ℕ) (sol : ℕ → Bool) (c : ℕ) (s : List ℕ) (sc : Scenario) (r : Trial) : Type 0 where
   pub is : EligibleIs k sol c s sc (r .lookups) (r .tried)
   pub few : r .lookups ≤ 8
 
+-- a is the code of letter i.
 pub record LetterIs (m : Mend) (i a : ℕ) : Type 0 where
   pub is : getD (last (m .letters) (m .code)) i 0 ≡ letter a
   pub small : a < 4
 
 -- ---- the choice
 
--- No mend.
+-- What no scenario is kept as yet.
 abbrev pub blank : Mend
 blank = record { code = 0; letters = 0; resume = 0 }
 
+-- The mends of the group.
 abbrev pub mendsOf : Scenarii → List rules.Mend
 mendsOf r = map mendOf (take (r .count) (r .kept))
 
+-- The group has room for all scenarios, and what is kept is small.
 pub record Held (r : Scenarii) : Type 0 where
   pub group : length (r .kept) ≡ 13
   pub count-le : r .count ≤ 13
   pub small : (i : ℕ) → i < r .count → Small (getD (r .kept) i blank)
 
+-- The scenarios kept by the rules, with all lookups.
 pub record KeptIs (k : Counted (List rules.Mend)) (r : Scenarii) : Type 0 where
   pub answer : k .answer ≡ mendsOf r
   pub lookups : k .lookups ≡ r .lookups
   pub few : r .lookups ≤ 4000
   pub held : Held r
 
+-- One base more, as the rules answer it: the mend itself, or a refusal.
 abbrev pub moreOf : rules.Mend → More → Try rules.Mend
 moreOf m r = record { answer = elim (r .solid) [ true ↦ some m | false ↦ none ]; lookups = r .lookups }
 
@@ -72,6 +78,7 @@ pub record MoreIs (m : rules.Mend) (t : Try rules.Mend) (r : More) : Type 0 wher
   pub is : moreOf m r ≡ t
   pub few : r .lookups ≤ 1
 
+-- The mend of the answer o, or a refusal.
 abbrev pub PickIs : Option rules.Mend → Pick → Type 0
 PickIs o (Use m) = (o ≡ some (mendOf m)) × Small m
 PickIs o NoUse = o ≡ none

@@ -54,7 +54,8 @@ fn eligible(
     s: &[u8],
 ) -> Trial
     requires { ⌜ Ready (now set) (now starts) head × IsKmer (head .k) x × (number < numberOf two) × (1 ≤ c) × (c < 256) ⌝ }
-    ensures { λ r. ⌜ Eligible (head .k) (solid (setOf (now (set .entry)))) c (now (s .entry)) (nth (scenarios two (head .k) (solid (setOf (now (set .entry)))) (x .code) (now (s .entry))) number) r ⌝ }
+    ensures { λ r. ⌜ Eligible (head .k) (solid (setOf (now (set .entry)))) c (now (s .entry))
+        (nth (scenarios two (head .k) (solid (setOf (now (set .entry)))) (x .code) (now (s .entry))) number) r ⌝ }
 {
     let trial = scenario::apply(set, starts, head, two, number, x, s);
     let tried = trial.tried;
@@ -89,7 +90,8 @@ fn get_scenarii(
     s: &[u8],
 ) -> Scenarii
     requires { ⌜ Ready (now set) (now starts) head × IsKmer (head .k) x × (1 ≤ c) × (c < 256) ⌝ }
-    ensures { λ r. ⌜ KeptIs (rules.kept (head .k) (solid (setOf (now (set .entry)))) c (now (s .entry)) (scenarios two (head .k) (solid (setOf (now (set .entry)))) (x .code) (now (s .entry)))) r ⌝ }
+    ensures { λ r. ⌜ KeptIs (rules.kept (head .k) (solid (setOf (now (set .entry)))) c (now (s .entry))
+        (scenarios two (head .k) (solid (setOf (now (set .entry)))) (x .code) (now (s .entry)))) r ⌝ }
 {
     let mut kept = [Mend {
         code: 0,
@@ -257,7 +259,8 @@ pub fn correct_error(
     out: &mut [u8],
 ) -> Attempt
     requires { ⌜ Ready (now set) (now starts) head × IsKmer (head .k) kmer × (1 ≤ c) ⌝ }
-    ensures { λ r. ⌜ Attempted (errorLen (head .k) (solid (setOf (now (set .entry)))) (kmer .code) (now (s .entry)) .index) (now (out .entry)) (now (out .exit)) (rules.exist (head .k) (solid (setOf (now (set .entry)))) c (now (s .entry)) (scenarios two (head .k) (solid (setOf (now (set .entry))))) (kmer .code)) r ⌝ }
+    ensures { λ r. ⌜ Attempted (errorLen (head .k) (solid (setOf (now (set .entry)))) (kmer .code) (now (s .entry)) .index) (now (out .entry)) (now (out .exit))
+        (rules.exist (head .k) (solid (setOf (now (set .entry)))) c (now (s .entry)) (scenarios two (head .k) (solid (setOf (now (set .entry))))) (kmer .code)) r ⌝ }
 {
     let Next::Kmer(x) = scan::sole_alt(set, starts, head, kmer) else {
         return Attempt::Refused(4);

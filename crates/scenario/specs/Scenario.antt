@@ -22,6 +22,7 @@ abbrev pub numberOf : Bool → ℕ
 numberOf false = 3
 numberOf true = 13
 
+-- The scenarios of Two (true) or One (false), in source order.
 abbrev pub scenarios : Bool → ℕ → (ℕ → Bool) → ℕ → List ℕ → List Scenario
 scenarios false k sol = one k sol
 scenarios true k sol = two k sol
@@ -30,6 +31,7 @@ scenarios true k sol = two k sol
 unfoldable pub nth : List Scenario → ℕ → Scenario
 nth scs i = getD scs i (record { least = 0; trial = refuse; o = 0; letters = λ t. []; r = 0 })
 
+-- r is the row of a scenario, but for its trial and letters.
 pub record RowIs (sc : Scenario) (r : Row) : Type 0 where
   pub least : r .0 ≡ sc .least
   pub start : r .1 ≡ sc .o
@@ -68,6 +70,7 @@ module _ (k : ℕ) (sol : ℕ → Bool) (x : ℕ) (s : List ℕ) where
   unfoldable pub insteadAfter : Try ℕ
   insteadAfter = isSolid k sol (plus k x s 1) >> notSolid k sol (plus k (plus k x s 1) s 2) >> sole k sol (plus k x s 1)
 
+-- The tried k-mer or a refusal, after the lookups made.
 pub record TrialIs (k : ℕ) (t : Try ℕ) (r : Trial) : Type 0 where
   pub tried : NextIs k (t .answer) (r .tried)
   pub lookups : t .lookups ≡ r .lookups
@@ -75,19 +78,22 @@ pub record TrialIs (k : ℕ) (t : Try ℕ) (r : Trial) : Type 0 where
 
 -- ---- what is given
 
--- Where n letters are the last of: a single one of x, more of the tried k-mer.
+-- The n letters that a scenario gives: a single one is the last of x, more are the last of the tried k-mer t.
 abbrev pub lettersOf : ℕ → ℕ → ℕ → List ℕ
 lettersOf zero x t = []
 lettersOf (suc zero) x t = last 1 x
 lettersOf (suc (suc n)) x t = last (suc (suc n)) t
 
+-- A scenario gives n letters.
 pub record LettersAre (sc : Scenario) (x t n : ℕ) : Type 0 where
   pub are : lettersOf n x t ≡ sc .letters t
   pub few : n ≤ 3
 
+-- The mend by the rules.
 abbrev pub mendOf : Mend → rules.Mend
 mendOf m = record { letters = last (m .letters) (m .code); resume = m .resume }
 
+-- At most 3 letters, and a resume of at most 4.
 pub record Small (m : Mend) : Type 0 where
   pub letters-le : m .letters ≤ 3
   pub resume-le : m .resume ≤ 4
