@@ -3,24 +3,20 @@ use Prim.Native.Nat.{ℕ, zero, suc, _+_, _*_, _-_, _%_, _≤_}
 use native.Mathlib.Omega.{arith}
 use borrow.Author.Tests.{eqb-true}
 use mathlib.Core.Path.{_≡_, refl, sym, ap, _∙_}
-use mathlib.Core.Bool.{Bool, true, false, _&&_, false≢true}
+use mathlib.Core.Bool.{Bool, true, false, false≢true}
 use mathlib.Core.Option.{Option, none, some}
 use mathlib.Core.List.{List}
 use lib.Dec.{eqb}
 use Rattle.rules.specs.Refusal.{Refusal, Outcome, accepted, refused, Check, _orElse_, unless, atPlace, firstFailing}
 use Rattle.rules.specs.Set.{KmerSet, blocks, headerK, lengthRight, checkRight, headerRight, keyRight, setCheck, setOf, opened}
 
-pub and-true : (a b : Bool) → a && b ≡ true → (a ≡ true) × (b ≡ true)
-and-true true b h = (refl, h)
-and-true false b h = absurd (false≢true h)
-
 -- no check refused: neither the first nor the later ones
-pub passed : (a b : Check) → a orElse b ≡ none → (a ≡ none) × (b ≡ none)
+passed : (a b : Check) → a orElse b ≡ none → (a ≡ none) × (b ≡ none)
 unfolding _orElse_
 passed none b h = (refl, h)
 passed (some r) b h = absurd (let z : _≡_ {A = ℕ} 0 1 = cc in omega arith)
 
-pub unless-passed : (t : Bool) (r : ℕ) → unless t r ≡ none → t ≡ true
+unless-passed : (t : Bool) (r : ℕ) → unless t r ≡ none → t ≡ true
 unfolding unless
 unless-passed true r h = refl
 unless-passed false r h = absurd (let z : _≡_ {A = ℕ} 0 1 = cc in omega arith)

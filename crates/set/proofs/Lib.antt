@@ -1,4 +1,4 @@
 pub mod Opened
 pub mod Narrowing
 pub mod Table
-pub mod Standin
+pub mod Ends

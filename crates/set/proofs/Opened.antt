@@ -1,47 +1,25 @@
--- What `setCheck bytes ≡ none` says of a set's bytes: lengths, k, n, and the n keys.
+-- What `setCheck bytes ≡ none` says of the bytes: k, n, the count of blocks, and the n keys.
 use Prim.Native.Nat.{ℕ, zero, suc, _+_, _*_, _-_, _/_, _%_, _^_, _≤_, _<_}
 use native.Mathlib.Omega.{arith}
-use mathlib.Core.Path.{_≡_, refl, sym, ap, _∙_}
-use mathlib.Core.Bool.{Bool, true, false, _&&_, _||_, false≢true}
+use mathlib.Core.Path.{_≡_, refl, sym, ap}
+use mathlib.Core.Bool.{Bool, true, false, _||_}
 use mathlib.Core.Option.{Option, none, some}
 use mathlib.Core.Logic.{_⊎_, inl, inr}
 use mathlib.Core.List.{List}
 use native.Mathlib.Nat.{not-suc-le-zero, eq-or-lt-of-le}
 use borrow.Author.Tests.{ltb-true, leb-true, eqb-true, lt-ltb, ne-eqb}
-use lib.Dec.{eqb, ltb, leb}
+use lib.Dec.{eqb, ltb}
 use lib.ListN.{length}
 use Rattle.rules.specs.Letters.{canonical}
-use Rattle.rules.specs.Refusal.{Check, _orElse_, unless, atPlace, firstFailing}
-use Rattle.rules.specs.Set.{maxK, maxKeys, blocks, blockWord, headerK, headerN, keyWord, keysFrom, setOf, lengthRight, checkRight, isNone, headerRight, keyRight, setCheck}
+use Rattle.blocks.proofs.Tests.{both}
+use Rattle.rules.proofs.Opened.{Checked, checked, opened-check}
+use Rattle.rules.specs.Refusal.{accepted, firstFailing}
+use Rattle.rules.specs.Set.{KmerSet, opened, maxK, maxKeys, blocks, headerK, headerN, keyWord, keysFrom, setOf, headerRight, keyRight, setCheck}
 
 -- ---- checks that let pass
 
 none≢some : {A : Type 0} {x : A} {B : Type 0} → none ≡ some x → B
 none≢some e = let z : _≡_ {A = ℕ} 0 1 = cc in absurd (omega arith)
-
-both-pass : (a b : Check) → a orElse b ≡ none → (a ≡ none) × (b ≡ none)
-unfolding _orElse_
-both-pass none b e = (refl, e)
-both-pass (some r) b e = none≢some (sym e)
-
-passed : (t : Bool) (r : ℕ) → unless t r ≡ none → t ≡ true
-unfolding unless
-passed true r e = refl
-passed false r e = none≢some (sym e)
-
-nowhere : (r : ℕ) (p : Option ℕ) → atPlace r p ≡ none → p ≡ none
-unfolding atPlace
-nowhere r none e = refl
-nowhere r (some p) e = none≢some (sym e)
-
-found-none : (p : Option ℕ) → isNone p ≡ true → p ≡ none
-unfolding isNone
-found-none none e = refl
-found-none (some i) e = absurd (false≢true e)
-
-both-true : (a b : Bool) → (a && b) ≡ true → (a ≡ true) × (b ≡ true)
-both-true true b e = (refl, e)
-both-true false b e = absurd (false≢true e)
 
 -- None of the m tests from i on fails.
 none-fails : (ok : ℕ → Bool) (i m : ℕ) → firstFailing ok i m ≡ none → (j : ℕ) → i ≤ j → j < i + m → ok j ≡ true
@@ -59,31 +37,29 @@ none-fails ok i (suc m) e j l h = go (ok i) refl (λ n g. none-fails ok (suc i) 
 
 -- ---- an opened set
 
-module _ (bytes : List ℕ) (opens : setCheck bytes ≡ none) where
-  -- The four checks, in their order.
-  checks : (lengthRight bytes ≡ true)
-      × (firstFailing (checkRight bytes) 0 (blocks bytes) ≡ none)
-      × (headerRight bytes ≡ true)
-      × (firstFailing (keyRight bytes) 0 (63 * (blocks bytes - 1)) ≡ none)
-  unfolding setCheck
-  checks =
-      let a = both-pass _ _ opens in
-      let b = both-pass _ _ (a .1) in
-      let c = both-pass _ _ (b .1) in
-      (passed _ 7 (a .0), nowhere 8 _ (b .0), passed _ 9 (c .0), nowhere 10 _ (c .1))
+-- What opening accepts has passed the checks.
+pub accepted-opens : (bytes : List ℕ) {s : KmerSet} → opened bytes ≡ accepted s → setCheck bytes ≡ none
+accepted-opens bytes {s} e = opened-check bytes s e
 
+keys-length : (bytes : List ℕ) (i m : ℕ) → length (keysFrom bytes i m) ≡ m
+unfolding keysFrom
+keys-length bytes i zero = refl
+keys-length bytes i (suc m) = ap suc (keys-length bytes (suc i) m)
+
+-- A set has n keys.
+pub set-count : (bytes : List ℕ) → length (setOf bytes .keys) ≡ headerN bytes
+unfolding setOf
+set-count bytes = keys-length bytes 0 (headerN bytes)
+
+module _ (bytes : List ℕ) (opens : setCheck bytes ≡ none) where
   header : (headerK bytes % 2 ≡ 1) × (headerK bytes ≤ maxK) × (headerN bytes ≤ maxKeys) × (blocks bytes ≡ 1 + (headerN bytes + 62) / 63)
   unfolding headerRight
   header =
-      let e = both-true _ _ (checks .2) in
-      let d = both-true _ _ (e .0) in
-      let c = both-true _ _ (d .0) in
-      let b = both-true _ _ (c .0) in
+      let e = both _ _ (checked bytes opens .header-right) in
+      let d = both _ _ (e .0) in
+      let c = both _ _ (d .0) in
+      let b = both _ _ (c .0) in
       (eqb-true _ _ (b .0), leb-true _ _ (b .1), leb-true _ _ (c .1), eqb-true _ _ (e .1))
-
-  pub opened-length : length bytes ≡ 512 * blocks bytes
-  unfolding lengthRight blocks
-  opened-length = let z : length bytes % 512 ≡ 0 = eqb-true _ _ (both-true (ltb 0 (length bytes)) _ (checks .0) .1) in omega arith
 
   pub opened-k-odd : headerK bytes % 2 ≡ 1
   opened-k-odd = header .0
@@ -110,9 +86,9 @@ module _ (bytes : List ℕ) (opens : setCheck bytes ≡ none) where
         × ((eqb i 0 || ltb (keyWord bytes (i - 1)) (keyWord bytes i)) ≡ true)
     unfolding keyRight
     key =
-        let right = none-fails (keyRight bytes) 0 _ (checks .3) i (omega arith) (omega (arith, opened-room)) in
-        let c = both-true _ _ (rw (lt-ltb _ _ below, keyRight) at right) in
-        let b = both-true _ _ (c .0) in
+        let right = none-fails (keyRight bytes) 0 _ (checked bytes opens .keys-right) i (omega arith) (omega (arith, opened-room)) in
+        let c = both _ _ (rw (lt-ltb _ _ below, keyRight) at right) in
+        let b = both _ _ (c .0) in
         (b .0, b .1, c .1)
 
     pub opened-key-canonical : canonical (headerK bytes) (keyWord bytes i) ≡ keyWord bytes i

@@ -1,0 +1,78 @@
+-- Laws of opening: the checks in their order.
+use Prim.Native.Nat.{ℕ, _*_, _-_, _%_, _<_}
+use native.Mathlib.Nat.{sub-zero}
+use native.Mathlib.Omega.{arith}
+use mathlib.Core.Path.{_≡_, refl, _∙_}
+use mathlib.Core.Bool.{true, false, and-false}
+use mathlib.Core.Option.{none, some}
+use mathlib.Core.Logic.{inl, inr}
+use mathlib.Core.List.{List, [], _∷_}
+use types.Run.{OneOf}
+use lib.Dec.{ltb}
+use lib.ListN.{length}
+use borrow.Author.Tests.{lt-ltb, eq-eqb, ne-eqb}
+use Rattle.rules.specs.Refusal.{Refusal, accepted, refused}
+use Rattle.rules.specs.Set.{headerRight, lengthRight, blocks, setCheck, setOf, opened}
+use Rattle.blocks.specs.declared.Opened.{Opened}
+use Rattle.blocks.specs.declared.Opened.the-variants.{Set, Length, Check, Header, Key}
+use Rattle.blocks.specs.Opened.{Checked, Opens, wrongCheck, wrongKey}
+
+-- the tags of the refusals: a set's is 0
+pub not-set : OneOf (1 ∷ 2 ∷ 3 ∷ 4 ∷ []) 0 → ⊥
+not-set (inl e) = omega arith
+not-set (inr (inl e)) = omega arith
+not-set (inr (inr (inl e))) = omega arith
+not-set (inr (inr (inr e))) = omega arith
+
+module _ (bytes : List ℕ) where
+  pub accepted-by : setCheck bytes ≡ none → opened bytes ≡ accepted (setOf bytes)
+  unfolding opened
+  accepted-by e = rw (e, opened)
+
+  pub refused-by : (r : Refusal) → setCheck bytes ≡ some r → opened bytes ≡ refused r
+  unfolding opened
+  refused-by r e = rw (e, opened)
+
+  pub length-right : 0 < length bytes → length bytes % 512 ≡ 0 → lengthRight bytes ≡ true
+  unfolding lengthRight
+  length-right l e = rw (lt-ltb 0 (length bytes) l, eq-eqb (length bytes % 512) 0 e)
+
+  pub length-zero : length bytes ≡ 0 → lengthRight bytes ≡ false
+  unfolding lengthRight
+  length-zero e = rw e
+
+  pub length-odd : (length bytes % 512 ≡ 0 → ⊥) → lengthRight bytes ≡ false
+  unfolding lengthRight
+  length-odd f = rw (ne-eqb (length bytes % 512) 0 f) (and-false (ltb 0 (length bytes)))
+
+  pub at-7 : lengthRight bytes ≡ false → setCheck bytes ≡ some (record { number = 7; place = 0 })
+  unfolding setCheck
+  at-7 e = rw e
+
+  pub at-8 : lengthRight bytes ≡ true → (r : Refusal) → wrongCheck bytes ≡ some r → setCheck bytes ≡ some r
+  unfolding setCheck
+  at-8 e r e′ = rw (e, e′)
+
+  pub at-9 : lengthRight bytes ≡ true → wrongCheck bytes ≡ none → headerRight bytes ≡ false → setCheck bytes ≡ some (record { number = 9; place = 0 })
+  unfolding setCheck
+  at-9 e e′ e″ = rw (e, e′, e″)
+
+  pub at-10 : lengthRight bytes ≡ true → wrongCheck bytes ≡ none → headerRight bytes ≡ true → setCheck bytes ≡ wrongKey bytes 0
+  unfolding setCheck
+  at-10 e e′ e″ = rw (e, e′, e″, sub-zero (63 * (blocks bytes - 1)))
+
+  -- check 8's answer, if it is none of a set
+  pub refuses : (o : Opened) → lengthRight bytes ≡ true → ((k n : ℕ) → o ≡ Set k n → ⊥) → Checked bytes (wrongCheck bytes) o → Opens bytes o
+  refuses (Set k n) e f t = absurd (f k n refl)
+  refuses Length e f t = refused-by _ (at-8 e _ t)
+  refuses (Check b) e f t = refused-by _ (at-8 e _ t)
+  refuses Header e f t = refused-by _ (at-8 e _ t)
+  refuses (Key i) e f t = refused-by _ (at-8 e _ t)
+
+  -- the last check's answer
+  pub opens : (o : Opened) → setCheck bytes ≡ wrongKey bytes 0 → Checked bytes (wrongKey bytes 0) o → Opens bytes o
+  opens (Set k n) e t = (accepted-by (e ∙ t .0), t .1, t .2)
+  opens Length e t = refused-by _ (e ∙ t)
+  opens (Check b) e t = refused-by _ (e ∙ t)
+  opens Header e t = refused-by _ (e ∙ t)
+  opens (Key i) e t = refused-by _ (e ∙ t)

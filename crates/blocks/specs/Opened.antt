@@ -1,0 +1,34 @@
+-- What opening answers, in document 01's terms.
+use Prim.Native.Nat.{ℕ, _*_, _-_}
+use mathlib.Core.Path.{_≡_}
+use mathlib.Core.Option.{none, some}
+use mathlib.Core.List.{List}
+use Rattle.rules.specs.Refusal.{Refusal, accepted, refused, atPlace, firstFailing}
+use Rattle.rules.specs.Refusal as Refusals
+use Rattle.rules.specs.Set.{blocks, headerK, headerN, checkRight, keyRight, setOf, opened}
+use Rattle.blocks.specs.declared.Opened.{Opened}
+use Rattle.blocks.specs.declared.Opened.the-variants.{Set, Length, Check, Header, Key}
+
+-- What an answer tells: of a set, `as-set` and the header's k and n; of a refusal, what `as-refusal` says of document 01's number and place.
+abbrev pub Told : List ℕ → Type 0 → (Refusal → Type 0) → Opened → Type 0
+Told bytes as-set as-refusal (Set k n) = as-set × (k ≡ headerK bytes) × (n ≡ headerN bytes)
+Told bytes as-set as-refusal Length = as-refusal (record { number = 7; place = 0 })
+Told bytes as-set as-refusal (Check block) = as-refusal (record { number = 8; place = block })
+Told bytes as-set as-refusal Header = as-refusal (record { number = 9; place = 0 })
+Told bytes as-set as-refusal (Key i) = as-refusal (record { number = 10; place = i })
+
+-- Check 8.
+abbrev pub wrongCheck : List ℕ → Refusals.Check
+wrongCheck bytes = atPlace 8 (firstFailing (checkRight bytes) 0 (blocks bytes))
+
+-- Check 10 from word i of the key blocks on.
+abbrev pub wrongKey : List ℕ → ℕ → Refusals.Check
+wrongKey bytes i = atPlace 10 (firstFailing (keyRight bytes) i (63 * (blocks bytes - 1) - i))
+
+-- A check of opening lets pass, or refuses.
+abbrev pub Checked : List ℕ → Refusals.Check → Opened → Type 0
+Checked bytes check = Told bytes (check ≡ none) (λ r. check ≡ some r)
+
+-- Opening: the set that the bytes say, or the refusal.
+abbrev pub Opens : List ℕ → Opened → Type 0
+Opens bytes = Told bytes (opened bytes ≡ accepted (setOf bytes)) (λ r. opened bytes ≡ refused r)

@@ -1,0 +1,168 @@
+// Document 01, "Set": blocks of little-endian words with check words, and opening a set, with refusals 7 to 10.
+ghost use mathlib.Core.Path.{_≡_};
+ghost use mathlib.Core.Bool.{true};
+ghost use lib.Dec.{eqb};
+ghost use Prim.Native.Nat.{_+_, _*_, _-_, _%_, _<_, _≤_};
+ghost use lib.ListN.{length, drop};
+ghost use Rattle.rules.specs.Set as Rules;
+ghost use Rattle.rules.specs.Refusal.{firstFailing};
+ghost use Rattle.rules.specs.Letters;
+ghost use Rattle.blocks.specs.Keys.{rightFrom};
+ghost use Rattle.blocks.specs.Flat.{flat};
+ghost use Rattle.blocks.specs.Opened.{Checked, Opens, wrongCheck, wrongKey};
+
+// A set's k and n, or why it is refused: its length, the check of a block, its header, or a word of the key blocks.
+pub enum Opened {
+    Set(usize, usize),
+    Length,
+    Check(usize),
+    Header,
+    Key(usize),
+}
+
+fn wide(x: u8) -> u64
+    ensures { λ r. ⌜ (r ≡ x) × (r < 256) ⌝ }
+{
+    x as u64
+}
+
+// Written flat, this compiles to one load.
+fn flat_word(set: &[u8], at: usize) -> u64
+    requires { ⌜ at + 8 ≤ length (now set) ⌝ }
+    ensures { λ r. ⌜ r ≡ flat (now (set .entry)) at ⌝ }
+{
+    wide(set[at])
+        + wide(set[at + 1]) * 256
+        + wide(set[at + 2]) * 65536
+        + wide(set[at + 3]) * 16777216
+        + wide(set[at + 4]) * 4294967296
+        + wide(set[at + 5]) * 1099511627776
+        + wide(set[at + 6]) * 281474976710656
+        + wide(set[at + 7]) * 72057594037927936
+}
+
+pub fn word_at(set: &[u8], at: usize) -> u64
+    requires { ⌜ at + 8 ≤ length (now set) ⌝ }
+    ensures { λ r. ⌜ r ≡ Rules.little 8 (drop at (now (set .entry))) ⌝ }
+{
+    flat_word(set, at)
+}
+
+fn block_word(set: &[u8], block: usize, i: usize) -> u64
+    requires { ⌜ (512 * (block + 1) ≤ length (now set)) × (i < 64) ⌝ }
+    ensures { λ r. ⌜ r ≡ Rules.blockWord (now (set .entry)) block i ⌝ }
+{
+    word_at(set, 512 * block + 8 * i)
+}
+
+pub fn check_word(set: &[u8], block: usize) -> u64
+    requires { ⌜ 512 * (block + 1) ≤ length (now set) ⌝ }
+    ensures { λ r. ⌜ r ≡ Rules.check (now (set .entry)) block ⌝ }
+{
+    let mut sum: u64 = 0;
+    for i in 0..63usize {
+        sum = std::num::wrapping_add_u64(sum, block_word(set, block, i));
+    }
+    std::num::wrapping_add_u64(std::num::wrapping_add_u64(sum, block as u64), 1)
+}
+
+pub fn key_at(set: &[u8], i: usize) -> u64
+    requires { ⌜ i < 63 * (Rules.blocks (now set) - 1) ⌝ }
+    ensures { λ r. ⌜ r ≡ Rules.keyWord (now (set .entry)) i ⌝ }
+{
+    block_word(set, 1 + i / 63, i % 63)
+}
+
+// Refusal 8, or what the header says.
+fn check_blocks(set: &[u8]) -> Opened
+    requires { ⌜ 512 ≤ length (now set) ⌝ }
+    ensures { λ r. ⌜ Checked (now (set .entry)) (wrongCheck (now (set .entry))) r ⌝ }
+{
+    let blocks = set.len() / 512;
+    for block in 0..blocks {
+        if block_word(set, block, 63) != check_word(set, block) {
+            return Opened::Check(block);
+        }
+    }
+    Opened::Set(
+        block_word(set, 0, 0) as usize,
+        block_word(set, 0, 1) as usize,
+    )
+}
+
+// The words of block 0 behind k and n.
+fn rest_zero(set: &[u8]) -> bool
+    requires { ⌜ 512 ≤ length (now set) ⌝ }
+    ensures { λ r. ⌜ r ≡ Rules.isNone (firstFailing (λ i. eqb (Rules.blockWord (now (set .entry)) 0 i) 0) 2 61) ⌝ }
+{
+    for i in 2..63usize {
+        if block_word(set, 0, i) != 0 {
+            return false;
+        }
+    }
+    true
+}
+
+// Refusal 9, unless it holds.
+fn header_right(set: &[u8], k: usize, n: usize) -> bool
+    requires { ⌜ (512 ≤ length (now set)) × (k ≡ Rules.headerK (now set)) × (n ≡ Rules.headerN (now set)) ⌝ }
+    ensures { λ r. ⌜ r ≡ Rules.headerRight (now (set .entry)) ⌝ }
+{
+    k % 2 == 1 && k <= 31 && n <= 16777216 && set.len() / 512 == 1 + (n + 62) / 63 && rest_zero(set)
+}
+
+// For odd k a code below 4^k is canonical exactly when its count of one bits is even.
+fn key_right(key: u64, least: u64, k: usize, mask: u64) -> bool
+    requires { ⌜ (k % 2 ≡ 1) × (mask ≡ Letters.mask k) ⌝ }
+    ensures { λ r. ⌜ r ≡ rightFrom k least key ⌝ }
+{
+    key <= mask && least <= key && kmer::parity_even(key)
+}
+
+// Refusal 10 for the words behind the keys.
+fn check_spare(set: &[u8], k: usize, n: usize) -> Opened
+    requires { ⌜ (512 ≤ length (now set)) × (n ≤ 63 * (Rules.blocks (now set) - 1)) × (k ≡ Rules.headerK (now set)) × (n ≡ Rules.headerN (now set)) ⌝ }
+    ensures { λ r. ⌜ Checked (now (set .entry)) (wrongKey (now (set .entry)) n) r ⌝ }
+{
+    let words = 63 * (set.len() / 512 - 1);
+    for word in n..words {
+        if key_at(set, word) != 0 {
+            return Opened::Key(word);
+        }
+    }
+    Opened::Set(k, n)
+}
+
+// Refusal 10.
+fn check_keys(set: &[u8], k: usize, n: usize) -> Opened
+    requires { ⌜ (Rules.headerRight (now set) ≡ true) × (k ≡ Rules.headerK (now set)) × (n ≡ Rules.headerN (now set)) ⌝ }
+    ensures { λ r. ⌜ Checked (now (set .entry)) (wrongKey (now (set .entry)) 0) r ⌝ }
+{
+    let mask = kmer::mask(k);
+    // The least that the next key may be.
+    let mut least: u64 = 0;
+    for i in 0..n {
+        let key = key_at(set, i);
+        if !key_right(key, least, k, mask) {
+            return Opened::Key(i);
+        }
+        least = key + 1;
+    }
+    check_spare(set, k, n)
+}
+
+pub fn open(set: &[u8]) -> Opened
+    ensures { λ r. ⌜ Opens (now (set .entry)) r ⌝ }
+{
+    if set.len() == 0 || set.len() % 512 != 0 {
+        return Opened::Length;
+    }
+    let checked = check_blocks(set);
+    let Opened::Set(k, n) = checked else {
+        return checked;
+    };
+    if !header_right(set, k, n) {
+        return Opened::Header;
+    }
+    check_keys(set, k, n)
+}

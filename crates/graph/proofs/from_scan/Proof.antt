@@ -1,0 +1,65 @@
+use mathlib.Core.Path.{_≡_, refl, subst}
+use mathlib.Core.Option.{some}
+use borrow.Author.Needs.{needs}
+use Rattle.rules.specs.Set.{solid, setOf}
+use Rattle.rules.specs.Scan.{alternative}
+use Rattle.kmer.specs.Kmer.{IsKmer}
+use Rattle.scan.specs.Scan.{NextIs, scanOf}
+use Rattle.graph.proofs.Laws.{no-alternative, from-alternative}
+use Rattle.graph.proofs.from_scan.Statement.{statement}
+use Rattle.graph.proofs.from_scan.Tie as tie
+
+-- x
+told : (c : tie.After-x)
+    → let b = c .before .before .before .before .before .before in
+    (alternative (b .args .head .k) (solid (setOf (b .args .set .now))) (b .args .kmer .code) .answer ≡ some (c .x .given .0 .0 .code))
+    × IsKmer (b .args .head .k) (c .x .given .0 .0)
+told c = subst (NextIs _ _) (c .x .given .1) (c .before .before .sole-alt .ensures)
+
+sole-alt-requires : tie.Need-sole-alt-requires
+sole-alt-requires c κs = search needs
+
+enum-known-x : tie.Need-enum-known-x
+enum-known-x c = search needs
+
+enum-told : tie.Need-enum-told
+enum-told c = search needs
+
+add-t9 : tie.Need-add-t9
+add-t9 c = search needs
+
+returns : tie.Need-returns
+returns c =
+    let b = c .before .before .before .before .before .before .before in
+    record {
+      is = no-alternative _ _ _ (scanOf (b .args .scan)) _
+          (subst (NextIs _ _) (c .before .enum-told .given .1) (c .before .before .before .sole-alt .ensures));
+      room = refl;
+    }
+
+walk-requires : tie.Need-walk-requires
+walk-requires c κs =
+    let b = c .before .before .before .before .before .before .before .before in
+    (b .pre .0, told (c .before .before) .1, b .pre .2, b .pre .3)
+
+same-length : tie.Need-same-length
+same-length c = search needs
+
+returns-2 : tie.Need-returns-2
+returns-2 c =
+    let x = c .before .before .before .before .before in
+    let b = x .before .before .before .before .before .before in
+    rw (from-alternative _ _ _ (scanOf (b .args .scan)) _ _ (told x .0)) (c .before .before .walk .ensures)
+
+pub from-scan-spec : {M : Type 1} → statement M
+from-scan-spec =
+    tie.close
+    (tie.spec
+    sole-alt-requires
+    enum-known-x
+    enum-told
+    add-t9
+    returns
+    walk-requires
+    same-length
+    returns-2)

@@ -1,0 +1,297 @@
+use Prim.Native.Nat.{ℕ, _+_, _-_, _*_, _≤_}
+use native.Mathlib.Omega.{arith}
+use mathlib.Core.Path.{_≡_, refl, sym, _∙_, subst}
+use mathlib.Core.Bool.{Bool, true}
+use mathlib.Core.Option.{some}
+use mathlib.Core.Logic.{⊎-elim}
+use lib.ListN.{length}
+use borrow.Author.Needs.{needs}
+use borrow.Author.Tests.{not-true, not-false}
+use Rattle.rules.specs.Set.{maxKeys, solid, setOf}
+use Rattle.rules.specs.Scan.{sole}
+use Rattle.kmer.specs.declared.Kmer.{Kmer}
+use Rattle.kmer.specs.Kmer.{IsKmer}
+use Rattle.set.proofs.Opened.{opened-n-le}
+use Rattle.scan.specs.Scan.{NextIs, scanOf}
+use Rattle.graph.proofs.Laws.{Arrived, Going, going-start, walk-dark, walk-dead, walk-arrives, walk-meets, walk-marks, walk-goes, walk-stays, walk-over, walk-refused, walk-mends, walk-full}
+use Rattle.graph.proofs.walk.Statement.{statement}
+use Rattle.graph.proofs.walk.Tie as tie
+
+abbrev Inv-loop : tie.InvT-loop
+Inv-loop set starts head scan out₀ end lookups₀ at₀ mark₀ marks-at₀ fuel moves₀ out lookups at mark marks-at moves =
+    (moves ≤ fuel)
+    × (fuel ≤ 100663296)
+    × (marks-at ≤ 2 * moves + 1)
+    × (lookups ≡ lookups₀ + 5 * moves)
+    × (length out ≡ length out₀)
+    × IsKmer (head .k) at
+    × Going (head .k) (head .n) (solid (setOf set)) end (at₀ .code) (at .code) mark moves marks-at out
+
+abbrev μ-loop : tie.MeasureT-loop
+μ-loop set starts head scan out₀ end lookups₀ at₀ mark₀ marks-at₀ fuel moves₀ out lookups at mark marks-at moves = fuel - moves
+
+-- the function's entry, from the loop's head
+abbrev entry : tie.At-loop Inv-loop μ-loop → tie.Start Inv-loop μ-loop
+entry c = c .before .before .before .before .before .before .before .before .before .before .before .before
+
+abbrev sol : tie.At-loop Inv-loop μ-loop → ℕ → Bool
+sol c = solid (setOf (entry c .args .set .now))
+
+room : (c : tie.At-loop Inv-loop μ-loop) → length (c .loop .out) ≡ length (entry c .args .out .now)
+room c = c .loop .inv .4 ∙ c .before .before .before .before .write-last .kept .0
+
+-- the k-mer asked is solid
+lit : (c : tie.Else2 Inv-loop μ-loop) → let l = c .before .before .before in sol l (l .loop .at .code) ≡ true
+lit c = sym (c .before .get .ensures) ∙ not-false _ (c .if2 .left)
+
+-- the move: to the sole solid successor
+abbrev next : tie.After-next Inv-loop μ-loop → Kmer
+next c = c .next .given .0 .0
+
+abbrev turn : tie.After-next Inv-loop μ-loop → tie.At-loop Inv-loop μ-loop
+turn c = c .before .before .before .before .before .before
+
+told : (c : tie.After-next Inv-loop μ-loop)
+    → let b = entry (turn c) in
+    (sole (b .args .head .k) (sol (turn c)) (turn c .loop .at .code) .answer ≡ some (next c .code)) × IsKmer (b .args .head .k) (next c)
+told c = subst (NextIs _ _) (c .next .given .1) (c .before .before .sole-next .ensures)
+
+-- its letter written
+abbrev move : tie.After-write-last2 Inv-loop μ-loop → tie.After-next Inv-loop μ-loop
+move c = c .before .before .before
+
+room-after : (c : tie.After-write-last2 Inv-loop μ-loop) → length (c .write-last2 .last .0) ≡ length (entry (turn (move c)) .args .out .now)
+room-after c = c .write-last2 .kept .0 ∙ room (turn (move c))
+
+came : (c : tie.Then3 Inv-loop μ-loop)
+    → let l = turn (c .before .before .before .before .before .before) in
+    let b = entry l in
+    Arrived (b .args .head .k) (b .args .head .n) (sol l) (b .args .scan .end) (b .args .x .code) (5 * l .loop .moves + 5) (l .loop .moves + 2)
+    (c .before .before .before .write-last2 .last .0)
+came c =
+    let m = c .before .before .before .before .before .before in
+    rw (c .before .before .before .write-last2 .ensures)
+    (walk-arrives (turn m .loop .inv .6) (m .before .before .before .before .before .loop-test .taken) (lit (m .before .before .before)) _ (told m .0) (c .if3 .taken))
+
+-- n is bounded
+keys : (c : tie.Start Inv-loop μ-loop) → c .args .head .n ≤ maxKeys
+keys c = rw (c .pre .0 .n-is) (opened-n-le _ (c .pre .0 .opens))
+
+add-lookups : tie.Need-add-lookups Inv-loop μ-loop
+add-lookups c = omega (arith, c .before .before .before .before .pre)
+
+returns : tie.Need-returns Inv-loop μ-loop
+returns c =
+    let b = c .before .before .before .before .before .before in
+    record { is = walk-refused _ _ _ (scanOf (b .args .scan)) _ _ 0 _ (walk-stays _ _ _ _ _ (c .if1 .taken)) (omega arith); room = refl }
+
+write-last-requires : tie.Need-write-last-requires Inv-loop μ-loop
+write-last-requires c κs = search needs
+
+mul-fuel : tie.Need-mul-fuel Inv-loop μ-loop
+mul-fuel c = omega (arith, keys (c .before .before .before .before .before .before .before .before .before .before .before))
+
+loop-holds : tie.Need-loop-holds Inv-loop μ-loop
+loop-holds c =
+    let b = c .before .before .before .before .before .before .before .before .before .before .before in (
+      omega arith,
+      omega (arith, keys b),
+      omega arith,
+      omega arith,
+      refl,
+      b .pre .1,
+      rw (c .before .before .before .write-last .ensures) (going-start _ _ _ _ _ (b .args .out .now) (c .before .before .before .before .before .if1 .left)),
+    )
+
+add-lookups-2 : tie.Need-add-lookups-2 Inv-loop μ-loop
+add-lookups-2 c = omega (arith, c .before .loop .inv, entry (c .before) .pre)
+
+get-requires : tie.Need-get-requires Inv-loop μ-loop
+get-requires c κs = (entry (c .before) .pre .0, c .before .loop .inv .5)
+
+same-length : tie.Need-same-length Inv-loop μ-loop
+same-length c = room (c .before .before .before)
+
+returns-2 : tie.Need-returns-2 Inv-loop μ-loop
+returns-2 c =
+    let l = c .before .before .before in
+    record {
+      is = walk-refused _ _ _ (scanOf (entry l .args .scan)) _ _ _ _
+          (walk-dark (l .loop .inv .6) (c .before .before .loop-test .taken) (sym (c .before .get .ensures) ∙ not-true _ (c .if2 .taken)))
+          (omega (arith, l .loop .inv .3));
+      room = room l;
+    }
+
+add-lookups-3 : tie.Need-add-lookups-3 Inv-loop μ-loop
+add-lookups-3 c = omega (arith, c .before .before .before .loop .inv, entry (c .before .before .before) .pre)
+
+sole-next-requires : tie.Need-sole-next-requires Inv-loop μ-loop
+sole-next-requires c κs = let l = c .before .before .before in (entry l .pre .0, l .loop .inv .5)
+
+enum-known-next : tie.Need-enum-known-next Inv-loop μ-loop
+enum-known-next c = search needs
+
+enum-told : tie.Need-enum-told Inv-loop μ-loop
+enum-told c = search needs
+
+same-length-2 : tie.Need-same-length-2 Inv-loop μ-loop
+same-length-2 c = room (c .before .before .before .before .before .before)
+
+returns-3 : tie.Need-returns-3 Inv-loop μ-loop
+returns-3 c =
+    let l = c .before .before .before .before .before .before in
+    record {
+      is = walk-refused _ _ _ (scanOf (entry l .args .scan)) _ _ _ _
+          (walk-dead (l .loop .inv .6) (c .before .before .before .before .before .loop-test .taken) (lit (c .before .before .before))
+          (subst (NextIs _ _) (c .enum-told .given .1) (c .before .before .sole-next .ensures)))
+          (omega (arith, l .loop .inv .3));
+      room = room l;
+    }
+
+add-write-last : tie.Need-add-write-last Inv-loop μ-loop
+add-write-last c = omega (arith, c .before .before .before .before .before .before .before .before .loop .inv)
+
+write-last-requires-2 : tie.Need-write-last-requires-2 Inv-loop μ-loop
+write-last-requires-2 c κs = search needs
+
+add-if4 : tie.Need-add-if4 Inv-loop μ-loop
+add-if4 c = omega (arith, c .before .before .before .before .before .before .before .before .before .before .before .before .loop .inv)
+
+add-t30 : tie.Need-add-t30 Inv-loop μ-loop
+add-t30 c = omega (arith, c .before .before .before .before .before .before .before .before .before .before .before .before .before .loop .inv)
+
+add-t31 : tie.Need-add-t31 Inv-loop μ-loop
+add-t31 c = omega (arith, entry (c .before .before .before .before .before .before .before .before .before .before .before .before .before .before) .pre .2)
+
+same-length-3 : tie.Need-same-length-3 Inv-loop μ-loop
+same-length-3 c = room-after (c .before .before .before .before .before)
+
+returns-4 : tie.Need-returns-4 Inv-loop μ-loop
+returns-4 c =
+    let w = c .before .before .before .before .before in
+    let l = turn (move w) in
+    record {
+      is = walk-mends _ _ _ (scanOf (entry l .args .scan)) _ _ (came (c .before .before)) _ (omega (arith, l .loop .inv .3)) (c .before .if4 .taken);
+      room = room-after w;
+    }
+
+same-length-4 : tie.Need-same-length-4 Inv-loop μ-loop
+same-length-4 c = room-after (c .before .before .before .before)
+
+returns-5 : tie.Need-returns-5 Inv-loop μ-loop
+returns-5 c =
+    let w = c .before .before .before .before in
+    let r = room-after w in
+    record {
+      is = walk-full _ _ _ (scanOf (entry (turn (move w)) .args .scan)) _ _ (came (c .before)) _ (omega (arith, c .if4 .left));
+      room = r;
+    }
+
+same-length-5 : tie.Need-same-length-5 Inv-loop μ-loop
+same-length-5 c = room-after (c .before .before .before .before)
+
+returns-6 : tie.Need-returns-6 Inv-loop μ-loop
+returns-6 c =
+    let w = c .before .before .before .before in
+    let m = move w in
+    let l = turn m in
+    record {
+      is = walk-refused _ _ _ (scanOf (entry l .args .scan)) _ _ _ _
+          (walk-meets (l .loop .inv .6) (m .before .before .before .before .before .loop-test .taken) (lit (m .before .before .before)) _ (told m .0) (c .before .if3 .left) (c .if5 .taken))
+          (omega (arith, l .loop .inv .3));
+      room = room-after w;
+    }
+
+add-if6 : tie.Need-add-if6 Inv-loop μ-loop
+add-if6 c = omega (arith, c .before .before .before .before .before .before .before .before .before .before .before .before .before .loop .inv)
+
+mul-marks-at : tie.Need-mul-marks-at Inv-loop μ-loop
+mul-marks-at c = omega (arith, c .before .before .before .before .before .before .before .before .before .before .before .before .before .before .loop .inv)
+
+add-moves : tie.Need-add-moves Inv-loop μ-loop
+add-moves c = omega (arith, c .before .before .before .before .before .before .before .before .before .before .before .before .before .before .loop .inv)
+
+loop-less : tie.Need-loop-less Inv-loop μ-loop
+loop-less c = omega (arith, c .before .before .before .before .before .before .before .before .before .before .before .before .before .loop-test .taken)
+
+loop-again : tie.Need-loop-again Inv-loop μ-loop
+loop-again c =
+    let w = c .before .before .before .before .before in
+    let m = move w in
+    let i = turn m .loop .inv in
+    let lt = m .before .before .before .before .before .loop-test .taken in
+    let same = w .write-last2 .kept .0 ∙ i .4 in
+    let solid-at = lit (m .before .before .before) in
+    let ne = c .before .before .if3 .left in
+    let new = c .before .if5 .left in
+    ⊎-elim
+    (λ v. (
+      omega arith,
+      i .1,
+      omega (arith, v .0 .taken, v .2, i .2),
+      omega (arith, i .3),
+      same,
+      told m .1,
+      rw (v .1, v .2, w .write-last2 .ensures) (walk-marks (i .6) lt solid-at _ (told m .0) ne new (v .0 .taken)),
+    ))
+    (λ v. (
+      omega arith,
+      i .1,
+      omega (arith, v .2, i .2),
+      omega (arith, i .3),
+      same,
+      told m .1,
+      rw (v .1, v .2, w .write-last2 .ensures) (walk-goes (i .6) lt solid-at _ (told m .0) ne new (v .0 .left)),
+    ))
+    (c .if6 .came)
+
+same-length-6 : tie.Need-same-length-6 Inv-loop μ-loop
+same-length-6 c = room (c .before)
+
+returns-7 : tie.Need-returns-7 Inv-loop μ-loop
+returns-7 c =
+    let l = c .before in
+    record {
+      is = walk-refused _ _ _ (scanOf (entry l .args .scan)) _ _ _ _ (walk-over (l .loop .inv .6) (c .loop-test .left)) (omega (arith, l .loop .inv .3));
+      room = room l;
+    }
+
+pub walk-spec : {M : Type 1} → statement M
+walk-spec =
+    tie.close
+    (tie.spec
+    Inv-loop
+    μ-loop
+    add-lookups
+    returns
+    write-last-requires
+    mul-fuel
+    loop-holds
+    add-lookups-2
+    get-requires
+    same-length
+    returns-2
+    add-lookups-3
+    sole-next-requires
+    enum-known-next
+    enum-told
+    same-length-2
+    returns-3
+    add-write-last
+    write-last-requires-2
+    add-if4
+    add-t30
+    add-t31
+    same-length-3
+    returns-4
+    same-length-4
+    returns-5
+    same-length-5
+    returns-6
+    add-if6
+    mul-marks-at
+    add-moves
+    loop-less
+    loop-again
+    same-length-6
+    returns-7)

@@ -1,0 +1,19 @@
+-- The walk by itself, and its letters in a lent output.
+use Prim.Native.Nat.{ℕ, suc}
+use mathlib.Core.Path.{_≡_}
+use mathlib.Core.Bool.{Bool}
+use mathlib.Core.List.{List}
+use lib.ListN.{length, take}
+use Rattle.rules.specs.Counted.{Try, give, _>>=_}
+use Rattle.rules.specs.Scan.{Scan}
+use Rattle.rules.specs.Exist.{Mend}
+use Rattle.rules.specs.Graph.{walkFrom}
+
+-- Graph from x on: letters are x's last and each move's; resume scan index + 1.
+unfoldable pub mendFrom : ℕ → ℕ → (ℕ → Bool) → Scan → ℕ → Try Mend
+unfolding walkFrom _>>=_ give
+mendFrom k n sol sc x = walkFrom k n sol (sc .end) x >>= (λ letters. give (record { letters = letters; resume = suc (sc .index) }))
+
+-- The letters stand at the start of out, as many of them as it has room for.
+abbrev pub Holds : List ℕ → List ℕ → Type 0
+Holds letters out = take (length out) letters ≡ take (length letters) out

@@ -1,0 +1,123 @@
+// Document 01, "Graph": ports src/correct/graph.rs. The mark takes the place of the source's hash set.
+use kmer::Header;
+use kmer::Kmer;
+use scan::Attempt;
+use scan::Next;
+use scan::Scan;
+ghost use mathlib.Core.Path.{_≡_};
+ghost use Prim.Native.Nat.{_+_, _^_, _≤_, _<_};
+ghost use lib.ListN.{length, set as put};
+ghost use Rattle.rules.specs.Letters.{lastLetter};
+ghost use Rattle.rules.specs.Set.{solid, setOf};
+ghost use Rattle.rules.specs.Counted.{after};
+ghost use Rattle.rules.specs.Scan.{errorLen};
+ghost use Rattle.rules.specs.Graph.{graphFrom, graph};
+ghost use Rattle.kmer.specs.Kmer.{IsKmer};
+ghost use Rattle.set.specs.Ready.{Ready};
+ghost use Rattle.scan.specs.Scan.{scanOf};
+ghost use Rattle.scan.specs.Attempt.{Attempted};
+ghost use Rattle.graph.specs.Walk.{mendFrom};
+
+// The last letter of a k-mer, written where there is room.
+fn write_last(out: &mut [u8], at: usize, kmer: Kmer)
+    ensures { λ r. ⌜ now (out .exit) ≡ put (now (out .entry)) at (lastLetter (kmer .code)) ⌝ }
+{
+    if at < out.len() {
+        out[at] = kmer::bit2nuc(kmer.code % 4);
+    }
+}
+
+// The walk from x to the last k-mer of the scan, after all lookups up to x. Letters beyond the room are only counted, since the walk may
+// yet be refused.
+fn walk(set: &[u8], starts: &[u32], head: Header, scan: Scan, x: Kmer, out: &mut [u8]) -> Attempt
+    requires { ⌜ Ready (now set) (now starts) head × IsKmer (head .k) x × (scan .index < 2 ^ 63) × (scan .lookups < 2 ^ 63) ⌝ }
+    ensures { λ r. ⌜
+        Attempted (scan .index) (now (out .entry)) (now (out .exit))
+        (after (scan .lookups + 4) (mendFrom (head .k) (head .n) (solid (setOf (now (set .entry)))) (scanOf scan) (x .code)))
+        r ⌝ }
+{
+    let end = scan.end;
+    let mut lookups = scan.lookups + 4;
+    if x.code == end {
+        return Attempt::Refused(lookups);
+    }
+    write_last(out, 0, x);
+    let mut at = x;
+    let mut mark = x.code;
+    let mut marks_at = 1;
+    // It never runs out (the rules' theorem walk-moves).
+    let fuel = 6 * head.n;
+    for moves in 0..fuel {
+        lookups += 1;
+        if !set::get(set, starts, head, at) {
+            return Attempt::Refused(lookups);
+        }
+        lookups += 4;
+        let Next::Kmer(next) = scan::sole_next(set, starts, head, at) else {
+            return Attempt::Refused(lookups);
+        };
+        write_last(out, moves + 1, next);
+        let code = next.code;
+        if code == end {
+            if moves + 2 <= out.len() {
+                return Attempt::Mend(moves + 2, scan.index + 1, lookups);
+            }
+            return Attempt::Full;
+        }
+        if code == mark {
+            return Attempt::Refused(lookups);
+        }
+        if moves + 1 == marks_at {
+            mark = code;
+            marks_at = 2 * marks_at;
+        }
+        at = next;
+    }
+    Attempt::Refused(lookups)
+}
+
+// Graph from a scan already made.
+pub fn from_scan(
+    set: &[u8],
+    starts: &[u32],
+    head: Header,
+    scan: Scan,
+    kmer: Kmer,
+    out: &mut [u8],
+) -> Attempt
+    requires { ⌜ Ready (now set) (now starts) head × IsKmer (head .k) kmer × (scan .index < 2 ^ 63) × (scan .lookups < 2 ^ 63) ⌝ }
+    ensures { λ r. ⌜
+        Attempted (scan .index) (now (out .entry)) (now (out .exit))
+        (after (scan .lookups) (graphFrom (head .k) (head .n) (solid (setOf (now (set .entry)))) (scanOf scan) (kmer .code)))
+        r ⌝ }
+{
+    let Next::Kmer(x) = scan::sole_alt(set, starts, head, kmer) else {
+        return Attempt::Refused(scan.lookups + 4);
+    };
+    walk(set, starts, head, scan, x, out)
+}
+
+// kmer is the bad k-mer, s the rest of the read at its bad base.
+pub fn correct_error(
+    set: &[u8],
+    starts: &[u32],
+    head: Header,
+    kmer: Kmer,
+    s: &[u8],
+    out: &mut [u8],
+) -> Attempt
+    requires { ⌜ Ready (now set) (now starts) head × IsKmer (head .k) kmer × (1 ≤ length (now s)) ⌝ }
+    ensures { λ r. ⌜
+        Attempted (errorLen (head .k) (solid (setOf (now (set .entry)))) (kmer .code) (now (s .entry)) .index) (now (out .entry)) (now (out .exit))
+        (graph (head .k) (head .n) (solid (setOf (now (set .entry)))) (now (s .entry)) (kmer .code))
+        r ⌝ }
+{
+    from_scan(
+        set,
+        starts,
+        head,
+        scan::error_len(set, starts, head, kmer, s),
+        kmer,
+        out,
+    )
+}

@@ -1,0 +1,141 @@
+-- Laws of the sole successor and the scan in the code's terms.
+use Prim.Native.Nat.{ℕ, zero, suc, _+_, _*_, _/_, _≤_, _<_}
+use native.Mathlib.Omega.{arith}
+use native.Mathlib.Numerals.{add-one}
+use mathlib.Core.Path.{_≡_, refl, sym, ap, _∙_}
+use mathlib.Core.Bool.{Bool, true, false}
+use mathlib.Core.Option.{Option, none, some}
+use mathlib.Core.List.{List, [], _∷_}
+use lib.ListN.{length, drop, getD, drop-of-length-le}
+use lib.Seq.{drop-cons}
+use mir.Val.{boolByte as bit}
+use Rattle.rules.specs.Letters.{add, addBase, code}
+use Rattle.rules.specs.Counted.{Try, give, _>>=_, next, after, refuse}
+use Rattle.rules.specs.Scan.{only, yesFrom, Scan, successors, u, sole, alternative, scanFrom}
+use Rattle.scan.specs.declared.Sole.{Sole}
+use Rattle.scan.specs.declared.Sole.the-variants.{Nuc, Refused}
+use Rattle.scan.specs.Scan.{nucOf}
+use Rattle.rules.proofs.Scan.{only-yes}
+
+-- ---- the sole successor
+
+-- the sum, if the count is 1
+abbrev choice : ℕ → ℕ → Option ℕ
+choice zero n = none
+choice (suc zero) n = some n
+choice (suc (suc m)) n = none
+
+choose-four : (a c t g : Bool)
+    → choice (bit a + bit c + bit t + bit g) (bit c + 2 * bit t + 3 * bit g) ≡ only (yesFrom 0 (a ∷ c ∷ t ∷ g ∷ []))
+unfolding only yesFrom
+choose-four true true true true = refl
+choose-four true true true false = refl
+choose-four true true false true = refl
+choose-four true true false false = refl
+choose-four true false true true = refl
+choose-four true false true false = refl
+choose-four true false false true = refl
+choose-four true false false false = refl
+choose-four false true true true = refl
+choose-four false true true false = refl
+choose-four false true false true = refl
+choose-four false true false false = refl
+choose-four false false true true = refl
+choose-four false false true false = refl
+choose-four false false false true = refl
+choose-four false false false false = refl
+
+four : (l : List Bool) → length l ≡ 4 → getD l 0 false ∷ getD l 1 false ∷ getD l 2 false ∷ getD l 3 false ∷ [] ≡ l
+four [] e = absurd (omega arith)
+four (a ∷ []) e = absurd (omega arith)
+four (a ∷ c ∷ []) e = absurd (omega arith)
+four (a ∷ c ∷ t ∷ []) e = absurd (omega arith)
+four (a ∷ c ∷ t ∷ g ∷ []) e = refl
+four (a ∷ c ∷ t ∷ g ∷ b ∷ l) e = absurd (omega arith)
+
+module _ (l : List Bool) where
+  -- how many of four answers are yes, and the sum of their places
+  abbrev count : ℕ
+  count = bit (getD l 0 false) + bit (getD l 1 false) + bit (getD l 2 false) + bit (getD l 3 false)
+
+  abbrev sum : ℕ
+  sum = bit (getD l 1 false) + 2 * bit (getD l 2 false) + 3 * bit (getD l 3 false)
+
+  pub bit-le : (i : ℕ) → bit (getD l i false) ≤ 1
+  bit-le i = go (getD l i false)
+    where
+      go : (b : Bool) → bit b ≤ 1
+      go true = omega arith
+      go false = omega arith
+
+  chosen : length l ≡ 4 → choice count sum ≡ only (yesFrom 0 l)
+  chosen e = choose-four _ _ _ _ ∙ ap (λ (m : List Bool). only (yesFrom 0 m)) (four l e)
+
+  pub chosen-one : length l ≡ 4 → count ≡ 1 → some sum ≡ only (yesFrom 0 l)
+  chosen-one e h = sym (ap (λ (n : ℕ). choice n sum) h) ∙ chosen e
+
+  pub chosen-none : length l ≡ 4 → (count ≡ 1 → ⊥) → none ≡ only (yesFrom 0 l)
+  chosen-none e h = refused count h ∙ chosen e
+    where
+      refused : (n : ℕ) → (n ≡ 1 → ⊥) → none ≡ choice n sum
+      refused zero g = refl
+      refused (suc zero) g = absurd (g refl)
+      refused (suc (suc n)) g = refl
+
+module _ (k : ℕ) (sol : ℕ → Bool) (y : ℕ) where
+  abbrev soleBy : Option ℕ → Try ℕ
+  unfolding after next give refuse add
+  soleBy o = after 4 (next o (λ a. give (add k y a)))
+
+  sole-is : sole k sol y ≡ soleBy (only (yesFrom 0 (successors k sol y)))
+  unfolding sole u give _>>=_ next after refuse
+  sole-is = refl
+
+  pub alternative-is : alternative k sol y ≡ sole k sol (y / 4)
+  unfolding alternative
+  alternative-is = refl
+
+  pub sole-lookups : sole k sol y .lookups ≡ 4
+  unfolding soleBy next after refuse give
+  sole-lookups = ap (λ (t : Try ℕ). t .lookups) sole-is ∙ go (only (yesFrom 0 (successors k sol y)))
+    where
+      go : (o : Option ℕ) → soleBy o .lookups ≡ 4
+      go none = refl
+      go (some a) = refl
+
+  -- the code's choice r among the answers f
+  module _ {f : List Bool} (r : Sole) (found : f ≡ successors k sol y) (choice-is : nucOf r ≡ only (yesFrom 0 f)) where
+    by : only (yesFrom 0 (successors k sol y)) ≡ nucOf r
+    by = ap (λ (l : List Bool). only (yesFrom 0 l)) (sym found) ∙ sym choice-is
+
+    pub no-next : r ≡ Refused → sole k sol y .answer ≡ none
+    unfolding soleBy next after refuse
+    no-next e = ap (λ (t : Try ℕ). t .answer) (sole-is ∙ ap soleBy (by ∙ ap nucOf e))
+
+    pub next-is : (a : ℕ) → r ≡ Nuc a → sole k sol y .answer ≡ some (add k y a)
+    unfolding soleBy next after give
+    next-is a e = ap (λ (t : Try ℕ). t .answer) (sole-is ∙ ap soleBy (by ∙ ap nucOf e))
+
+    pub nuc-lt : (a : ℕ) → r ≡ Nuc a → a < 4
+    unfolding successors
+    nuc-lt a e = let w = only-yes 0 (successors k sol y) a (by ∙ ap nucOf e) in omega (arith, w .1, w .2 .inside)
+
+-- ---- the scan
+
+-- at the base j of s: z′ is the next k-mer, p the lookup's answer
+module _ (k : ℕ) (sol : ℕ → Bool) (l j z : ℕ) (s : List ℕ) where
+  module _ {z′ : ℕ} {p : Bool} (h : j < length s) (z-is : z′ ≡ addBase k z (getD s j 0)) (p-is : p ≡ sol z′) where
+    asked : {t : Bool} → p ≡ t → sol (addBase k z (getD s j 0)) ≡ t
+    asked e = ap sol (sym z-is) ∙ sym p-is ∙ e
+
+    pub scan-found : p ≡ true → scanFrom k sol l j z (drop j s) ≡ record { index = j; end = z′; lookups = l + 1 }
+    unfolding scanFrom
+    scan-found e = rw (drop-cons s j 0 h, scanFrom, asked e, add-one, z-is)
+
+    pub scan-on : p ≡ false → scanFrom k sol l j z (drop j s) ≡ scanFrom k sol (l + 1) (j + 1) z′ (drop (j + 1) s)
+    unfolding scanFrom
+    scan-on e = rw (drop-cons s j 0 h, scanFrom, asked e, add-one l, add-one j, z-is)
+
+  pub scan-end : length s ≤ j → scanFrom k sol l j z (drop j s) ≡ record { index = j; end = z; lookups = l }
+  unfolding scanFrom
+  scan-end h = rw (drop-of-length-le s h)

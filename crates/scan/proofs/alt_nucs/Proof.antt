@@ -1,0 +1,17 @@
+use mathlib.Core.Path.{ap, _∙_}
+use Rattle.rules.specs.Scan.{successors}
+use borrow.Author.Needs.{needs}
+use Rattle.scan.proofs.alt_nucs.Statement.{statement}
+use Rattle.scan.proofs.alt_nucs.Tie as tie
+
+drop-last-requires : tie.Need-drop-last-requires
+drop-last-requires c κs = search needs
+
+next-nucs-requires : tie.Need-next-nucs-requires
+next-nucs-requires c κs = search needs
+
+returns : tie.Need-returns
+returns c = c .next-nucs .ensures ∙ ap (successors _ _) (c .before .drop-last .ensures .is)
+
+pub alt-nucs-spec : {M : Type 1} → statement M
+alt-nucs-spec = tie.close (tie.spec drop-last-requires next-nucs-requires returns)

@@ -1,0 +1,55 @@
+use mathlib.Core.Path.{ap, _∙_}
+use Prim.Native.Nat.{ℕ}
+use Rattle.rules.specs.Counted.{Try}
+use Rattle.scan.proofs.Laws.{alternative-is, no-next, next-is, nuc-lt}
+use borrow.Author.Needs.{needs}
+use Rattle.scan.proofs.sole_alt.Statement.{statement}
+use Rattle.scan.proofs.sole_alt.Tie as tie
+
+alt-nucs-requires : tie.Need-alt-nucs-requires
+alt-nucs-requires c κs = search needs
+
+sole-nuc-requires : tie.Need-sole-nuc-requires
+sole-nuc-requires c κs = search needs
+
+enum-known-nuc : tie.Need-enum-known-nuc
+enum-known-nuc c = search needs
+
+enum-told : tie.Need-enum-told
+enum-told c = search needs
+
+returns : tie.Need-returns
+returns c =
+    let n = c .before .before in
+    ap (λ (t : Try ℕ). t .answer) (alternative-is _ _ _)
+    ∙ no-next _ _ _ (n .sole-nuc .result) (n .before .alt-nucs .ensures) (n .sole-nuc .ensures) (c .enum-told .given .1)
+
+drop-last-requires : tie.Need-drop-last-requires
+drop-last-requires c κs = search needs
+
+add-nuc-to-end-requires : tie.Need-add-nuc-to-end-requires
+add-nuc-to-end-requires c κs =
+    let n = c .before .before .before .before in
+    (search needs, search needs, nuc-lt _ _ _ (n .sole-nuc .result) (n .before .alt-nucs .ensures) (n .sole-nuc .ensures) _ (c .before .before .nuc .given .1))
+
+returns-2 : tie.Need-returns-2
+returns-2 c =
+    let n = c .before .before .before .before .before in
+    let e = c .add-nuc-to-end .ensures in (
+      rw (e .is, c .before .drop-last .ensures .is, alternative-is)
+          (next-is _ _ _ (n .sole-nuc .result) (n .before .alt-nucs .ensures) (n .sole-nuc .ensures) _ (c .before .before .before .nuc .given .1)),
+      e .kmer,
+    )
+
+pub sole-alt-spec : {M : Type 1} → statement M
+sole-alt-spec =
+    tie.close
+    (tie.spec
+    alt-nucs-requires
+    sole-nuc-requires
+    enum-known-nuc
+    enum-told
+    returns
+    drop-last-requires
+    add-nuc-to-end-requires
+    returns-2)

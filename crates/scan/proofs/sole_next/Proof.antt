@@ -1,0 +1,49 @@
+use mathlib.Core.Path.{sym, ap, _∙_}
+use Prim.Native.Nat.{ℕ}
+use mathlib.Core.Option.{Option, some}
+use Rattle.scan.proofs.Laws.{no-next, next-is, nuc-lt}
+use borrow.Author.Needs.{needs}
+use Rattle.scan.proofs.sole_next.Statement.{statement}
+use Rattle.scan.proofs.sole_next.Tie as tie
+
+next-nucs-requires : tie.Need-next-nucs-requires
+next-nucs-requires c κs = search needs
+
+sole-nuc-requires : tie.Need-sole-nuc-requires
+sole-nuc-requires c κs = search needs
+
+enum-known-nuc : tie.Need-enum-known-nuc
+enum-known-nuc c = search needs
+
+enum-told : tie.Need-enum-told
+enum-told c = search needs
+
+returns : tie.Need-returns
+returns c =
+    let n = c .before .before in
+    no-next _ _ _ (n .sole-nuc .result) (n .before .next-nucs .ensures) (n .sole-nuc .ensures) (c .enum-told .given .1)
+
+add-nuc-to-end-requires : tie.Need-add-nuc-to-end-requires
+add-nuc-to-end-requires c κs =
+    let n = c .before .before .before in
+    (search needs, search needs, nuc-lt _ _ _ (n .sole-nuc .result) (n .before .next-nucs .ensures) (n .sole-nuc .ensures) _ (c .before .nuc .given .1))
+
+returns-2 : tie.Need-returns-2
+returns-2 c =
+    let n = c .before .before .before .before in
+    let e = c .add-nuc-to-end .ensures in (
+      next-is _ _ _ (n .sole-nuc .result) (n .before .next-nucs .ensures) (n .sole-nuc .ensures) _ (c .before .before .nuc .given .1) ∙ ap {B = Option ℕ} some (sym (e .is)),
+      e .kmer,
+    )
+
+pub sole-next-spec : {M : Type 1} → statement M
+sole-next-spec =
+    tie.close
+    (tie.spec
+    next-nucs-requires
+    sole-nuc-requires
+    enum-known-nuc
+    enum-told
+    returns
+    add-nuc-to-end-requires
+    returns-2)

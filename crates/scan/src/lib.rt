@@ -1,0 +1,129 @@
+// Document 01, "Successors and scan": ports `next_nucs`, `alt_nucs` and `error_len` of src/correct/mod.rs, and declares what every
+// corrector's `correct_error` answers.
+use kmer::Header;
+use kmer::Kmer;
+ghost use mathlib.Core.Path.{_≡_};
+ghost use Prim.Native.Nat.{_/_, _≤_};
+ghost use lib.ListN.{length};
+ghost use Rattle.rules.specs.Letters.{addBase};
+ghost use Rattle.rules.specs.Set.{solid, setOf};
+ghost use Rattle.rules.specs.Scan as rules;
+ghost use Rattle.kmer.specs.Kmer.{Shifts, IsKmer, HasCode};
+ghost use Rattle.set.specs.Ready.{Ready};
+ghost use Rattle.scan.specs.Scan.{nucOf, NextIs, scanOf};
+
+// The sole solid successor letter.
+pub enum Sole {
+    Nuc(u64),
+    Refused,
+}
+
+// The sole solid successor.
+pub enum Next {
+    Kmer(Kmer),
+    Refused,
+}
+
+// Where a scan ends: the index reached, the code of the last k-mer T, and the lookups made.
+pub struct Scan {
+    pub index: usize,
+    pub end: u64,
+    pub lookups: u64,
+}
+
+// An attempt at a bad base: the letters written at the start of the lent output, the resume and the lookups; or the lookups of a refused
+// one; or no room in the output. This is the source's Option<(Vec<u8>, usize)>.
+pub enum Attempt {
+    Mend(usize, usize, u64),
+    Refused(u64),
+    Full,
+}
+
+pub fn add_base(kmer: Kmer, base: u8, head: Header) -> Kmer
+    requires { ⌜ Shifts head × IsKmer (head .k) kmer ⌝ }
+    ensures { λ r. ⌜ HasCode (head .k) (addBase (head .k) (kmer .code) base) r ⌝ }
+{
+    kmer::add_nuc_to_end(kmer, kmer::nuc2bit(base), head)
+}
+
+pub fn next_nucs(set: &[u8], starts: &[u32], head: Header, kmer: Kmer) -> [bool; 4]
+    requires { ⌜ Ready (now set) (now starts) head × IsKmer (head .k) kmer ⌝ }
+    ensures { λ r. ⌜ r ≡ rules.successors (head .k) (solid (setOf (now (set .entry)))) (kmer .code) ⌝ }
+{
+    let a = set::get(set, starts, head, kmer::add_nuc_to_end(kmer, 0, head));
+    let c = set::get(set, starts, head, kmer::add_nuc_to_end(kmer, 1, head));
+    let t = set::get(set, starts, head, kmer::add_nuc_to_end(kmer, 2, head));
+    let g = set::get(set, starts, head, kmer::add_nuc_to_end(kmer, 3, head));
+    [a, c, t, g]
+}
+
+pub fn alt_nucs(set: &[u8], starts: &[u32], head: Header, kmer: Kmer) -> [bool; 4]
+    requires { ⌜ Ready (now set) (now starts) head × IsKmer (head .k) kmer ⌝ }
+    ensures { λ r. ⌜ r ≡ rules.successors (head .k) (solid (setOf (now (set .entry)))) (kmer .code / 4) ⌝ }
+{
+    next_nucs(set, starts, head, kmer::drop_last(kmer, head))
+}
+
+// The letter of the only yes among the four answers: each yes adds 1 to the count and its own code to the sum.
+pub fn sole_nuc(nucs: [bool; 4]) -> Sole
+    ensures { λ r. ⌜ nucOf r ≡ rules.only (rules.yesFrom 0 nucs) ⌝ }
+{
+    let a = nucs[0] as u64;
+    let c = nucs[1] as u64;
+    let t = nucs[2] as u64;
+    let g = nucs[3] as u64;
+    if a + c + t + g == 1 {
+        Sole::Nuc(c + 2 * t + 3 * g)
+    } else {
+        Sole::Refused
+    }
+}
+
+// y+u(y).
+pub fn sole_next(set: &[u8], starts: &[u32], head: Header, kmer: Kmer) -> Next
+    requires { ⌜ Ready (now set) (now starts) head × IsKmer (head .k) kmer ⌝ }
+    ensures { λ r. ⌜ NextIs (head .k) (rules.sole (head .k) (solid (setOf (now (set .entry)))) (kmer .code) .answer) r ⌝ }
+{
+    let Sole::Nuc(nuc) = sole_nuc(next_nucs(set, starts, head, kmer)) else {
+        return Next::Refused;
+    };
+    Next::Kmer(kmer::add_nuc_to_end(kmer, nuc, head))
+}
+
+// The bad k-mer with its last letter replaced by the sole solid alternative.
+pub fn sole_alt(set: &[u8], starts: &[u32], head: Header, kmer: Kmer) -> Next
+    requires { ⌜ Ready (now set) (now starts) head × IsKmer (head .k) kmer ⌝ }
+    ensures { λ r. ⌜ NextIs (head .k) (rules.alternative (head .k) (solid (setOf (now (set .entry)))) (kmer .code) .answer) r ⌝ }
+{
+    let Sole::Nuc(nuc) = sole_nuc(alt_nucs(set, starts, head, kmer)) else {
+        return Next::Refused;
+    };
+    Next::Kmer(kmer::add_nuc_to_end(kmer::drop_last(kmer, head), nuc, head))
+}
+
+// s is the rest of the read at its bad base s0, kmer the bad k-mer: s1, s2, .. are added up to the first solid k-mer or the end.
+pub fn error_len(set: &[u8], starts: &[u32], head: Header, kmer: Kmer, s: &[u8]) -> Scan
+    requires { ⌜ Ready (now set) (now starts) head × IsKmer (head .k) kmer × (1 ≤ length (now s)) ⌝ }
+    ensures { λ r. ⌜ scanOf r ≡ rules.errorLen (head .k) (solid (setOf (now (set .entry)))) (kmer .code) (now (s .entry)) ⌝ }
+{
+    let mut last = kmer;
+    let mut lookups = 0;
+    let mut j = 1;
+    while j < s.len() {
+        last = add_base(last, s[j], head);
+        lookups += 1;
+        if set::get(set, starts, head, last) {
+            return Scan {
+                index: j,
+                end: last.code,
+                lookups,
+            };
+        }
+        j += 1;
+    }
+    Scan {
+        index: j,
+        end: last.code,
+        lookups,
+    }
+}
