@@ -2,7 +2,7 @@
 use crate::library::Library;
 use crate::oracle::{self, Keys};
 use crate::referee::calls::{self, Job};
-use crate::referee::correctors::Method;
+use crate::referee::correctors::{Method, ALL_BY, ALL_EVENTS, BY, METHODS};
 use crate::referee::driver::Pass;
 use crate::referee::set::{open, Refusal, Set};
 use std::fmt::Debug;
@@ -26,7 +26,7 @@ impl Site {
 }
 
 /// What agreed.
-#[derive(Clone, Default)]
+#[derive(Clone)]
 pub struct Tally {
     pub passes: u64,
     pub calls: u64,
@@ -34,8 +34,34 @@ pub struct Tally {
     pub attempts: u64,
     pub accepted: u64,
     pub lookups: u64,
-    /// Corrections by method and scenario.
-    pub by: [[u64; 18]; 4],
+    /// Corrections by method and scenario, by k, and by confirm.
+    pub by: [[u64; BY]; 4],
+    pub by_k: [u64; 32],
+    pub by_confirm: [u64; 256],
+    pub events: [u64; ALL_EVENTS.len()],
+}
+
+impl Default for Tally {
+    fn default() -> Self {
+        Tally {
+            passes: 0,
+            calls: 0,
+            refusals: [0; 12],
+            attempts: 0,
+            accepted: 0,
+            lookups: 0,
+            by: [[0; BY]; 4],
+            by_k: [0; 32],
+            by_confirm: [0; 256],
+            events: [0; ALL_EVENTS.len()],
+        }
+    }
+}
+
+fn add_each<'a>(mine: &mut [u64], others: impl IntoIterator<Item = &'a u64>) {
+    for (mine, others) in mine.iter_mut().zip(others) {
+        *mine += others;
+    }
 }
 
 impl Tally {
@@ -45,23 +71,41 @@ impl Tally {
         self.attempts += other.attempts;
         self.accepted += other.accepted;
         self.lookups += other.lookups;
-        for (mine, others) in self.refusals.iter_mut().zip(other.refusals) {
-            *mine += others;
-        }
-        for (mine, others) in self.by.iter_mut().flatten().zip(other.by.iter().flatten()) {
-            *mine += others;
-        }
+        add_each(&mut self.refusals, &other.refusals);
+        add_each(self.by.as_flattened_mut(), other.by.as_flattened());
+        add_each(&mut self.by_k, &other.by_k);
+        add_each(&mut self.by_confirm, &other.by_confirm);
+        add_each(&mut self.events, &other.events);
     }
 
-    fn add_pass(&mut self, method: Method, pass: &Pass) {
+    /// What a run met, a line for each kind.
+    pub fn print(&self) {
+        println!("{} passes in {} calls: {} attempts, {} corrections, {} lookups", self.passes, self.calls, self.attempts, self.accepted, self.lookups);
+        for (method, by) in METHODS.iter().zip(self.by) {
+            println!("corrections by {method:?}: {}", counts(ALL_BY.iter().map(|by| format!("{by:?}")), &by));
+        }
+        println!("corrections by k: {}", counts((0..).map(|k: u32| k.to_string()), &self.by_k));
+        println!("corrections at {} of 255 confirms", self.by_confirm.iter().filter(|count| **count > 0).count());
+        println!("met: {}", counts(ALL_EVENTS.iter().map(|event| format!("{event:?}")), &self.events));
+        println!("refusals: {}", counts((0..).map(|number: u32| number.to_string()), &self.refusals));
+    }
+
+    fn add_pass(&mut self, k: usize, confirm: u8, method: Method, pass: &Pass) {
         self.passes += 1;
         self.attempts += pass.attempts;
         self.accepted += pass.accepted;
         self.lookups += pass.lookups;
-        for (mine, others) in self.by[method as usize].iter_mut().zip(pass.by) {
-            *mine += others as u64;
+        self.by_k[k] += pass.accepted;
+        if method != Method::Graph {
+            self.by_confirm[confirm as usize] += pass.accepted;
         }
+        add_each(&mut self.by[method as usize], &pass.by.map(u64::from));
+        add_each(&mut self.events, &pass.events.map(u64::from));
     }
+}
+
+fn counts(names: impl Iterator<Item = String>, counts: &[u64]) -> String {
+    names.zip(counts).filter(|(_, count)| **count > 0).map(|(name, count)| format!("{name} {count}")).collect::<Vec<_>>().join(", ")
 }
 
 /// What two sides say differently.
@@ -157,7 +201,7 @@ fn check_passes(keys: &Keys, job: &Job, read: &[u8], passes: &[Pass], tally: &mu
             (expected.turns, expected.attempts, expected.accepted, expected.lookups as i64 + expected.again),
             (found.turns, found.attempts, found.accepted, found.lookups as i64),
         )?;
-        tally.add_pass(method, expected);
+        tally.add_pass(keys.k(), job.confirm, method, expected);
         fed = found.bytes;
     }
     Ok(())

@@ -184,7 +184,8 @@ fn correct(list: &mut List, rng: &mut Rng) {
                         let length = (k as usize + rng.below(8)).saturating_sub(2);
                         reads::noisy_of_length(rng, &genome, length)
                     }
-                    _ => reads::noisy(rng, &genome, 90),
+                    (_, 2) => reads::noisy(rng, &genome, 90),
+                    _ => reads::spaced(rng, &genome, k as usize + 6),
                 };
                 let (method, confirm) = (rng.pick(&METHODS).byte(), rng.within(1, 6) as u8);
                 list.call_if_wanted(rng, &site, &job(Call::Read, confirm, &[method], &read), 50);
@@ -210,10 +211,10 @@ fn small_genome(rng: &mut Rng, k: u8) -> (Site, Vec<u8>) {
 
 /// Reads that are corrected at every confirm from 1 to 255.
 fn confirms(list: &mut List, rng: &mut Rng) {
-    for k in [9, 15, 21, 31] {
+    for (part, k) in [9, 15, 21, 31].into_iter().enumerate() {
         let genome = reads::letters(rng, 560);
         let site = sets::of_genomes(k, [genome.as_slice()]);
-        for confirm in (1..=255).filter(|confirm| confirm % 4 == k as usize / 2 % 4) {
+        for confirm in (1..=255).filter(|confirm| confirm % 4 == part) {
             for method in [1, 2, 4] {
                 let start = rng.below(200);
                 let mut read = genome[start..start + k as usize + 3 + confirm + 8].to_vec();
@@ -223,6 +224,24 @@ fn confirms(list: &mut List, rng: &mut Rng) {
                 list.call_if_wanted(rng, &site, &job(Call::Read, confirm as u8, &[method], &read), if confirm % 16 == 0 { 100 } else { 0 });
             }
         }
+    }
+}
+
+/// Scenarios that are rare, sought in small sets until each is met often enough.
+fn rare(list: &mut List, rng: &mut Rng) {
+    for _ in 0..40_000 {
+        let k = *rng.pick(&[3, 5, 7, 9, 11]);
+        let (site, genome) = match rng.below(3) {
+            0 if k < 7 => (sets::dense(rng, k), Vec::new()),
+            1 => sets::periodic(rng, k),
+            _ => small_genome(rng, k),
+        };
+        if site.bytes.len() > 1536 {
+            continue;
+        }
+        let read = if genome.is_empty() { reads::in_set(rng, &site) } else { reads::spaced(rng, &genome, k as usize + 5) };
+        let (method, confirm) = (rng.pick(&[2, 2, 4]), rng.within(1, 5) as u8);
+        list.call_if_wanted(rng, &site, &job(Call::Read, confirm, &[*method], &read), 0);
     }
 }
 
@@ -255,8 +274,10 @@ pub fn write(file: &str, seed: u64) -> Result<(), String> {
     samples(&mut list);
     correct(&mut list, rng);
     confirms(&mut list, rng);
+    rare(&mut list, rng);
     refused(&mut list, rng);
-    println!("{} cases, {} passes, seed {seed}", list.cases, list.tally.passes);
+    list.tally.print();
+    println!("{} cases, seed {seed}", list.cases);
     let bytes = list.finish();
     println!("{} bytes", bytes.len());
     std::fs::write(file, bytes).map_err(|error| format!("{file}: {error}"))

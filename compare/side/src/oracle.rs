@@ -16,6 +16,10 @@ impl Keys {
     pub fn new(k: u8, keys: &[u64]) -> Self {
         Keys { keys: keys.iter().copied().collect(), k }
     }
+
+    pub fn k(&self) -> usize {
+        self.k as usize
+    }
 }
 
 impl KmerSet for &Keys {

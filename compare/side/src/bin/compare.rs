@@ -4,7 +4,6 @@ use side::check::{Buffers, Site, Tally};
 use side::library::{library, Library};
 use side::list;
 use side::referee::calls::Job;
-use side::referee::correctors::{ALL_BY, METHODS};
 use side::shrink::{check, Failure};
 use std::process::ExitCode;
 use std::sync::atomic::{AtomicUsize, Ordering::Relaxed};
@@ -145,14 +144,8 @@ fn work(options: &Options, library: &dyn Library, units: &[Unit], next: &AtomicU
 /// What was seen, the smallest disagreement, and the last line.
 fn report(options: &Options, library: &dyn Library, found: Found, took: Duration) -> bool {
     let tally = &found.tally;
-    println!("{} passes in {} calls, {:.0} s on {} threads", tally.passes, tally.calls, took.as_secs_f64(), options.threads);
-    println!("{} attempts, {} corrections, {} lookups", tally.attempts, tally.accepted, tally.lookups);
-    for (method, by) in METHODS.iter().zip(tally.by) {
-        let counts: Vec<String> = ALL_BY.iter().zip(by).filter(|(_, count)| *count > 0).map(|(by, count)| format!("{by:?} {count}")).collect();
-        println!("corrections by {method:?}: {}", counts.join(", "));
-    }
-    let refusals: Vec<String> = tally.refusals.iter().enumerate().filter(|(_, count)| **count > 0).map(|(number, count)| format!("{number}: {count}")).collect();
-    println!("refusals {}", refusals.join(", "));
+    println!("{:.0} s on {} threads", took.as_secs_f64(), options.threads);
+    tally.print();
     if let Some((kind, number, failure)) = found.failure {
         println!("smallest disagreement found (seed {}, {kind:?} {number}):", options.seed);
         failure.shrink(library).print();

@@ -29,11 +29,30 @@ impl Method {
 #[rustfmt::skip]
 pub enum By { I, S, D, II, IS, SS, SD, DD, ICI, ICS, ICD, SCI, SCS, SCD, DCI, DCD, Chain, Moves }
 
+pub const BY: usize = 18;
+
 #[rustfmt::skip]
-pub const ALL_BY: [By; 18] = {
+pub const ALL_BY: [By; BY] = {
     use By::*;
     [I, S, D, II, IS, SS, SD, DD, ICI, ICS, ICD, SCI, SCS, SCD, DCI, DCD, Chain, Moves]
 };
+
+/// Other turns that an attempt takes, counted to see that a run meets them.
+#[derive(Clone, Copy, Debug, PartialEq, Eq)]
+pub enum Event {
+    /// Several scenarios are kept.
+    Several,
+    /// Of those just one remains after one base more.
+    OneRemains,
+    /// Graph: T = x.
+    NoMove,
+    /// Graph: the mark comes again.
+    Mark,
+    /// GapSize: a k-mer comes again.
+    Repeat,
+}
+
+pub const ALL_EVENTS: [Event; 5] = [Event::Several, Event::OneRemains, Event::NoMove, Event::Mark, Event::Repeat];
 
 /// An accepted attempt: letters written for the bad base, and how many bases further the pass goes on.
 pub struct Mend {
@@ -92,16 +111,21 @@ pub struct Asking<'a> {
     pub lookups: u64,
     /// What the Rust asks beyond these rules: its lookups less these.
     pub again: i64,
+    pub events: [u32; ALL_EVENTS.len()],
 }
 
 impl<'a> Asking<'a> {
     pub fn new(set: &'a Set) -> Self {
-        Asking { set, lookups: 0, again: 0 }
+        Asking { set, lookups: 0, again: 0, events: [0; ALL_EVENTS.len()] }
     }
 
     pub fn solid(&mut self, y: u64) -> bool {
         self.lookups += 1;
         self.set.solid(y)
+    }
+
+    fn note(&mut self, event: Event) {
+        self.events[event as usize] += 1;
     }
 
     fn add(&self, y: u64, byte: u8) -> u64 {
@@ -156,9 +180,13 @@ impl<'a> Asking<'a> {
         let x = self.alternative(y)?;
         let mut kept: Vec<Kept> = rows.iter().filter_map(|row| self.tried(row, c, x, s)).collect();
         if kept.len() > 1 {
+            self.note(Event::Several);
             // The Rust makes the letters of each, and so its trial, again.
             self.again += kept.iter().map(Kept::asked_for_letters).sum::<i64>();
             kept.retain(|kept| self.one_more(&kept.mend, c, y, s));
+            if kept.len() == 1 {
+                self.note(Event::OneRemains);
+            }
         }
         if kept.len() != 1 {
             return None;
@@ -259,6 +287,7 @@ impl<'a> Asking<'a> {
 
     fn walk(&mut self, x: u64, end: u64) -> Option<Vec<u8>> {
         if x == end {
+            self.note(Event::NoMove);
             // The Rust walks all the same, and refuses.
             self.again += self.rust_walk(x, end);
             return None;
@@ -276,6 +305,7 @@ impl<'a> Asking<'a> {
                 return Some(letters);
             }
             if at == mark {
+                self.note(Event::Mark);
                 // The Rust remembers every k-mer, and refuses on the first repeat.
                 self.again += self.rust_walk(x, end) - (self.lookups - before) as i64;
                 return None;
@@ -324,6 +354,7 @@ impl<'a> Asking<'a> {
         for _ in 0..moves {
             at = self.sole(at)?;
             if !seen.insert(at) {
+                self.note(Event::Repeat);
                 return None;
             }
             letters.push(letter(at & 3));

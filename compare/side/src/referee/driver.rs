@@ -1,5 +1,5 @@
 //! "Driver": a pass, one read through one method.
-use super::correctors::{Asking, Method};
+use super::correctors::{Asking, Method, ALL_EVENTS, BY};
 use super::letters::{add, add_all, code};
 use super::set::Set;
 
@@ -13,7 +13,9 @@ pub struct Pass {
     /// The lookups that the Rust makes in this pass, less these.
     pub again: i64,
     /// Corrections by scenario, in the order of `ALL_BY`.
-    pub by: [u32; 18],
+    pub by: [u32; BY],
+    /// What else was met, in the order of `ALL_EVENTS`.
+    pub events: [u32; ALL_EVENTS.len()],
 }
 
 pub fn pass(set: &Set, method: Method, c: u8, read: &[u8]) -> Pass {
@@ -51,5 +53,6 @@ pub fn pass(set: &Set, method: Method, c: u8, read: &[u8]) -> Pass {
     }
     pass.lookups = asking.lookups;
     pass.again = asking.again;
+    pass.events = asking.events;
     pass
 }
