@@ -36,12 +36,14 @@ pub enum Kind {
     Limits,
     /// Damaged sets: refusals 7 to 10.
     Damaged,
+    /// Every bit of a small set turned, with the check words as they were and with right ones; a unit for each odd k.
+    EveryBit,
     /// A set of a few hundred thousand keys.
     Large,
 }
 
 /// The kinds and how many units of each a run has. The exhaustive ones have as many as there are sets; the others are repeated by --rounds.
-const SCHEDULE: [(Kind, u64, bool); 12] = [
+const SCHEDULE: [(Kind, u64, bool); 13] = [
     (Kind::AllOfOne, 4, false),
     (Kind::AllOfThree, 529, false),
     (Kind::AllReads, 400, true),
@@ -53,6 +55,7 @@ const SCHEDULE: [(Kind, u64, bool); 12] = [
     (Kind::Lists, 2000, true),
     (Kind::Limits, 1600, true),
     (Kind::Damaged, 10000, true),
+    (Kind::EveryBit, 16, false),
     (Kind::Large, 2, true),
 ];
 
@@ -110,6 +113,7 @@ pub fn run(unit: &Unit, seed: u64, visit: &mut Visit) {
         Kind::Lists => lists(rng, visit),
         Kind::Limits => limits(rng, unit.number, visit),
         Kind::Damaged => damaged(rng, visit),
+        Kind::EveryBit => damage::every_bit(rng, 2 * unit.number as u8 + 1, &mut |set| visit(&Site::new(set), None)),
         Kind::Large => large(rng, visit),
     }
 }
@@ -157,7 +161,12 @@ fn all_reads(site: &Site, longest: u32, jobs: &mut dyn FnMut(&[u8]) -> Vec<Job>,
 /// All methods, with confirm 1 to 3 where it counts.
 fn every_job(batch: &[u8]) -> Vec<Job> {
     let with = |method, confirm| job(Call::Batch, confirm, &[method], batch);
-    [1, 2, 4].into_iter().flat_map(|method| (1..=3).map(move |confirm| (method, confirm))).chain([(3, 1)]).map(|(method, confirm)| with(method, confirm)).collect()
+    [1, 2, 4]
+        .into_iter()
+        .flat_map(|method| (1..=3).map(move |confirm| (method, confirm)))
+        .chain([(3, 1)])
+        .map(|(method, confirm)| with(method, confirm))
+        .collect()
 }
 
 /// Each read by each method alone, some by read calls and the rest as one batch, with a confirm of mostly up to `confirm`.

@@ -80,7 +80,10 @@ impl Tally {
 
     /// What a run met, a line for each kind.
     pub fn print(&self) {
-        println!("{} passes in {} calls: {} attempts, {} corrections, {} lookups", self.passes, self.calls, self.attempts, self.accepted, self.lookups);
+        println!(
+            "{} passes in {} calls: {} attempts, {} corrections, {} lookups",
+            self.passes, self.calls, self.attempts, self.accepted, self.lookups
+        );
         for (method, by) in METHODS.iter().zip(self.by) {
             println!("corrections by {method:?}: {}", counts(ALL_BY.iter().map(|by| format!("{by:?}")), &by));
         }

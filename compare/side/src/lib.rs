@@ -10,6 +10,7 @@
 
 #![deny(unsafe_code)]
 
+pub mod bench;
 #[cfg(feature = "linked")]
 pub mod boundary;
 pub mod cases;
@@ -19,5 +20,6 @@ pub mod list;
 pub mod oracle;
 pub mod referee;
 pub mod rng;
+pub mod samples;
 pub mod set_file;
 pub mod shrink;

@@ -6,7 +6,6 @@ use crate::referee::calls::{call, Answer, Call, Job, Report};
 use crate::referee::correctors::METHODS;
 use crate::referee::set::Refusal;
 use crate::rng::Rng;
-use crate::set_file;
 
 /// The seed of the list that is kept.
 pub const SEED: u64 = 1;
@@ -145,7 +144,7 @@ impl List {
 
 /// Document 01's sample reads, at their set.
 fn samples(list: &mut List) {
-    let site = Site::new(set_file::make(3, &[6, 23, 51, 58, 60]));
+    let site = Site::new(crate::samples::set());
     list.open(&site);
     for method in METHODS {
         for confirm in [1, 2] {

@@ -14,7 +14,16 @@ pub struct Keys {
 
 impl Keys {
     pub fn new(k: u8, keys: &[u64]) -> Self {
-        Keys { keys: keys.iter().copied().collect(), k }
+        Keys::from_iter(k, keys.iter().copied())
+    }
+
+    /// Inserted one by one, as the Rust fills its set.
+    pub fn from_iter(k: u8, keys: impl Iterator<Item = u64>) -> Self {
+        let mut set = FxHashSet::default();
+        keys.for_each(|key| {
+            set.insert(key);
+        });
+        Keys { keys: set, k }
     }
 
     pub fn k(&self) -> usize {

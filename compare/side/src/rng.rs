@@ -6,11 +6,11 @@ impl Rng {
     /// The numbers of one unit of a run: units can be made in any order, on any thread.
     pub fn of_unit(seed: u64, unit: u64) -> Self {
         let mut rng = Rng(seed);
-        let start = rng.next() ^ unit.wrapping_mul(0xd1b5_4a32_d192_ed03);
+        let start = rng.word() ^ unit.wrapping_mul(0xd1b5_4a32_d192_ed03);
         Rng(start)
     }
 
-    pub fn next(&mut self) -> u64 {
+    pub fn word(&mut self) -> u64 {
         self.0 = self.0.wrapping_add(0x9e37_79b9_7f4a_7c15);
         let mut x = self.0;
         x = (x ^ (x >> 30)).wrapping_mul(0xbf58_476d_1ce4_e5b9);
@@ -20,7 +20,7 @@ impl Rng {
 
     /// A number below `limit`.
     pub fn below(&mut self, limit: usize) -> usize {
-        ((self.next() as u128 * limit as u128) >> 64) as usize
+        ((self.word() as u128 * limit as u128) >> 64) as usize
     }
 
     /// A number from `low` to `high`, both included.
@@ -38,7 +38,7 @@ impl Rng {
     }
 
     pub fn byte(&mut self) -> u8 {
-        self.next() as u8
+        self.word() as u8
     }
 
     pub fn letter(&mut self) -> u8 {

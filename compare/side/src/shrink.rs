@@ -95,8 +95,10 @@ impl Failure {
             job.methods.remove(place);
             self.try_with(library, None, Some(job));
         }
-        for confirm in [1, first.confirm / 2, first.confirm.saturating_sub(1)] {
-            self.try_with(library, None, Some(Job { confirm, ..job_now(self) }));
+        for confirm in 1..first.confirm {
+            if self.try_with(library, None, Some(Job { confirm, ..job_now(self) })) {
+                break;
+            }
         }
         let mut count = job_now(self).input.len().div_ceil(2);
         while count > 0 && begun.elapsed() < PATIENCE {
@@ -119,10 +121,13 @@ impl Failure {
         println!("  found:    {}", self.disagreement.found);
         match &self.site.opened {
             Ok(set) => {
-                let keys: Vec<String> = set.keys.iter().take(64).map(|key| format!("{key} {}", cocktail::kmer::kmer2seq(*key, set.k as u8))).collect();
+                let keys: Vec<String> =
+                    set.keys.iter().take(64).map(|key| format!("{key} {}", cocktail::kmer::kmer2seq(*key, set.k as u8))).collect();
                 println!("  k {}, {} keys: {}{}", set.k, set.keys.len(), keys.join(", "), if set.keys.len() > 64 { ", .." } else { "" });
             }
-            Err(refusal) => println!("  a set of {} bytes, refused {} at {}: {}", self.site.bytes.len(), refusal.number, refusal.place, hex(&self.site.bytes)),
+            Err(refusal) => {
+                println!("  a set of {} bytes, refused {} at {}: {}", self.site.bytes.len(), refusal.number, refusal.place, hex(&self.site.bytes))
+            }
         }
         if let Some(job) = &self.job {
             println!("  {} call, confirm {}, methods {:?}, output {}, work {}", call_name(job.call), job.confirm, job.methods, job.output, job.work);

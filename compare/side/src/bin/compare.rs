@@ -4,6 +4,7 @@ use side::check::{Buffers, Site, Tally};
 use side::library::{library, Library};
 use side::list;
 use side::referee::calls::Job;
+use side::samples;
 use side::shrink::{check, Failure};
 use std::process::ExitCode;
 use std::sync::atomic::{AtomicUsize, Ordering::Relaxed};
@@ -16,6 +17,9 @@ compare/run --replay FILE             replay such a list";
 
 /// Enough to see what is wrong.
 const MOST_FAILURES: u64 = 1000;
+
+/// Room for what the corrector keeps in local arrays.
+const STACK: usize = 64 << 20;
 
 struct Options {
     seed: u64,
@@ -92,10 +96,14 @@ fn compare(options: &Options, library: &dyn Library) -> bool {
     }
     // A panic is a disagreement, printed with its input.
     std::panic::set_hook(Box::new(|_| ()));
-    let found = Mutex::new(Found::default());
+    let wrong = samples::wrong(library);
+    wrong.iter().for_each(|sample| println!("document 01: {sample}"));
+    let found = Mutex::new(Found { failed: wrong.len() as u64, ..Found::default() });
     let (next, begun) = (AtomicUsize::new(0), Instant::now());
     std::thread::scope(|scope| {
-        let workers: Vec<_> = (0..options.threads).map(|_| scope.spawn(|| work(options, library, &units, &next, &found))).collect();
+        let worker = || work(options, library, &units, &next, &found);
+        let spawn = |_| std::thread::Builder::new().stack_size(STACK).spawn_scoped(scope, worker).expect("a thread");
+        let workers: Vec<_> = (0..options.threads).map(spawn).collect();
         let mut said = Instant::now();
         while workers.iter().any(|worker| !worker.is_finished()) {
             std::thread::sleep(Duration::from_millis(50));

@@ -9,7 +9,7 @@ use crate::set_file::{keys_of, seal, words, BLOCK, WORDS};
 pub fn set(rng: &mut Rng) -> Vec<u8> {
     let k = super::sets::any_k(rng);
     let wanted = *rng.pick(&[0, 1, 2, 62, 63, 64, 126, 127, 200]);
-    let keys = keys_of(k, (0..wanted).map(|_| rng.next() & ((1 << (2 * k)) - 1)));
+    let keys = keys_of(k, (0..wanted).map(|_| rng.word() & ((1 << (2 * k)) - 1)));
     let mut words = words(k as u64, keys.len() as u64, &keys);
     let damages = *rng.pick(&[0, 1, 1, 1, 1, 2]);
     for _ in 0..damages {
@@ -31,7 +31,7 @@ fn damage_words(rng: &mut Rng, k: u8, words: &mut Vec<u64>) {
         1 => words[0] ^= 1 << rng.below(64),
         2 => words[1] = *rng.pick(&[0, 1, 62, 63, 64, 16_777_216, 16_777_217, 1 << 32, u64::MAX, u64::MAX - 61]),
         3 => words[1] = words[1].wrapping_add(*rng.pick(&[1, 63, u64::MAX])),
-        4 => words[rng.within(2, WORDS - 1)] = rng.next() >> rng.below(64),
+        4 => words[rng.within(2, WORDS - 1)] = rng.word() >> rng.below(64),
         5 => words.extend([0; WORDS]),
         6 if words.len() > WORDS => words.truncate(words.len() - WORDS),
         7 if place + 1 < words.len() => words.swap(place, place + 1),
@@ -39,7 +39,7 @@ fn damage_words(rng: &mut Rng, k: u8, words: &mut Vec<u64>) {
         9 if place < words.len() => words[place] ^= 1 << rng.below(64),
         // Too large, with an even count of one bits.
         10 if place < words.len() => words[place] = 1 << (2 * k) | 1,
-        11 if place < words.len() => words[place] = rng.next() & ((1 << (2 * k)) - 1),
+        11 if place < words.len() => words[place] = rng.word() & ((1 << (2 * k)) - 1),
         _ => *words.last_mut().expect("a block") ^= 1 << rng.below(64),
     }
 }
@@ -64,6 +64,23 @@ fn damage_bytes(rng: &mut Rng, bytes: &mut Vec<u8>) {
                 bytes.swap(one * BLOCK + at, other * BLOCK + at);
             }
         }
+    }
+}
+
+/// A set of 40 keys or fewer with each bit turned, of the bytes and of the words before the check words are put in.
+pub fn every_bit(rng: &mut Rng, k: u8, visit: &mut dyn FnMut(Vec<u8>)) {
+    let keys = keys_of(k, (0..40).map(|_| rng.word() & ((1 << (2 * k)) - 1)));
+    let words = words(k as u64, keys.len() as u64, &keys);
+    let bytes = seal(&words);
+    for bit in 0..8 * bytes.len() {
+        let mut turned = bytes.clone();
+        turned[bit / 8] ^= 1 << (bit % 8);
+        visit(turned);
+    }
+    for bit in 0..64 * words.len() {
+        let mut turned = words.clone();
+        turned[bit / 64] ^= 1 << (bit % 64);
+        visit(seal(&turned));
     }
 }
 
