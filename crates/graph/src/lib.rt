@@ -19,7 +19,7 @@ ghost use Rattle.scan.specs.Attempt.{Attempted};
 ghost use Rattle.graph.specs.Walk.{mendFrom};
 
 // The last letter of a k-mer, written where there is room.
-fn write_last(out: &mut [u8], at: usize, kmer: Kmer)
+pub fn write_last(out: &mut [u8], at: usize, kmer: Kmer)
     ensures { λ r. ⌜ now (out .exit) ≡ put (now (out .entry)) at (lastLetter (kmer .code)) ⌝ }
 {
     if at < out.len() {

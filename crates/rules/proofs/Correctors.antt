@@ -120,7 +120,7 @@ all-snoc P (x ∷ xs) z (also h hs) p = also h (all-snoc P xs z hs p)
 
 module _ (k : ℕ) (sol : ℕ → Bool) where
   -- a gap costs 4 for each move at most, and one that is filled has one k-mer more for each
-  gap-any : (m : ℕ) (seen : List ℕ) (y l : ℕ)
+  pub gap-any : (m : ℕ) (seen : List ℕ) (y l : ℕ)
       → (gap k sol m seen y l .lookups ≤ l + 4 * m) × ((ls : List ℕ) → gap k sol m seen y l .answer ≡ some ls → length ls ≡ length seen + m)
   unfolding gap
   gap-any zero seen y l = (omega arith, λ ls a. ap length (sym (Option·some-injective seen ls a)) ∙ omega arith)
@@ -156,7 +156,7 @@ module _ (k : ℕ) (sol : ℕ → Bool) where
 
   module _ (n : ℕ) (few : Few k n sol) where
     -- no k-mer is seen twice, so a gap ends within 2n moves
-    gap-cost : (m : ℕ) (seen : List ℕ) (y l : ℕ) → Distinct seen → All (SolidKmer k sol) seen
+    pub gap-cost : (m : ℕ) (seen : List ℕ) (y l : ℕ) → Distinct seen → All (SolidKmer k sol) seen
         → gap k sol m seen y l .lookups + 4 * length seen ≤ l + 4 + 8 * n
     unfolding gap SolidKmer Few
     gap-cost zero seen y l d g = omega (arith, few seen d g)

@@ -1,0 +1,98 @@
+-- A pass's counts stay within limits that the length of what it is fed sets, whatever the set. Serves the counters: they never wrap.
+use Prim.Native.Nat.{ℕ, zero, suc, _+_, _*_, _-_, _≤_, _<_}
+use native.Mathlib.Omega.{arith}
+use native.Mathlib.Decide.{decLe}
+use native.Mathlib.Nat.{mul-le-mul-left, mul-le-mul-right}
+use mathlib.Core.Path.{_≡_, refl, ap}
+use mathlib.Core.Option.{none}
+use mathlib.Core.List.{List}
+use lib.ListN.{length}
+use Rattle.rules.specs.Set.{solid, setCheck, setOf, headerN, keysFrom}
+use Rattle.rules.specs.Driver.{Pass, drive}
+use Rattle.rules.specs.Job.{Method, One, Two, Graph, GapSize, correctError, pass}
+use Rattle.rules.specs.Counts.{F}
+use Rattle.rules.proofs.Driver.{drive-turns}
+use Rattle.rules.proofs.Lookups.{drive-lookups, drive-short}
+use Rattle.rules.proofs.Demands.{fair, steady}
+use Rattle.set.proofs.Opened.{opened-k-low, opened-k-high, opened-n-le}
+use Rattle.rules.specs.Calls.{maxRead}
+use Rattle.correct.proofs.Ends.{drive-fewer}
+use Rattle.correct.proofs.InTurn.{both}
+
+-- The largest F of demand 3: GapSize's, at k = 31, confirm 255 and 16,777,216 keys.
+abbrev pub maxF : ℕ
+maxF = 503317293
+
+-- What a pass that is fed w bytes can count.
+pub record Limited (w : ℕ) (p : Pass) : Type 0 where
+  pub turns : p .turns ≤ 2 * w
+  pub lookups : p .lookups ≤ 1 + w * maxF
+  pub attempts : p .attempts ≤ 2 * w
+  pub accepted : p .accepted ≤ 2 * w
+
+pub length-keys : (bytes : List ℕ) (i n : ℕ) → length (keysFrom bytes i n) ≡ n
+unfolding keysFrom
+length-keys bytes i zero = refl
+length-keys bytes i (suc n) = ap suc (length-keys bytes (suc i) n)
+
+module _ (bytes : List ℕ) (opens : setCheck bytes ≡ none) (c : ℕ) (c-low : 1 ≤ c) (c-high : c < 256) where
+  F-le : (m : Method) → F (setOf bytes) c m ≤ maxF
+  unfolding F setOf
+  F-le One = omega arith
+  F-le Two = omega arith
+  F-le Graph = omega (arith, length-keys bytes 0 (headerN bytes), opened-n-le bytes opens)
+  F-le GapSize = omega (arith, length-keys bytes 0 (headerN bytes), opened-n-le bytes opens, opened-k-high bytes opens)
+
+  k-low : 1 ≤ setOf bytes .k
+  unfolding setOf
+  k-low = opened-k-low bytes opens
+
+  pub pass-limited : (m : Method) (fed : List ℕ) → Limited (length fed) (pass (setOf bytes) c m fed)
+  unfolding pass
+  pass-limited m fed =
+      let k = setOf bytes .k in
+      let sol = solid (setOf bytes) in
+      let ce = correctError (setOf bytes) c m in
+      let t : drive k sol ce fed .turns ≤ 2 * length fed = omega (arith, drive-turns k sol ce (steady (setOf bytes) k-low c c-low m) fed) in
+      let f = drive-fewer k sol ce fed in
+      record { turns = t; lookups = looked; attempts = omega (arith, f .attempts); accepted = omega (arith, f .accepted) }
+    where
+      looked : drive (setOf bytes .k) (solid (setOf bytes)) (correctError (setOf bytes) c m) fed .lookups ≤ 1 + length fed * maxF
+      looked = elim (decLe (setOf bytes .k) (length fed)) [
+        | yes le ↦ omega (
+          arith,
+          drive-lookups (setOf bytes .k) (solid (setOf bytes)) (correctError (setOf bytes) c m) (F (setOf bytes) c m) (fair (setOf bytes) k-low c c-low m) fed le,
+          mul-le-mul-left (length fed - setOf bytes .k) (F-le m),
+        )
+        | no gt ↦ omega (arith, drive-short (setOf bytes .k) (solid (setOf bytes)) (correctError (setOf bytes) c m) 0 fed (omega arith))
+      ]
+
+-- ---- several passes, none of them fed more than maxRead bytes
+
+abbrev pub maxCount : ℕ
+maxCount = 1 + maxRead * maxF
+
+pub record Totals (i : ℕ) (p : Pass) : Type 0 where
+  pub turns : p .turns ≤ i * maxCount
+  pub lookups : p .lookups ≤ i * maxCount
+  pub attempts : p .attempts ≤ i * maxCount
+  pub accepted : p .accepted ≤ i * maxCount
+
+pub one-total : (w : ℕ) (p : Pass) → w ≤ maxRead → Limited w p → Totals 1 p
+one-total w p h l =
+    let m = mul-le-mul-right maxF h in
+    record {
+      turns = omega (arith, l .turns);
+      lookups = omega (arith, l .lookups);
+      attempts = omega (arith, l .attempts);
+      accepted = omega (arith, l .accepted);
+    }
+
+pub add-total : (i j : ℕ) (p q : Pass) → Totals i p → Totals j q → Totals (i + j) (both p q)
+add-total i j p q a b =
+    record {
+      turns = omega (arith, a .turns, b .turns);
+      lookups = omega (arith, a .lookups, b .lookups);
+      attempts = omega (arith, a .attempts, b .attempts);
+      accepted = omega (arith, a .accepted, b .accepted);
+    }

@@ -1,0 +1,67 @@
+-- A pass of the code is one of the rules.
+use Prim.Native.Nat.{ℕ, _≤_, _<_}
+use native.Mathlib.Omega.{arith}
+use native.Mathlib.Nat.{mul-le-mul-right}
+use mathlib.Core.Path.{_≡_, sym, ap, _∙_}
+use mathlib.Core.Bool.{Bool}
+use mathlib.Core.List.{List}
+use lib.ListN.{length, take, drop}
+use Rattle.rules.specs.Letters.{kmer}
+use Rattle.rules.specs.Set.{setOf, solid}
+use Rattle.rules.specs.Driver as Rules
+use Rattle.rules.specs.Driver.{begin, drive}
+use Rattle.rules.specs.Job.{methodOf, pass}
+use Rattle.kmer.specs.declared.Header.{Header}
+use Rattle.kmer.specs.declared.Kmer.{Kmer}
+use Rattle.kmer.specs.Kmer.{HasCode}
+use Rattle.set.specs.Ready.{Ready}
+use Rattle.correct.specs.declared.Place.{Place}
+use Rattle.rules.specs.Calls.{maxRead}
+use Rattle.correct.specs.Pass.{unchanged}
+use Rattle.correct.specs.Turn.{stateOf, Countable, attemptOf, endOf}
+use Rattle.correct.proofs.Turns.{set-k}
+use Rattle.correct.proofs.Ends.{drive-short-is, drive-is, drive-long}
+use Rattle.correct.proofs.Limits.{maxF, Limited}
+
+pub countable : (w : ℕ) (p : Rules.Pass) → w ≤ maxRead → Limited w p → Countable p
+countable w p h l =
+    let m = mul-le-mul-right maxF h in
+    record {
+      turns = omega (arith, l .turns);
+      lookups = omega (arith, l .lookups);
+      attempts = omega (arith, l .attempts);
+      accepted = omega (arith, l .accepted);
+    }
+
+-- The first k-mer, copied: 1 lookup.
+abbrev pub firstPlace : ℕ → Kmer → Bool → Place
+firstPlace k y v = record { kmer = y; previous = v; at = k; done = record { written = k; turns = 0; lookups = 1; attempts = 0; accepted = 0 } }
+
+module _ (bytes starts : List ℕ) (head : Header) (ready : Ready bytes starts head) (method c : ℕ) (read : List ℕ) where
+  pass-is : pass (setOf bytes) c (methodOf method) read ≡ drive (head .k) (solid (setOf bytes)) (attemptOf bytes method c) read
+  unfolding pass
+  pass-is = ap (λ (k : ℕ). drive k (solid (setOf bytes)) (attemptOf bytes method c) read) (set-k ready)
+
+  pub pass-short : length read < head .k → pass (setOf bytes) c (methodOf method) read ≡ unchanged read
+  pass-short lt = pass-is ∙ drive-short-is (head .k) (solid (setOf bytes)) (attemptOf bytes method c) read lt
+
+  pub pass-long : head .k ≤ length read → head .k ≤ length (pass (setOf bytes) c (methodOf method) read .bytes)
+  pass-long le = rw pass-is (drive-long (head .k) (solid (setOf bytes)) (attemptOf bytes method c) read le)
+
+  pub pass-begun : (y : Kmer) (v : Bool) (out : List ℕ) → head .k ≤ length read → HasCode (head .k) (kmer (head .k) (take (head .k) read)) y
+      → v ≡ solid (setOf bytes) (y .code) → take (head .k) out ≡ take (head .k) read
+      → endOf bytes head method c (stateOf (firstPlace (head .k) y v) read out) ≡ pass (setOf bytes) c (methodOf method) read
+  unfolding stateOf begin
+  pass-begun y v out le h e same =
+      let k = head .k in
+      let sol = solid (setOf bytes) in
+      let ce = attemptOf bytes method c in
+      let v-is : v ≡ sol (kmer k (take k read)) = e ∙ ap sol (h .is) in
+      let begun : stateOf (firstPlace k y v) read out ≡ begin k sol ce read =
+      λ i. record {
+        kmer = h .is i;
+        previous = v-is i;
+        rest = drop k read;
+        done = record { bytes = same i; turns = 0; lookups = 1; attempts = 0; accepted = 0 };
+      } in
+      ap (endOf bytes head method c) begun ∙ sym (drive-is k sol ce read le) ∙ sym pass-is

@@ -1,0 +1,22 @@
+use native.Mathlib.Omega.{arith}
+use borrow.Author.Needs.{needs}
+use Rattle.correct.proofs.copied.Statement.{statement}
+use Rattle.correct.proofs.copied.Tie as tie
+
+returns : tie.Need-returns
+returns c = search needs
+
+copy-requires : tie.Need-copy-requires
+copy-requires c κs = search needs
+
+same-length : tie.Need-same-length
+same-length c = search needs
+
+returns-2 : tie.Need-returns-2
+returns-2 c =
+    let copied = c .before .before .copy in
+    let read = c .before .before .before .before .before .before .before .args .read .now in
+    (λ i. record { bytes = copied .ensures i; turns = 0; lookups = 0; attempts = 0; accepted = 0 }, omega arith)
+
+pub copied-spec : {M : Type 1} → statement M
+copied-spec = tie.close (tie.spec returns copy-requires same-length returns-2)

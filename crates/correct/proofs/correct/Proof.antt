@@ -1,0 +1,116 @@
+use Prim.Native.Nat.{ℕ}
+use native.Mathlib.Omega.{arith}
+use mathlib.Core.Path.{_≡_, refl, sym, _∙_, subst, subst₂}
+use lib.Seq.{length-take-le}
+use borrow.Author.Needs.{needs}
+use Rattle.rules.specs.Set.{setOf}
+use Rattle.rules.specs.Driver as Rules
+use Rattle.rules.specs.Job.{methodOf, pass}
+use Rattle.correct.specs.Pass.{PassIs}
+use Rattle.correct.specs.Turn.{stateOf, Countable, endOf}
+use Rattle.correct.proofs.Limits.{pass-limited}
+use Rattle.correct.proofs.Passes.{countable, firstPlace, pass-short, pass-long, pass-begun}
+use Rattle.correct.proofs.correct.Statement.{statement}
+use Rattle.correct.proofs.correct.Tie as tie
+
+copied-requires : tie.Need-copied-requires
+copied-requires c κs = search needs
+
+same-length : tie.Need-same-length
+same-length c = search needs
+
+returns : tie.Need-returns
+returns c =
+    let q = c .before .before in
+    let s = q .before .before .before .before .before .before .before in
+    let a = s .args in
+    record {
+      is = rw (pass-short _ _ (a .head) (s .pre .0) (a .method) (a .c) (a .read .now) (q .before .before .if1 .taken)) (q .copied .ensures);
+      room = q .copied .kept .1 .0;
+    }
+
+returns-2 : tie.Need-returns-2
+returns-2 c =
+    let s = c .before .before .before .before .before .before in
+    let a = s .args in
+    record {
+      is = omega (arith, pass-long _ _ (a .head) (s .pre .0) (a .method) (a .c) (a .read .now) (c .before .if1 .left), c .if2 .taken);
+      room = refl;
+    }
+
+slice-aggregate-copy : tie.Need-slice-aggregate-copy
+slice-aggregate-copy c =
+    let e = c .before .before in
+    let a = e .before .before .before .before .before .args in
+    sym (length-take-le (a .head .k) (a .read .now) (e .if1 .left))
+
+copy-requires : tie.Need-copy-requires
+copy-requires c κs =
+    let e = c .before .before .before in
+    let a = e .before .before .before .before .before .args in
+    omega (arith, length-take-le (a .head .k) (a .read .now) (e .if1 .left), c .before .before .if2 .left)
+
+seq2bit-requires : tie.Need-seq2bit-requires
+seq2bit-requires c κs = search needs
+
+get-requires : tie.Need-get-requires
+get-requires c κs = search needs
+
+-- The pass from its first place.
+begun : (c : tie.After-get)
+    → let p = c .before .before .before .before in
+    let a = p .before .before .before .before .before .before .before .before .before .args in
+    endOf (a .set .now) (a .head) (a .method) (a .c)
+    (stateOf (firstPlace (a .head .k) (c .before .seq2bit .result) (c .get .result)) (a .read .now) (p .copy .last .1 .0))
+    ≡ pass (setOf (a .set .now)) (a .c) (methodOf (a .method)) (a .read .now)
+begun c =
+    let p = c .before .before .before .before in
+    let e = p .before .before .before .before in
+    let s = e .before .before .before .before .before in
+    let a = s .args in
+    let k-is = length-take-le (a .head .k) (a .read .now) (e .if1 .left) in
+    pass-begun _ _ (a .head) (s .pre .0) (a .method) (a .c) (a .read .now) (c .before .seq2bit .result) (c .get .result) (p .copy .last .1 .0)
+    (e .if1 .left) (c .before .seq2bit .ensures) (c .get .ensures) (rw k-is at (p .copy .ensures))
+
+turns-of-requires : tie.Need-turns-of-requires
+turns-of-requires c κs =
+    let g = c .before in
+    let p = g .before .before .before .before in
+    let e = p .before .before .before .before in
+    let s = e .before .before .before .before .before in
+    let a = s .args in (
+      s .pre .0,
+      s .pre .1,
+      record { kmer = g .before .seq2bit .ensures .kmer; at = e .if1 .left; written = omega (arith, p .copy .kept .1 .0, p .before .before .before .if2 .left) },
+      subst Countable (sym (begun g))
+          (countable _ _ (s .pre .2) (pass-limited _ (s .pre .0 .opens) (a .c) (s .pre .1) (s .fits .c .fits) (methodOf (a .method)) (a .read .now))),
+    )
+
+same-length-2 : tie.Need-same-length-2
+same-length-2 c = search needs
+
+returns-3 : tie.Need-returns-3
+returns-3 c =
+    let t = c .before .before in
+    let g = t .before .before in
+    let copied = g .before .before .before .before .copy .kept .1 .0 in
+    record {
+      is = subst₂ (λ (room : ℕ) (n : Rules.Pass). PassIs room (t .turns-of .last .1 .1 .1 .1 .1 .1 .1 .0) n (t .turns-of .result)) copied (begun g) (t .turns-of .ensures);
+      room = t .turns-of .kept .1 .1 .1 .1 .1 .1 .1 .0 ∙ copied;
+    }
+
+pub correct-spec : {M : Type 1} → statement M
+correct-spec =
+    tie.close
+    (tie.spec
+    copied-requires
+    same-length
+    returns
+    returns-2
+    slice-aggregate-copy
+    copy-requires
+    seq2bit-requires
+    get-requires
+    turns-of-requires
+    same-length-2
+    returns-3)

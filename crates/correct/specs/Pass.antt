@@ -1,0 +1,26 @@
+-- A pass: what its answer means by the rules.
+use Prim.Native.Nat.{ℕ, _≤_, _<_}
+use mathlib.Core.Path.{_≡_}
+use mathlib.Core.List.{List}
+use lib.ListN.{length, take}
+use Rattle.rules.specs.Driver as rules
+use Rattle.correct.specs.declared.Counts.{Counts}
+use Rattle.correct.specs.declared.Pass.{Pass}
+use Rattle.correct.specs.declared.Pass.the-variants.{Done, Full}
+
+-- Counts, with the bytes at the front of the output, as the rules' pass.
+abbrev pub passOf : Counts → List ℕ → rules.Pass
+passOf n out = record { bytes = take (n .written) out; turns = n .turns; lookups = n .lookups; attempts = n .attempts; accepted = n .accepted }
+
+-- A read returned unchanged, counts zero.
+abbrev pub unchanged : List ℕ → rules.Pass
+unchanged read = record { bytes = read; turns = 0; lookups = 0; attempts = 0; accepted = 0 }
+
+-- The answer to the rules' pass n: its counts, and its bytes at the front of the output; Full where they are more than its room.
+abbrev pub PassIs : ℕ → List ℕ → rules.Pass → Pass → Type 0
+PassIs room out n (Done r) = (passOf r out ≡ n) × (r .written ≤ length out)
+PassIs room out n Full = room < length (n .bytes)
+
+pub record Passed (out out′ : List ℕ) (n : rules.Pass) (r : Pass) : Type 0 where
+  pub is : PassIs (length out) out′ n r
+  pub room : length out′ ≡ length out

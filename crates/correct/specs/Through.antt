@@ -1,0 +1,55 @@
+-- Document 01, "Records", Job and Counts, and refusal 11: a read through a list of methods.
+use Prim.Native.Nat.{ℕ, _+_, _≤_, _<_, _%_}
+use mathlib.Core.Path.{_≡_}
+use mathlib.Core.Bool.{true, false}
+use mathlib.Core.List.{List, []}
+use lib.ListN.{length}
+use lib.Dec.{eqb}
+use Rattle.rules.specs.Set.{KmerSet}
+use Rattle.rules.specs.Driver as rules
+use Rattle.rules.specs.Job.{Method, methodsOf, result}
+use Rattle.rules.specs.Counts.{Fed, sum, passesOf, turns, lookups, attempts, corrections}
+use Rattle.rules.specs.Calls.{longest}
+use Rattle.correct.specs.declared.Pass.{Pass}
+use Rattle.correct.specs.declared.Pass.the-variants.{Done, Full}
+use Rattle.correct.specs.declared.Counts.{Counts}
+use Rattle.correct.specs.Pass.{passOf}
+
+-- The methods' result, and what their passes count.
+unfoldable pub through : KmerSet → ℕ → List Method → List ℕ → rules.Pass
+unfolding result sum passesOf turns lookups attempts corrections
+through set c ms read =
+    let ps : List Fed = passesOf set c ms read in
+    record {
+      bytes = result set c ms read;
+      turns = sum (turns set c) ps;
+      lookups = sum (lookups set c) ps;
+      attempts = sum (attempts set c) ps;
+      accepted = sum (corrections set c) ps;
+    }
+
+-- The answer to a read through a list of methods: the result with its counts; Full exactly where a pass result (the read, if no
+-- methods) is longer than the room.
+abbrev pub ThroughIs : KmerSet → ℕ → List Method → List ℕ → ℕ → List ℕ → Pass → Type 0
+ThroughIs set c ms read room out (Done r) = (passOf r out ≡ through set c ms read) × (r .written ≤ length out) × (longest set c ms [] ms read ≤ room)
+ThroughIs set c ms read room out Full = room < longest set c ms [] ms read
+
+pub record Through (set : KmerSet) (c : ℕ) (methods read output output′ work work′ : List ℕ) (r : Pass) : Type 0 where
+  pub is : ThroughIs set c (methodsOf methods) read (length output) output′ r
+  pub output-room : length output′ ≡ length output
+  pub work-room : length work′ ≡ length work
+
+-- The buffer that holds what is read while n passes are left: the last pass ends in the output.
+unfoldable pub held : ℕ → List ℕ → List ℕ → List ℕ
+held n output work = elim (eqb (n % 2) 0) [ true ↦ output | false ↦ work ]
+
+-- The counts of passes so far and of the next.
+abbrev pub joined : Counts → Counts → Counts
+joined a b =
+    record {
+      written = b .written;
+      turns = a .turns + b .turns;
+      lookups = a .lookups + b .lookups;
+      attempts = a .attempts + b .attempts;
+      accepted = a .accepted + b .accepted;
+    }

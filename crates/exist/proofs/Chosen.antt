@@ -1,0 +1,151 @@
+-- One base more, and the choice among the scenarios kept.
+use Prim.Native.Nat.{ℕ, zero, suc, _+_, _-_, _≤_, _<_}
+use native.Mathlib.Omega.{arith}
+use native.Mathlib.Numerals.{add-one}
+use native.Mathlib.Nat.{eq-or-lt-of-le}
+use mathlib.Core.Logic.{_⊎_, inl, inr}
+use mathlib.Core.Path.{_≡_, refl, sym, ap, _∙_}
+use mathlib.Core.Bool.{Bool, true, false}
+use mathlib.Core.Option.{Option, none, some}
+use mathlib.Core.List.{List, [], _∷_, _++_, map, map-append}
+use lib.ListN.{length, take, drop, getD, set, replicate, length-map, List·getD-map, drop-of-length-le}
+use lib.Seq.{length-take-le, getD-take, drop-cons, take-suc-set, getD-set-same, getD-set-other}
+use borrow.Author.Tests.{lt-ltb, le-ltb}
+use Rattle.rules.specs.Letters.{inPlace, addAll}
+use Rattle.rules.specs.Counted.{Counted, Try, refuse, give, after, _>>_}
+use Rattle.rules.specs.Scan.{only, isSolid}
+use Rattle.rules.specs.Exist.{Mend, cons, oneMore, oneMoreOf, choose}
+use Rattle.scenario.proofs.Trials.{solid-yes, solid-no, refused-then, given-then}
+use Rattle.scenario.specs.declared.Mend.{Mend as Kept}
+use Rattle.scenario.specs.Scenario.{mendOf, Small}
+use Rattle.exist.specs.declared.More.{More}
+use Rattle.exist.specs.Exist.{blank, moreOf}
+
+-- ---- one base more
+
+module _ (k : ℕ) (sol : ℕ → Bool) (c : ℕ) (s : List ℕ) (y : ℕ) (m : Mend) where
+  pub more-short : length s ≤ c + m .resume + 1 → moreOf m (record { solid = false; lookups = 0 }) ≡ oneMore k sol c s y m
+  unfolding oneMore refuse
+  more-short h = rw (le-ltb (c + m .resume + 1) (length s) h, oneMore)
+
+  -- the answer p to the lookup of z
+  asked : (z : ℕ) (p : Bool) → p ≡ sol z → moreOf m (record { solid = p; lookups = 1 }) ≡ isSolid k sol z >> give m
+  unfolding give after
+  asked z true e = sym (given-then (give m) (solid-yes k sol z (sym e)))
+  asked z false e = sym (refused-then (give m) (solid-no k sol z (sym e)))
+
+  pub more-long : {e z : ℕ} {p : Bool} → c + m .resume + 1 < length s → e ≡ c + m .resume + 1
+      → z ≡ addAll k (inPlace k y (m .letters)) (take (e - m .resume) (drop (m .resume) s)) → p ≡ sol z
+      → moreOf m (record { solid = p; lookups = 1 }) ≡ oneMore k sol c s y m
+  unfolding oneMore
+  more-long {e} {z} {p} h f q r =
+      let n : e - m .resume ≡ c + 1 = omega arith in
+      rw (lt-ltb (c + m .resume + 1) (length s) h, oneMore)
+      (asked _ p (r ∙ ap sol (q ∙ ap (λ (i : ℕ). addAll k (inPlace k y (m .letters)) (take i (drop (m .resume) s))) n)))
+
+-- ---- the mends of the group
+
+module _ (l : List Kept) (n : ℕ) (h : n ≤ length l) where
+  abbrev mends : List Mend
+  mends = map mendOf (take n l)
+
+  pub mends-length : length mends ≡ n
+  mends-length = length-map (take n l) mendOf ∙ length-take-le n l h
+
+  pub mends-cons : (i : ℕ) → i < n → drop i mends ≡ mendOf (getD l i blank) ∷ drop (i + 1) mends
+  mends-cons i g =
+      let e : getD mends i (mendOf blank) ≡ mendOf (getD l i blank) = List·getD-map mendOf (take n l) i blank ∙ ap mendOf (getD-take n l i blank g) in
+      drop-cons mends i (mendOf blank) (omega (arith, mends-length)) ∙ rw (e, add-one)
+
+  pub mends-one : n ≡ 1 → mends ≡ mendOf (getD l 0 blank) ∷ []
+  mends-one e = mends-cons 0 (omega arith) ∙ rw (drop-of-length-le mends {i = 0 + 1} (omega (arith, mends-length)))
+
+-- one more stored behind the n of the group
+module _ (l : List Kept) (n : ℕ) (m : Kept) (h : n < length l) where
+  pub mends-store : map mendOf (take (n + 1) (set l n m)) ≡ map mendOf (take n l) ++ (mendOf m ∷ [])
+  mends-store = rw (add-one, take-suc-set l n m h) (map-append mendOf (take n l) (m ∷ []))
+
+  pub small-store : Small m → ((i : ℕ) → i < n → Small (getD l i blank)) → (i : ℕ) → i < n + 1 → Small (getD (set l n m) i blank)
+  small-store q r i g = let le : i ≤ n = omega arith in go (eq-or-lt-of-le le)
+    where
+      go : (i ≡ n) ⊎ (i < n) → Small (getD (set l n m) i blank)
+      go (inl e) = rw (e, getD-set-same l n m blank h) q
+      go (inr e) = rw (getD-set-other l n i m blank (λ z. omega arith)) (r i e)
+
+-- ---- the choice
+
+only-next : (n : ℕ) (m m′ : Mend) (l : List Mend) → only (replicate n m ++ (m′ ∷ l)) ≡ only (replicate (suc n) m′ ++ l)
+unfolding only
+only-next zero m m′ l = refl
+only-next (suc zero) m m′ l = refl
+only-next (suc (suc n)) m m′ l = refl
+
+-- n remain, of which m is the last, after l lookups, with those from i on still to be asked
+module _ (k : ℕ) (sol : ℕ → Bool) (c : ℕ) (s : List ℕ) (y : ℕ) (ms : List Mend) where
+  abbrev of : List Mend → Counted (List Mend)
+  of = oneMoreOf k sol c s y
+
+  pub record Asked (i n : ℕ) (m : Mend) (l : ℕ) : Type 0 where
+    pub answer : only (of ms .answer) ≡ only (replicate n m ++ of (drop i ms) .answer)
+    pub lookups : of ms .lookups ≡ l + of (drop i ms) .lookups
+
+  pub asked-none : (m : Mend) → Asked 0 0 m 0
+  asked-none m = record { answer = refl; lookups = omega arith }
+
+  module _ {i n l : ℕ} {m m′ : Mend} (r : More) (is : Asked i n m l) (here : drop i ms ≡ m′ ∷ drop (i + 1) ms)
+      (more : moreOf m′ r ≡ oneMore k sol c s y m′) where
+    abbrev rest : Counted (List Mend)
+    rest = of (drop (i + 1) ms)
+
+    next : of (drop i ms) ≡ record { answer = cons (moreOf m′ r .answer) (rest .answer); lookups = r .lookups + rest .lookups }
+    unfolding oneMoreOf
+    next = ap of here ∙ rw (← more)
+
+    paid : of ms .lookups ≡ l + r .lookups + rest .lookups
+    paid = omega (arith, is .lookups, ap (λ (t : Counted (List Mend)). t .lookups) next)
+
+    kept : only (of ms .answer) ≡ only (replicate n m ++ cons (moreOf m′ r .answer) (rest .answer))
+    kept = is .answer ∙ ap (λ (t : Counted (List Mend)). only (replicate n m ++ t .answer)) next
+
+    pub asked-yes : r .solid ≡ true → Asked (i + 1) (n + 1) m′ (l + r .lookups)
+    unfolding cons
+    asked-yes e = record { answer = rw (add-one n) (rw e at kept ∙ only-next n m m′ (rest .answer)); lookups = paid }
+
+    pub asked-no : r .solid ≡ false → Asked (i + 1) n m (l + r .lookups)
+    unfolding cons
+    asked-no e = record { answer = rw e at kept; lookups = paid }
+
+  -- ---- at the end
+
+  choose-many : (l : List Mend) → (length l ≡ 1 → ⊥) → choose k sol c s y l ≡ record { answer = only (of l .answer); lookups = of l .lookups }
+  unfolding choose oneMoreOf only refuse
+  choose-many [] h = refl
+  choose-many (m ∷ []) h = absurd (h refl)
+  choose-many (m ∷ m′ ∷ l) h = refl
+
+  module _ {i n l : ℕ} {m : Mend} (many : length ms ≡ 1 → ⊥) (is : Asked i n m l) (end : length ms ≤ i) where
+    whole : choose k sol c s y ms ≡ record { answer = only (replicate n m ++ []); lookups = l }
+    unfolding oneMoreOf
+    whole =
+        let e : drop i ms ≡ [] = drop-of-length-le ms end in
+        let a : only (replicate n m ++ of (drop i ms) .answer) ≡ only (replicate n m ++ []) = rw e in
+        let b : l + of (drop i ms) .lookups ≡ l = rw e (omega arith) in
+        choose-many ms many ∙ (λ j. record { answer = (is .answer ∙ a) j; lookups = (is .lookups ∙ b) j })
+
+    pub choose-found : n ≡ 1 → choose k sol c s y ms ≡ record { answer = some m; lookups = l }
+    unfolding only
+    choose-found e = whole ∙ rw e
+
+    pub choose-refused : (n ≡ 1 → ⊥) → choose k sol c s y ms ≡ record { answer = none; lookups = l }
+    unfolding only
+    choose-refused h = whole ∙ (λ j. record { answer = not-one n h j; lookups = l })
+      where
+        not-one : (a : ℕ) → (a ≡ 1 → ⊥) → only (replicate a m ++ []) ≡ none
+        not-one zero g = refl
+        not-one (suc zero) g = absurd (g refl)
+        not-one (suc (suc a)) g = refl
+
+pub choose-one : (k : ℕ) (sol : ℕ → Bool) (c : ℕ) (s : List ℕ) (y : ℕ) (ms : List Mend) {m : Mend} → ms ≡ m ∷ []
+    → choose k sol c s y ms ≡ record { answer = some m; lookups = 0 }
+unfolding choose give
+choose-one k sol c s y ms e = rw e

@@ -1,0 +1,66 @@
+-- The letters of a mend: the last ones of a k-mer, first one first.
+use Prim.Native.Nat.{ℕ, zero, suc, _+_, _*_, _-_, _/_, _%_, _^_, _≤_, _<_}
+use native.Mathlib.Omega.{arith}
+use native.Mathlib.Nat.{pow-succ', div-div-eq-div-mul, add-suc, div-one}
+use mathlib.Core.Path.{_≡_, refl, sym, ap, _∙_}
+use mathlib.Core.List.{List, [], _∷_, _++_}
+use native.Mathlib.Numerals.{add-one}
+use lib.ListN.{length, getD, take, drop, set, length-append, List·getD-append, drop-of-length-le}
+use lib.Seq.{getD-at, drop-cons, take-suc, take-suc-set, take-all}
+use lib.Bits.{bitAnd, and-mask}
+use Rattle.rules.specs.Letters.{code, letter, lastLetter, last, addBase, addAll, inPlace}
+use Rattle.rules.proofs.Kmer.{two-four, code-letter}
+use Rattle.scenario.specs.declared.Mend.{Mend}
+use Rattle.exist.specs.Exist.{LetterIs}
+
+pub last-length : (n y : ℕ) → length (last n y) ≡ n
+unfolding last
+last-length zero y = refl
+last-length (suc n) y = let i = last-length n (y / 4) in omega (arith, length-append (last n (y / 4)) (lastLetter y ∷ []))
+
+-- letter i of n, with j letters behind it
+last-at : (n i j y : ℕ) → n ≡ i + suc j → getD (last n y) i 0 ≡ letter (y / 4 ^ j % 4)
+unfolding last lastLetter
+last-at zero i j y e = absurd (omega arith)
+last-at (suc n) i zero y e =
+    let l : length (last n (y / 4)) ≡ i = last-length n (y / 4) ∙ omega arith in
+    getD-at (last n (y / 4)) _ [] 0 i l ∙ rw (div-one y)
+last-at (suc n) i (suc j) y e =
+    let l = last-length n (y / 4) in
+    let q = last-at n i j (y / 4) (omega arith) in
+    List·getD-append (last n (y / 4)) _ 0 i (omega arith) ∙ q ∙ rw (div-div-eq-div-mul, pow-succ')
+
+pub letter-is : (m : Mend) (i : ℕ) → i < m .letters → LetterIs m i (bitAnd (m .code / 2 ^ (2 * (m .letters - 1 - i))) 3)
+letter-is m i h =
+    let j = m .letters - 1 - i in
+    let e = and-mask (m .code / 2 ^ (2 * j)) 2 in
+    record {
+      is = last-at (m .letters) i j (m .code) (omega arith) ∙ ap letter (ap (λ (p : ℕ). m .code / p % 4) (sym (two-four j)) ∙ sym e);
+      small = omega arith;
+    }
+
+pub letter-code : {m : Mend} {i a : ℕ} → LetterIs m i a → a ≡ code (getD (last (m .letters) (m .code)) i 0)
+letter-code {a = a} q = sym (ap code (q .is) ∙ code-letter a (q .small))
+
+-- letter i of l written after those before it
+pub write-next : (out l : List ℕ) (i : ℕ) {v : ℕ} → i < length out → i < length l → take i out ≡ take i l → v ≡ getD l i 0
+    → take (i + 1) (set out i v) ≡ take (i + 1) l
+write-next out l i h g e q = rw (add-one, take-suc-set out i _ h, take-suc l i 0 g, e, q)
+
+pub write-end : (out l : List ℕ) (i n : ℕ) → i ≡ n → length l ≤ i → take i out ≡ take i l → take n out ≡ l
+write-end out l i n e h q = rw (← e) (q ∙ take-all i l h)
+
+-- ---- bases added one by one
+
+module _ (k z : ℕ) (bs : List ℕ) (i : ℕ) where
+  pub add-next : {z′ : ℕ} → i < length bs → z′ ≡ addBase k z (getD bs i 0) → addAll k z (drop i bs) ≡ addAll k z′ (drop (i + 1) bs)
+  unfolding addAll
+  add-next h e = rw (drop-cons bs i 0 h, add-one, e)
+
+  pub add-end : length bs ≤ i → addAll k z (drop i bs) ≡ z
+  unfolding addAll
+  add-end h = rw (drop-of-length-le bs h)
+
+pub placed : (k y : ℕ) (l : List ℕ) {z z′ : ℕ} → z ≡ y / 4 → addAll k z l ≡ z′ → z′ ≡ inPlace k y l
+unfolding inPlace
+placed k y l e q = sym q ∙ ap (λ (w : ℕ). addAll k w l) e

@@ -1,0 +1,4 @@
+pub mod Letters
+pub mod Scores
+pub mod Chosen
+pub mod Whole

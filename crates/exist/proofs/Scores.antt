@@ -1,0 +1,184 @@
+-- The scenarios' scores, and which of them are kept.
+use Prim.Native.Nat.{ℕ, zero, suc, _+_, _-_, _≤_, _<_}
+use native.Mathlib.Omega.{arith}
+use native.Mathlib.Numerals.{add-one}
+use mathlib.Core.Path.{_≡_, refl, sym, ap, _∙_}
+use mathlib.Core.Bool.{Bool, true, false}
+use mathlib.Core.Option.{Option, none, some}
+use mathlib.Core.List.{List, [], _∷_, _++_, append-assoc, append-nil}
+use lib.Dec.{eqb, ltb, lit≤}
+use lib.ListN.{length, take, drop, getD, drop-of-length-le}
+use lib.Seq.{drop-cons, slice, slice-cons, slice-empty, take-add, drop-at, length-take-le}
+use borrow.Author.Tests.{lt-ltb, le-ltb, eq-eqb, ne-eqb}
+use Rattle.rules.specs.Letters.{addBase}
+use Rattle.rules.specs.Counted.{Counted, Try, after, refuse, _>>=_}
+use Rattle.rules.specs.Exist.{Scenario, Mend, cons, one, two, solidRun, score, keep, tried, kept}
+use Rattle.scenario.specs.Scenario.{numberOf, scenarios, nth, trialOf}
+use Rattle.scenario.proofs.Trials.{trial-short, trial-long, refused-bind, given-bind}
+use Rattle.exist.specs.Exist.{confirm}
+
+module _ (k : ℕ) (sol : ℕ → Bool) (c : ℕ) (s : List ℕ) (pos : 1 ≤ c) (sc : Scenario) where
+  -- ---- before any base is added
+
+  tried-by : tried k sol c s sc ≡ trialOf s sc >>= keep k sol c s sc
+  unfolding tried trialOf refuse _>>=_ after
+  tried-by = go (ltb (length s) (sc .least)) refl
+    where
+      go : (q : Bool) → ltb (length s) (sc .least) ≡ q → tried k sol c s sc ≡ trialOf s sc >>= keep k sol c s sc
+      go true e = rw (e, tried, trialOf) refl
+      go false e = rw (e, tried, trialOf) refl
+
+  keep-none : {n : ℕ} (t : ℕ) → score k sol c s (sc .o) t ≡ record { answer = 0; lookups = n } → keep k sol c s sc t ≡ record { answer = none; lookups = n }
+  unfolding keep
+  keep-none t e = rw (e, keep, ne-eqb 0 c (λ z. omega arith))
+
+  module _ {l : ℕ} where
+    pub eligible-none : trialOf s sc ≡ record { answer = none; lookups = l } → tried k sol c s sc ≡ record { answer = none; lookups = l }
+    eligible-none e = tried-by ∙ refused-bind (keep k sol c s sc) e
+
+    module _ {t : ℕ} (e : trialOf s sc ≡ record { answer = some t; lookups = l }) where
+      pub eligible-weak : sol t ≡ false → tried k sol c s sc ≡ record { answer = none; lookups = l + 1 }
+      unfolding score after
+      eligible-weak f = tried-by ∙ given-bind (keep k sol c s sc) e ∙ rw (keep-none {n = 1} t (rw (f, score)))
+
+      pub eligible-short : sol t ≡ true → length s < sc .o + c → tried k sol c s sc ≡ record { answer = none; lookups = l + 1 }
+      unfolding score after
+      eligible-short f h = tried-by ∙ given-bind (keep k sol c s sc) e ∙ rw (keep-none {n = 1} t (rw (f, score, lt-ltb (length s) (sc .o + c) h)))
+
+      pub eligible-on : sol t ≡ true → sc .o + c ≤ length s → tried k sol c s sc ≡ after (l + 1) (confirm k sol c s sc t)
+      unfolding score after confirm keep
+      eligible-on f h =
+          tried-by
+          ∙ given-bind (keep k sol c s sc) e
+          ∙ rw (f, keep, score, le-ltb (length s) (sc .o + c) h)
+          (let n = solidRun k sol t (take c (drop (sc .o) s)) .lookups in
+          let z : l + (1 + n) ≡ l + 1 + n = omega arith in
+          λ i. record { answer = confirm k sol c s sc t .answer; lookups = z i })
+
+-- ---- the bases added
+
+-- t at index o leads to z at index j, all solid between; e is the end
+module _ (k : ℕ) (sol : ℕ → Bool) (o e : ℕ) (s : List ℕ) (t : ℕ) where
+  abbrev from : ℕ → ℕ → Counted ℕ
+  from j z = solidRun k sol z (slice j e s)
+
+  pub record Run (j z : ℕ) : Type 0 where
+    pub answer : from o t .answer ≡ (j - o) + from j z .answer
+    pub lookups : from o t .lookups ≡ (j - o) + from j z .lookups
+
+  pub run-none : Run o t
+  run-none = record { answer = omega arith; lookups = omega arith }
+
+  module _ {j z z′ : ℕ} {p : Bool} (r : Run j z) (l : o ≤ j) (h : j < e) (g : e ≤ length s) (z-is : z′ ≡ addBase k z (getD s j 0)) (p-is : p ≡ sol z′) where
+    asked : {q : Bool} → p ≡ q → sol (addBase k z (getD s j 0)) ≡ q
+    asked f = ap sol (sym z-is) ∙ sym p-is ∙ f
+
+    pub run-on : p ≡ true → Run (j + 1) z′
+    unfolding solidRun
+    run-on f =
+        let n : from j z ≡ record { answer = suc (from (j + 1) z′ .answer); lookups = suc (from (j + 1) z′ .lookups) } =
+        rw (slice-cons j e s 0 h g, solidRun, asked f, ← z-is, add-one) in
+        record {
+          answer = omega (arith, r .answer, ap (λ (m : Counted ℕ). m .answer) n);
+          lookups = omega (arith, r .lookups, ap (λ (m : Counted ℕ). m .lookups) n);
+        }
+
+    pub run-bad : p ≡ false → from o t ≡ record { answer = j - o; lookups = j - o + 1 }
+    unfolding solidRun
+    run-bad f =
+        let n : from j z ≡ record { answer = 0; lookups = 1 } = rw (slice-cons j e s 0 h g, solidRun, asked f) in
+        let a : from o t .answer ≡ j - o = omega (arith, r .answer, ap (λ (m : Counted ℕ). m .answer) n) in
+        let b : from o t .lookups ≡ j - o + 1 = omega (arith, r .lookups, ap (λ (m : Counted ℕ). m .lookups) n) in
+        λ i. record { answer = a i; lookups = b i }
+
+  pub run-all : {j z : ℕ} → Run j z → e ≤ j → j ≤ e → from o t ≡ record { answer = e - o; lookups = e - o }
+  unfolding solidRun
+  run-all {j} {z} r h g =
+      let q : j ≡ e = omega arith in
+      let n : from j z ≡ record { answer = 0; lookups = 0 } = rw (q, slice-empty e s) in
+      let a : from o t .answer ≡ e - o = omega (arith, r .answer, ap (λ (m : Counted ℕ). m .answer) n) in
+      let b : from o t .lookups ≡ e - o = omega (arith, r .lookups, ap (λ (m : Counted ℕ). m .lookups) n) in
+      λ i. record { answer = a i; lookups = b i }
+
+-- ---- the c bases of a scenario
+
+part : (o c : ℕ) (s : List ℕ) → o + c ≤ length s → slice o (o + c) s ≡ take c (drop o s)
+part o c s h = rw (take-add o c s) (drop-at (take o s) (take c (drop o s)) o (length-take-le o s (omega arith)))
+
+module _ (k : ℕ) (sol : ℕ → Bool) (c : ℕ) (s : List ℕ) (sc : Scenario) (o t : ℕ) (o-is : o ≡ sc .o)
+    (long : sc .o + c ≤ length s)
+    {a n : ℕ}
+    (run : solidRun k sol t (slice o (o + c) s) ≡ record { answer = a; lookups = n })
+    (l : ℕ)
+    (left : tried k sol c s sc ≡ after l (confirm k sol c s sc t)) where
+  bases : solidRun k sol t (take c (drop (sc .o) s)) ≡ record { answer = a; lookups = n }
+  bases = ap (solidRun k sol t) (sym (part o c s (rw o-is long) ∙ ap (λ (i : ℕ). take c (drop i s)) o-is)) ∙ run
+
+  pub tried-bad : a < c → tried k sol c s sc ≡ record { answer = none; lookups = l + n }
+  unfolding confirm after
+  tried-bad h = left ∙ rw (bases, confirm, ne-eqb a c (λ e. omega arith))
+
+  pub tried-all : a ≡ c → tried k sol c s sc ≡ record { answer = some (record { letters = sc .letters t; resume = sc .r }); lookups = l + n }
+  unfolding confirm after
+  tried-all h = left ∙ rw (bases, confirm, eq-eqb a c h)
+
+-- ---- the scenarios in their order
+
+nth-cons : (scs : List Scenario) (i : ℕ) → i < length scs → drop i scs ≡ nth scs i ∷ drop (i + 1) scs
+unfolding nth
+nth-cons scs i h = rw (add-one) (drop-cons scs i _ h)
+
+module _ (k : ℕ) (sol : ℕ → Bool) (c : ℕ) (s : List ℕ) (scs : List Scenario) where
+  abbrev of : List Scenario → Counted (List Mend)
+  of = kept k sol c s
+
+  -- ms are kept of the first i, after l lookups
+  pub record Done (i : ℕ) (ms : List Mend) (l : ℕ) : Type 0 where
+    pub answer : of scs .answer ≡ ms ++ of (drop i scs) .answer
+    pub lookups : of scs .lookups ≡ l + of (drop i scs) .lookups
+
+  pub done-none : Done 0 [] 0
+  done-none = record { answer = refl; lookups = omega arith }
+
+  module _ {i l : ℕ} {ms : List Mend} (d : Done i ms l) (h : i < length scs) where
+    abbrev rest : Counted (List Mend)
+    rest = of (drop (i + 1) scs)
+
+    module _ {n : ℕ} {o : Option Mend} (e : tried k sol c s (nth scs i) ≡ record { answer = o; lookups = n }) where
+      next : of (drop i scs) ≡ record { answer = cons o (rest .answer); lookups = n + rest .lookups }
+      unfolding kept
+      next = rw (nth-cons scs i h, kept, e)
+
+      answered : of scs .answer ≡ ms ++ cons o (rest .answer)
+      answered = d .answer ∙ ap (λ (t : Counted (List Mend)). ms ++ t .answer) next
+
+      paid : of scs .lookups ≡ l + n + rest .lookups
+      paid = omega (arith, d .lookups, ap (λ (t : Counted (List Mend)). t .lookups) next)
+
+    pub done-refused : {n : ℕ} → tried k sol c s (nth scs i) ≡ record { answer = none; lookups = n } → Done (i + 1) ms (l + n)
+    unfolding cons
+    done-refused e = record { answer = answered e; lookups = paid e }
+
+    pub done-kept : {n : ℕ} {m : Mend} → tried k sol c s (nth scs i) ≡ record { answer = some m; lookups = n } → Done (i + 1) (ms ++ (m ∷ [])) (l + n)
+    unfolding cons
+    done-kept {m = m} e = record { answer = answered e ∙ sym (append-assoc ms (m ∷ []) (rest .answer)); lookups = paid e }
+
+  module _ {i l : ℕ} {ms : List Mend} (d : Done i ms l) (h : length scs ≤ i) where
+    ended : of (drop i scs) ≡ record { answer = []; lookups = 0 }
+    unfolding kept
+    ended = rw (drop-of-length-le scs h)
+
+    pub done-answer : of scs .answer ≡ ms
+    done-answer = d .answer ∙ ap (λ (t : Counted (List Mend)). ms ++ t .answer) ended ∙ append-nil ms
+
+    pub done-lookups : of scs .lookups ≡ l
+    done-lookups = omega (arith, d .lookups, ap (λ (t : Counted (List Mend)). t .lookups) ended)
+
+pub scenarios-length : (b : Bool) (k : ℕ) (sol : ℕ → Bool) (x : ℕ) (s : List ℕ) → length (scenarios b k sol x s) ≡ numberOf b
+unfolding one two
+scenarios-length true k sol x s = refl
+scenarios-length false k sol x s = refl
+
+pub number-le : (b : Bool) → numberOf b ≤ 13
+number-le true = lit≤ tt
+number-le false = lit≤ tt

@@ -1,0 +1,270 @@
+// Document 01, "Correctors", One and Two: ports src/correct/exist/mod.rs. A scenario is its number in the source's order.
+use kmer::Header;
+use kmer::Kmer;
+use scan::Attempt;
+use scan::Next;
+use scenario::Mend;
+use scenario::Trial;
+ghost use mathlib.Core.Bool.{Bool};
+ghost use mathlib.Core.List.{List};
+ghost use mathlib.Core.Path.{_≡_};
+ghost use Prim.Native.Nat.{ℕ, _≤_, _<_};
+ghost use lib.ListN.{length, take, getD};
+ghost use Rattle.rules.specs.Letters.{letter, last, inPlace, addAll};
+ghost use Rattle.rules.specs.Set.{solid, setOf};
+ghost use Rattle.rules.specs.Scan.{errorLen};
+ghost use Rattle.rules.specs.Exist as rules;
+ghost use Rattle.kmer.specs.Kmer.{Shifts, IsKmer, HasCode};
+ghost use Rattle.set.specs.Ready.{Ready};
+ghost use Rattle.scan.specs.Attempt.{Attempted};
+ghost use Rattle.scenario.specs.Scenario.{numberOf, scenarios, nth, mendOf, Small};
+ghost use Rattle.exist.specs.Exist.{confirm, Eligible, mendsOf, Held, KeptIs, LetterIs, MoreIs, ChoiceIs};
+
+// The scenarios kept, the first `count` of the group, and the lookups of all scenarios.
+pub struct Scenarii {
+    pub kept: [Mend; 13],
+    pub count: usize,
+    pub lookups: u64,
+}
+
+// One base more: whether its k-mer is solid, and the lookups made.
+pub struct More {
+    pub solid: bool,
+    pub lookups: u64,
+}
+
+// The mend to use, or a refusal; the lookups of one base more.
+pub enum Choice {
+    Mend(Mend, u64),
+    Refused(u64),
+}
+
+// The tried k-mer, unless the score is 0 from the outset: the trial refuses, its k-mer isn't solid, or o + c exceeds the length of s.
+fn eligible(
+    set: &[u8],
+    starts: &[u32],
+    head: Header,
+    two: bool,
+    number: usize,
+    c: usize,
+    x: Kmer,
+    s: &[u8],
+) -> Trial
+    requires { ⌜ Ready (now set) (now starts) head × IsKmer (head .k) x × (number < numberOf two) × (1 ≤ c) × (c < 256) ⌝ }
+    ensures { λ r. ⌜ Eligible (head .k) (solid (setOf (now (set .entry)))) c (now (s .entry)) (nth (scenarios two (head .k) (solid (setOf (now (set .entry)))) (x .code) (now (s .entry))) number) r ⌝ }
+{
+    let trial = scenario::apply(set, starts, head, two, number, x, s);
+    let lookups = trial.lookups;
+    let tried = trial.tried;
+    let Next::Kmer(kmer) = tried else {
+        return trial;
+    };
+    let start = scenario::row_of(two, number).start;
+    if !set::get(set, starts, head, kmer) {
+        return Trial {
+            tried: Next::Refused,
+            lookups: lookups + 1,
+        };
+    }
+    if s.len() < start + c {
+        return Trial {
+            tried: Next::Refused,
+            lookups: lookups + 1,
+        };
+    }
+    Trial {
+        tried: Next::Kmer(kmer),
+        lookups: lookups + 1,
+    }
+}
+
+// The scenarios that score c: the c bases of s from o are added, and the trial ends at the first base whose k-mer isn't solid.
+fn get_scenarii(
+    set: &[u8],
+    starts: &[u32],
+    head: Header,
+    two: bool,
+    c: usize,
+    x: Kmer,
+    s: &[u8],
+) -> Scenarii
+    requires { ⌜ Ready (now set) (now starts) head × IsKmer (head .k) x × (1 ≤ c) × (c < 256) ⌝ }
+    ensures { λ r. ⌜ KeptIs (rules.kept (head .k) (solid (setOf (now (set .entry)))) c (now (s .entry)) (scenarios two (head .k) (solid (setOf (now (set .entry)))) (x .code) (now (s .entry)))) r ⌝ }
+{
+    let mut kept = [Mend {
+        code: 0,
+        letters: 0,
+        resume: 0,
+    }; 13];
+    let mut count = 0;
+    let mut lookups = 0;
+    let end = scenario::number_of(two);
+    'scenarios: for number in 0..end {
+        let trial = eligible(set, starts, head, two, number, c, x, s);
+        lookups += trial.lookups;
+        let tried = trial.tried;
+        let Next::Kmer(first) = tried else {
+            continue 'scenarios;
+        };
+        let start = scenario::row_of(two, number).start;
+        let last = start + c;
+        let mut kmer = first;
+        for j in start..last {
+            kmer = scan::add_base(kmer, s[j], head);
+            lookups += 1;
+            if !set::get(set, starts, head, kmer) {
+                continue 'scenarios;
+            }
+        }
+        kept[count] = scenario::correct(two, number, x.code, first.code);
+        count += 1;
+    }
+    Scenarii {
+        kept,
+        count,
+        lookups,
+    }
+}
+
+// The code of letter i.
+fn letter_at(mend: Mend, i: usize) -> u64
+    requires { ⌜ Small mend × (i < mend .letters) ⌝ }
+    ensures { λ r. ⌜ LetterIs mend i r ⌝ }
+{
+    (mend.code >> (2 * (mend.letters - 1 - i))) & 3
+}
+
+fn write(mend: Mend, out: &mut [u8])
+    requires { ⌜ Small mend × (mend .letters ≤ length (now out)) ⌝ }
+    ensures { λ _. ⌜ (take (mend .letters) (now (out .exit)) ≡ last (mend .letters) (mend .code)) × (length (now (out .exit)) ≡ length (now (out .entry))) ⌝ }
+{
+    let letters = mend.letters;
+    for i in 0..letters {
+        out[i] = kmer::bit2nuc(letter_at(mend, i));
+    }
+}
+
+// The bad k-mer with the letters in place of its last one.
+fn in_place(kmer: Kmer, mend: Mend, head: Header) -> Kmer
+    requires { ⌜ Shifts head × IsKmer (head .k) kmer × Small mend ⌝ }
+    ensures { λ r. ⌜ HasCode (head .k) (inPlace (head .k) (kmer .code) (last (mend .letters) (mend .code))) r ⌝ }
+{
+    let letters = mend.letters;
+    let mut placed = kmer::drop_last(kmer, head);
+    for i in 0..letters {
+        placed = kmer::add_nuc_to_end(placed, letter_at(mend, i), head);
+    }
+    placed
+}
+
+fn add_all(kmer: Kmer, bases: &[u8], head: Header) -> Kmer
+    requires { ⌜ Shifts head × IsKmer (head .k) kmer ⌝ }
+    ensures { λ r. ⌜ HasCode (head .k) (addAll (head .k) (kmer .code) (now (bases .entry))) r ⌝ }
+{
+    let mut last = kmer;
+    for i in 0..bases.len() {
+        last = scan::add_base(last, bases[i], head);
+    }
+    last
+}
+
+fn one_more(
+    set: &[u8],
+    starts: &[u32],
+    head: Header,
+    c: usize,
+    kmer: Kmer,
+    s: &[u8],
+    mend: Mend,
+) -> More
+    requires { ⌜ Ready (now set) (now starts) head × IsKmer (head .k) kmer × (c < 256) × Small mend ⌝ }
+    ensures { λ r. ⌜ MoreIs (mendOf mend) (rules.oneMore (head .k) (solid (setOf (now (set .entry)))) c (now (s .entry)) (kmer .code) (mendOf mend)) r ⌝ }
+{
+    let resume = mend.resume;
+    let end = c + resume + 1;
+    if s.len() <= end {
+        return More {
+            solid: false,
+            lookups: 0,
+        };
+    }
+    let after = add_all(in_place(kmer, mend, head), &s[resume..end], head);
+    More {
+        solid: set::get(set, starts, head, after),
+        lookups: 1,
+    }
+}
+
+// The only one kept, or the only one kept with one base more: all that are long enough are asked.
+fn choose(
+    set: &[u8],
+    starts: &[u32],
+    head: Header,
+    c: usize,
+    kmer: Kmer,
+    s: &[u8],
+    scenarii: Scenarii,
+) -> Choice
+    requires { ⌜ Ready (now set) (now starts) head × IsKmer (head .k) kmer × (c < 256) × Held scenarii ⌝ }
+    ensures { λ r. ⌜ ChoiceIs (rules.choose (head .k) (solid (setOf (now (set .entry)))) c (now (s .entry)) (kmer .code) (mendsOf scenarii)) r ⌝ }
+{
+    let kept = scenarii.kept;
+    let count = scenarii.count;
+    if count == 1 {
+        return Choice::Mend(kept[0], 0);
+    }
+    let mut chosen = Mend {
+        code: 0,
+        letters: 0,
+        resume: 0,
+    };
+    let mut remaining: usize = 0;
+    let mut lookups = 0;
+    for i in 0..count {
+        let mend = kept[i];
+        let more = one_more(set, starts, head, c, kmer, s, mend);
+        lookups += more.lookups;
+        if more.solid {
+            chosen = mend;
+            remaining += 1;
+        }
+    }
+    if remaining == 1 {
+        Choice::Mend(chosen, lookups)
+    } else {
+        Choice::Refused(lookups)
+    }
+}
+
+// An attempt by One or by Two at the bad k-mer, s the rest of the read at its bad base.
+pub fn correct_error(
+    set: &[u8],
+    starts: &[u32],
+    head: Header,
+    two: bool,
+    c: u8,
+    kmer: Kmer,
+    s: &[u8],
+    out: &mut [u8],
+) -> Attempt
+    requires { ⌜ Ready (now set) (now starts) head × IsKmer (head .k) kmer × (1 ≤ c) ⌝ }
+    ensures { λ r. ⌜ Attempted (errorLen (head .k) (solid (setOf (now (set .entry)))) (kmer .code) (now (s .entry)) .index) (now (out .entry)) (now (out .exit)) (rules.exist (head .k) (solid (setOf (now (set .entry)))) c (now (s .entry)) (scenarios two (head .k) (solid (setOf (now (set .entry))))) (kmer .code)) r ⌝ }
+{
+    let Next::Kmer(x) = scan::sole_alt(set, starts, head, kmer) else {
+        return Attempt::Refused(4);
+    };
+    let confirm = c as usize;
+    let scenarii = get_scenarii(set, starts, head, two, confirm, x, s);
+    let lookups = 4 + scenarii.lookups;
+    let choice = choose(set, starts, head, confirm, kmer, s, scenarii);
+    match choice {
+        Choice::Refused(more) => Attempt::Refused(lookups + more),
+        Choice::Mend(mend, more) => {
+            if out.len() < mend.letters {
+                return Attempt::Full;
+            }
+            write(mend, out);
+            Attempt::Mend(mend.letters, mend.resume, lookups + more)
+        }
+    }
+}

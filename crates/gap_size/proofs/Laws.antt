@@ -1,0 +1,238 @@
+-- A gap move by move, and its k-mers found again from its letters.
+use Prim.Native.Nat.{ℕ, zero, suc, _+_, _*_, _-_, _^_, _≤_, _<_}
+use native.Mathlib.Omega.{arith}
+use native.Mathlib.Nat.{sub-zero}
+use native.Mathlib.Numerals.{add-one}
+use borrow.Author.Tests.{eq-eqb, ne-eqb}
+use mathlib.Core.Path.{_≡_, refl, sym, ap, _∙_, subst}
+use mathlib.Core.Bool.{Bool, true, false}
+use mathlib.Core.Option.{Option, none, some, Option·some-injective}
+use mathlib.Core.List.{List, [], _∷_, _++_}
+use lib.ListN.{length, take, drop, set, getD, length-append, length-set, length-take}
+use lib.Seq.{slice, slice-empty, slice-cons, length-slice, take-suc-set, drop-append-le, length-take-le}
+use Rattle.rules.specs.Letters.{add, addBase, addAll, code, last, lastLetter}
+use Rattle.rules.specs.Set.{among, maxKeys, headerK, headerN, keysFrom, setOf, solid}
+use Rattle.rules.specs.Counted.{Counted, Try, after, refuse, give, next, _>>=_}
+use Rattle.rules.specs.Scan.{sole, alternative}
+use Rattle.rules.specs.Exist.{Mend}
+use Rattle.rules.specs.Graph.{end, also, end-distinct, also-distinct, spell}
+use Rattle.rules.specs.GapSize.{gap, gapFrom}
+use Rattle.rules.proofs.Kmer.{last-one}
+use Rattle.rules.proofs.Counted.{bind-some as given-by}
+use Rattle.rules.proofs.Scan.{sole-is}
+use Rattle.rules.proofs.Few.{SolidKmer, few}
+use Rattle.rules.proofs.Correctors.{gap-any, gap-cost}
+use Rattle.kmer.specs.declared.Header.{Header}
+use Rattle.set.specs.Ready.{Ready}
+use Rattle.set.proofs.Opened.{opened-n-le}
+use Rattle.graph.proofs.Laws.{bind-none, bind-some, alternative-lookups}
+use Rattle.gap_size.specs.Gap.{mendFrom, onward, passed}
+
+-- ---- the k-mers that letters lead through
+
+-- whether z is among those that the bases from i up to end lead through; y′ is the first of them
+module _ (z k y i end : ℕ) (s : List ℕ) where
+  module _ {y′ : ℕ} (lt : i < end) (h : end ≤ length s) (is : y′ ≡ addBase k y (getD s i 0)) where
+    first : onward k y (slice i end s) ≡ y′ ∷ onward k y′ (slice (i + 1) end s)
+    unfolding onward
+    first = rw (slice-cons i end s 0 lt h, add-one, is)
+
+    pub seen-here : z ≡ y′ → among z (onward k y (slice i end s)) ≡ true
+    unfolding among
+    seen-here e = rw (first, eq-eqb z y′ e)
+
+    pub seen-on : (z ≡ y′ → ⊥) → among z (onward k y (slice i end s)) ≡ among z (onward k y′ (slice (i + 1) end s))
+    unfolding among
+    seen-on e = rw (first, ne-eqb z y′ e)
+
+  pub seen-end : end ≤ i → i ≤ end → among z (onward k y (slice i end s)) ≡ false
+  unfolding among onward
+  seen-end g h = let e : i ≡ end = omega arith in rw (e, slice-empty end s)
+
+onward-snoc : (k y : ℕ) (bs : List ℕ) (b : ℕ) → onward k y (bs ++ (b ∷ [])) ≡ onward k y bs ++ (addBase k (addAll k y bs) b ∷ [])
+unfolding onward addAll
+onward-snoc k y [] b = refl
+onward-snoc k y (a ∷ bs) b = ap (λ (l : List ℕ). addBase k y a ∷ l) (onward-snoc k (addBase k y a) bs b)
+
+addAll-snoc : (k y : ℕ) (bs : List ℕ) (b : ℕ) → addAll k y (bs ++ (b ∷ [])) ≡ addBase k (addAll k y bs) b
+unfolding addAll
+addAll-snoc k y [] b = refl
+addAll-snoc k y (a ∷ bs) b = addAll-snoc k (addBase k y a) bs b
+
+spell-snoc : (ys : List ℕ) (z : ℕ) → spell (ys ++ (z ∷ [])) ≡ spell ys ++ (lastLetter z ∷ [])
+unfolding spell
+spell-snoc [] z = refl
+spell-snoc (y ∷ ys) z = ap (λ (l : List ℕ). lastLetter y ∷ l) (spell-snoc ys z)
+
+-- one letter more
+slice-more : (out : List ℕ) (i a : ℕ) → i + 1 < length out → slice 1 (i + 1 + 1) (set out (i + 1) a) ≡ slice 1 (i + 1) out ++ (a ∷ [])
+slice-more out i a l =
+    rw (add-one (i + 1), take-suc-set out (i + 1) a l)
+    (drop-append-le 1 (take (i + 1) out) (a ∷ []) (rw (length-take-le (i + 1) out (omega arith)) (omega arith)))
+
+-- a move's letter gives its k-mer back
+letter-back : (k : ℕ) (sol : ℕ → Bool) (y z : ℕ) → 1 ≤ k → sole k sol y .answer ≡ some z → addBase k y (lastLetter z) ≡ z
+unfolding addAll last
+letter-back zero sol y z l e = absurd (omega arith)
+letter-back (suc j) sol y z l e =
+    let o = sole-is (suc j) sol y z e in
+    rw (o .is) (last-one j y (o .by) (o .by-lt))
+
+-- ---- a gap
+
+-- what a gap of m moves from x still does after i of them, their letters in out
+pub record Filling (k : ℕ) (sol : ℕ → Bool) (m x at i : ℕ) (out : List ℕ) : Type 0 where
+  pub rest : gap k sol m (x ∷ []) x 0 ≡ gap k sol (m - i) (passed k x i out) at (4 * i)
+  pub spelled : spell (passed k x i out) ≡ take (i + 1) out
+  pub ends : addAll k x (slice 1 (i + 1) out) ≡ at
+
+pub passed-none : (k x : ℕ) (out : List ℕ) → passed k x 0 out ≡ x ∷ []
+unfolding onward
+passed-none k x out = rw (slice-empty 1 out)
+
+pub filling-start : (k : ℕ) (sol : ℕ → Bool) (m x : ℕ) (out : List ℕ) → 0 < length out → Filling k sol m x x 0 (set out 0 (lastLetter x))
+unfolding onward addAll spell
+filling-start k sol m x out l =
+    let e = slice-empty 1 (set out 0 (lastLetter x)) in
+    record {
+      rest = rw (e, sub-zero);
+      spelled = rw (e, take-suc-set out 0 (lastLetter x) l);
+      ends = rw e;
+    }
+
+module _ {k : ℕ} {sol : ℕ → Bool} {m x at i : ℕ} {out : List ℕ} (f : Filling k sol m x at i out) (lt : i < m) where
+  one-move : m - i ≡ suc (m - (i + 1))
+  one-move = omega arith
+
+  abbrev stopped : Try (List ℕ)
+  stopped = record { answer = none; lookups = 4 * i + 4 }
+
+  pub gap-dead : sole k sol at .answer ≡ none → gap k sol m (x ∷ []) x 0 ≡ stopped
+  unfolding gap
+  gap-dead e = f .rest ∙ rw (one-move, gap, e)
+
+  module _ (z : ℕ) (e : sole k sol at .answer ≡ some z) where
+    pub gap-repeats : among z (passed k x i out) ≡ true → gap k sol m (x ∷ []) x 0 ≡ stopped
+    unfolding gap
+    gap-repeats h = f .rest ∙ rw (one-move, gap, e, h)
+
+    module _ (low : 1 ≤ k) (room : i + 1 < length out) where
+      back : addBase k (addAll k x (slice 1 (i + 1) out)) (lastLetter z) ≡ z
+      back = rw (f .ends) (letter-back k sol at z low e)
+
+      pub passed-more : passed k x (i + 1) (set out (i + 1) (lastLetter z)) ≡ passed k x i out ++ (z ∷ [])
+      passed-more = rw (slice-more out i (lastLetter z) room, onward-snoc, back)
+
+      pub gap-goes : among z (passed k x i out) ≡ false → Filling k sol m x z (i + 1) (set out (i + 1) (lastLetter z))
+      unfolding gap
+      gap-goes h =
+          let l : 4 * (i + 1) ≡ 4 * i + 4 = omega arith in
+          record {
+            rest = f .rest ∙ rw (one-move, gap, e, h, passed-more, l);
+            spelled = ap spell passed-more ∙ spell-snoc (passed k x i out) z ∙ rw (f .spelled, add-one (i + 1), take-suc-set out (i + 1) (lastLetter z) room);
+            ends = rw (slice-more out i (lastLetter z) room) (addAll-snoc k x (slice 1 (i + 1) out) (lastLetter z) ∙ back);
+          }
+
+-- ---- what it costs
+
+module _ (k : ℕ) (sol : ℕ → Bool) where
+  gap-least : (m : ℕ) (seen : List ℕ) (y l : ℕ) → l ≤ gap k sol m seen y l .lookups
+  unfolding gap
+  gap-least zero seen y l = omega arith
+  gap-least (suc m) seen y l = go (λ z. gap-least m (seen ++ (z ∷ [])) z (l + 4)) (sole k sol y .answer) refl
+    where
+      go : ((z : ℕ) → l + 4 ≤ gap k sol m (seen ++ (z ∷ [])) z (l + 4) .lookups) → (o : Option ℕ) → sole k sol y .answer ≡ o
+          → l ≤ gap k sol (suc m) seen y l .lookups
+      go i none e = rw (e, gap) (omega arith)
+      go i (some z) e = on (among z seen) refl
+        where
+          on : (q : Bool) → among z seen ≡ q → l ≤ gap k sol (suc m) seen y l .lookups
+          on true h = rw (e, gap, h) (omega arith)
+          on false h = rw (e, gap, h) (omega (arith, i z))
+
+pub keys-count : (bytes : List ℕ) (i m : ℕ) → length (keysFrom bytes i m) ≡ m
+unfolding keysFrom
+keys-count bytes i zero = refl
+keys-count bytes i (suc m) = ap suc (keys-count bytes (suc i) m)
+
+-- no k-mer comes twice, so a gap makes at most 2n moves
+pub gap-bound : {bytes starts : List ℕ} {head : Header} → Ready bytes starts head → (m x : ℕ) → x < 4 ^ head .k → solid (setOf bytes) x ≡ true
+    → gap (head .k) (solid (setOf bytes)) m (x ∷ []) x 0 .lookups ≤ 8 * maxKeys
+unfolding setOf among SolidKmer
+gap-bound {bytes} {starts} {head} r m x lt lit =
+    let n = opened-n-le bytes (r .opens) in
+    let c = keys-count bytes 0 (headerN bytes) in
+    let g : SolidKmer (headerK bytes) (solid (setOf bytes)) x = (rw (← (r .k-is)) lt, lit) in
+    rw (r .k-is)
+    (omega (
+      arith,
+      gap-cost (headerK bytes) (solid (setOf bytes)) (length (setOf bytes .keys)) (few (setOf bytes)) m (x ∷ []) x 0
+          (also-distinct refl end-distinct) (also g end),
+    ))
+
+pub gap-room : {k : ℕ} {sol : ℕ → Bool} {m x at i : ℕ} {out : List ℕ} → Filling k sol m x at i out
+    → gap k sol m (x ∷ []) x 0 .lookups ≤ 8 * maxKeys → 4 * i ≤ 8 * maxKeys
+gap-room {k} {sol} {m} {x} {at} {i} {out} f h =
+    omega (arith, ap (λ (t : Try (List ℕ)). t .lookups) (f .rest), gap-least k sol (m - i) (passed k x i out) at (4 * i))
+
+-- ---- the attempt that a gap makes, l lookups having been made before it
+
+module _ (k : ℕ) (sol : ℕ → Bool) (m x l : ℕ) where
+  abbrev tried : Try Mend
+  tried = after l (mendFrom k sol m x)
+
+  pub gap-refused : (i l′ : ℕ) → gap k sol m (x ∷ []) x 0 ≡ record { answer = none; lookups = 4 * i + 4 } → l′ ≡ l + 4 * i + 4
+      → (tried .answer ≡ none) × (tried .lookups ≡ l′)
+  unfolding after mendFrom _>>=_ next refuse
+  gap-refused i l′ e q = (rw (e, mendFrom), rw (e, mendFrom) (omega arith))
+
+  pub gap-mends : {at i : ℕ} {out : List ℕ} → Filling k sol m x at i out → m ≤ i → i ≤ m → m < length out → (l′ : ℕ) → l′ ≡ l + 4 * i
+      → (tried .answer ≡ some (record { letters = take (m + 1) out; resume = m + 1 })) × (m + 1 ≤ length out) × (tried .lookups ≡ l′)
+  unfolding after mendFrom _>>=_ next give gap
+  gap-mends {at} {i} {out} f le ge room l′ q =
+      let none-left : m - i ≡ 0 = omega arith in
+      let all : i ≡ m = omega arith in
+      let w : gap k sol m (x ∷ []) x 0 ≡ record { answer = some (passed k x i out); lookups = 4 * i } = f .rest ∙ rw none-left in
+      let count : length (passed k x i out) ≡ m + 1 =
+      gap-any k sol m (x ∷ []) x 0 .1 (passed k x i out) (ap (λ (t : Try (List ℕ)). t .answer) w) ∙ omega arith in
+      let letters : spell (passed k x i out) ≡ take (m + 1) out = f .spelled ∙ ap (λ (n : ℕ). take (n + 1) out) all in (
+        rw (w, mendFrom) (λ j. some (record { letters = letters j; resume = count j })),
+        omega arith,
+        rw (w, mendFrom) (omega arith),
+      )
+
+-- ---- from the bad k-mer to x
+
+length-spell : (ys : List ℕ) → length (spell ys) ≡ length ys
+unfolding spell
+length-spell [] = refl
+length-spell (y ∷ ys) = ap suc (length-spell ys)
+
+module _ (k : ℕ) (sol : ℕ → Bool) (m y l : ℕ) where
+  -- m + 1 letters
+  gap-letters : (d : Mend) → gapFrom k sol m y .answer ≡ some d → length (d .letters) ≡ m + 1
+  unfolding gapFrom give
+  gap-letters d e =
+      let w = given-by (alternative k sol y) _ d e in
+      let x : ℕ = w .0 in
+      let v = given-by (gap k sol m (x ∷ []) x 0) _ d (w .2) in
+      ap (λ (d′ : Mend). length (d′ .letters)) (sym (Option·some-injective _ d (v .2)))
+      ∙ length-spell (v .0)
+      ∙ gap-any k sol m (x ∷ []) x 0 .1 (v .0) (v .1)
+      ∙ omega arith
+
+  abbrev attempt : Try Mend
+  attempt = after l (gapFrom k sol m y)
+
+  pub gap-full : (room index : ℕ) → room ≤ m → m < index
+      → ((d : Mend) → attempt .answer ≡ some d → room < length (d .letters)) × (attempt .answer ≡ none → room < index)
+  unfolding after
+  gap-full room index h g = (λ d e. omega (arith, gap-letters d e), λ e. omega arith)
+
+  pub no-alternative : alternative k sol y .answer ≡ none → (attempt .answer ≡ none) × (attempt .lookups ≡ l + 4)
+  unfolding gapFrom
+  no-alternative e = let w = bind-none (alternative k sol y) _ l e in (w .0, w .1 ∙ rw (alternative-lookups k sol y))
+
+  pub from-alternative : (x : ℕ) → alternative k sol y .answer ≡ some x → attempt ≡ after (l + 4) (mendFrom k sol m x)
+  unfolding gapFrom mendFrom
+  from-alternative x e = bind-some (alternative k sol y) _ l x e ∙ rw (alternative-lookups k sol y)

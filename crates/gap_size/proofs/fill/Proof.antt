@@ -1,0 +1,225 @@
+use Prim.Native.Nat.{ℕ, _+_, _-_, _*_, _≤_, _<_}
+use native.Mathlib.Omega.{arith}
+use mathlib.Core.Path.{_≡_, refl, sym, _∙_, subst}
+use mathlib.Core.Option.{some}
+use lib.ListN.{length}
+use borrow.Author.Needs.{needs}
+use Rattle.rules.specs.Set.{maxKeys, solid, setOf}
+use Rattle.rules.specs.Scan.{sole}
+use Rattle.kmer.specs.declared.Kmer.{Kmer}
+use Rattle.kmer.specs.Kmer.{IsKmer}
+use Rattle.scan.specs.Scan.{NextIs}
+use Rattle.gap_size.specs.Gap.{passed}
+use Rattle.gap_size.specs.Filter.{Covers}
+use Rattle.gap_size.proofs.Bits.{covers-one}
+use Rattle.gap_size.proofs.Laws.{Filling, passed-none, filling-start, gap-dead, gap-repeats, passed-more, gap-goes, gap-bound, gap-room, gap-refused, gap-mends}
+use Rattle.gap_size.proofs.fill.Statement.{statement}
+use Rattle.gap_size.proofs.fill.Tie as tie
+
+abbrev Inv-loop : tie.InvT-loop
+Inv-loop set starts head x filter₀ out₀ lookups₀ at₀ moves i₀ filter out lookups at i =
+    (i ≤ moves)
+    × (moves < length out)
+    × (lookups ≡ lookups₀ + 4 * i)
+    × (length filter ≡ length filter₀)
+    × (length out ≡ length out₀)
+    × IsKmer (head .k) at
+    × Filling (head .k) (solid (setOf set)) moves (x .code) (at .code) i out
+    × Covers filter (passed (head .k) (x .code) i out)
+
+abbrev μ-loop : tie.MeasureT-loop
+μ-loop set starts head x filter₀ out₀ lookups₀ at₀ moves i₀ filter out lookups at i = moves - i
+
+-- the function's entry, from the loop's head
+abbrev entry : tie.At-loop Inv-loop μ-loop → tie.Start Inv-loop μ-loop
+entry c = c .before .before .before .before .before .before .before .before .before .before .before .before .before .before .before .before
+
+room : (c : tie.At-loop Inv-loop μ-loop) → length (c .loop .out) ≡ length (entry c .args .out .now)
+room c = c .loop .inv .4 ∙ c .before .before .before .before .before .before .before .before .before .write-last .kept .0
+
+words : (c : tie.At-loop Inv-loop μ-loop) → length (c .loop .filter) ≡ length (entry c .args .filter .now)
+words c = c .loop .inv .3 ∙ c .before .before .before .before .before .note .kept .0
+
+few-lookups : (c : tie.At-loop Inv-loop μ-loop) → 4 * c .loop .i ≤ 8 * maxKeys
+few-lookups c = let f = entry c .pre .0 in gap-room (c .loop .inv .6) (gap-bound (f .ready) _ _ (f .kmer .small) (f .lit))
+
+-- the move: to the sole solid successor
+abbrev next : tie.After-next Inv-loop μ-loop → Kmer
+next c = c .next .given .0 .0
+
+abbrev turn : tie.After-next Inv-loop μ-loop → tie.At-loop Inv-loop μ-loop
+turn c = c .before .before .before .before
+
+told : (c : tie.After-next Inv-loop μ-loop)
+    → let b = entry (turn c) in
+    (sole (b .args .head .k) (solid (setOf (b .args .set .now))) (turn c .loop .at .code) .answer ≡ some (next c .code)) × IsKmer (b .args .head .k) (next c)
+told c = subst (NextIs _ _) (c .next .given .1) (c .before .before .sole-next .ensures)
+
+words-after : (c : tie.After-repeats Inv-loop μ-loop)
+    → length (c .repeats .last .1 .1 .1 .1 .1 .0) ≡ length (entry (turn (c .before .before .before .before)) .args .filter .now)
+words-after c = c .repeats .ensures .same ∙ words (turn (c .before .before .before .before))
+
+add-lookups : tie.Need-add-lookups Inv-loop μ-loop
+add-lookups c = omega (arith, c .before .before .before .before .before .pre)
+
+write-last-requires : tie.Need-write-last-requires Inv-loop μ-loop
+write-last-requires c κs = search needs
+
+note-requires : tie.Need-note-requires Inv-loop μ-loop
+note-requires c κs = c .before .before .before .before .before .before .before .before .before .before .pre .1
+
+sub-moves : tie.Need-sub-moves Inv-loop μ-loop
+sub-moves c = let f = c .before .before .before .before .before .before .before .before .before .before .before .before .before .before .before .pre .0 in omega (arith, f .above, f .ready .shifts .k-low)
+
+loop-holds : tie.Need-loop-holds Inv-loop μ-loop
+loop-holds c =
+    let b = c .before .before .before .before .before .before .before .before .before .before .before .before .before .before .before in
+    let w = c .before .before .before .before .before .before .before .before .write-last in (
+      omega arith,
+      rw (w .kept .0) (b .pre .0 .room),
+      omega arith,
+      refl,
+      refl,
+      b .pre .0 .kmer,
+      rw (w .ensures) (filling-start _ _ _ _ (b .args .out .now) (omega (arith, b .pre .0 .room))),
+      rw passed-none (covers-one (c .before .before .before .before .note .ensures)),
+    )
+
+add-lookups-2 : tie.Need-add-lookups-2 Inv-loop μ-loop
+add-lookups-2 c = omega (arith, few-lookups (c .before), c .before .loop .inv .2, entry (c .before) .pre .0)
+
+sole-next-requires : tie.Need-sole-next-requires Inv-loop μ-loop
+sole-next-requires c κs = (entry (c .before) .pre .0 .ready, c .before .loop .inv .5)
+
+enum-known-next : tie.Need-enum-known-next Inv-loop μ-loop
+enum-known-next c = search needs
+
+enum-told : tie.Need-enum-told Inv-loop μ-loop
+enum-told c = search needs
+
+same-length : tie.Need-same-length Inv-loop μ-loop
+same-length c = words (c .before .before .before .before)
+
+same-length-2 : tie.Need-same-length-2 Inv-loop μ-loop
+same-length-2 c = room (c .before .before .before .before)
+
+returns : tie.Need-returns Inv-loop μ-loop
+returns c =
+    let l = c .before .before .before .before in
+    record {
+      is = gap-refused _ _ _ _ _ _ _
+          (gap-dead (l .loop .inv .6) (c .before .before .before .loop-test .taken)
+          (subst (NextIs _ _) (c .enum-told .given .1) (c .before .before .sole-next .ensures)))
+          (omega (arith, l .loop .inv .2));
+      room = room l;
+    }
+
+repeats-requires : tie.Need-repeats-requires Inv-loop μ-loop
+repeats-requires c κs =
+    let m = c .before .before .before in
+    let l = turn m in
+    let f = entry l .pre .0 in
+    let lt = m .before .before .before .loop-test .taken in
+    ((f .ready .shifts, f .kmer, omega (arith, l .loop .inv .1, lt), rw (words l) (entry l .pre .1)), l .loop .inv .7)
+
+same-length-3 : tie.Need-same-length-3 Inv-loop μ-loop
+same-length-3 c = words-after (c .before .before .before)
+
+same-length-4 : tie.Need-same-length-4 Inv-loop μ-loop
+same-length-4 c = room (turn (c .before .before .before .before .before .before .before))
+
+returns-2 : tie.Need-returns-2 Inv-loop μ-loop
+returns-2 c =
+    let m = c .before .before .before .before .before .before .before in
+    let l = turn m in
+    record {
+      is = gap-refused _ _ _ _ _ _ _
+          (gap-repeats (l .loop .inv .6) (m .before .before .before .loop-test .taken) _ (told m .0)
+          (sym (c .before .before .before .repeats .ensures .is) ∙ c .if1 .taken))
+          (omega (arith, l .loop .inv .2));
+      room = room l;
+    }
+
+add-write-last : tie.Need-add-write-last Inv-loop μ-loop
+add-write-last c = omega (arith, few-lookups (c .before .before .before .before .before .before .before .before .before .before .before .before))
+
+write-last-requires-2 : tie.Need-write-last-requires-2 Inv-loop μ-loop
+write-last-requires-2 c κs = search needs
+
+add-i : tie.Need-add-i Inv-loop μ-loop
+add-i c = omega (arith, few-lookups (c .before .before .before .before .before .before .before .before .before .before .before .before .before .before .before))
+
+loop-less : tie.Need-loop-less Inv-loop μ-loop
+loop-less c = omega (arith, c .before .before .before .before .before .before .before .before .before .before .before .before .before .before .loop-test .taken)
+
+loop-again : tie.Need-loop-again Inv-loop μ-loop
+loop-again c =
+    let m = c .before .before .before .before .before .before .before .before .before .before .before in
+    let w = c .before .before .write-last2 in
+    let q = c .before .before .before .before .before .before .before .repeats .ensures in
+    let l = turn m in
+    let i = l .loop .inv in
+    let lt = m .before .before .before .loop-test .taken in
+    let low = entry l .pre .0 .ready .shifts .k-low in (
+      omega arith,
+      rw (w .kept .0) (i .1),
+      omega (arith, i .2),
+      q .same ∙ i .3,
+      w .kept .0 ∙ i .4,
+      told m .1,
+      rw (w .ensures) (gap-goes (i .6) lt _ (told m .0) low (omega (arith, i .1)) (sym (q .is) ∙ c .before .before .before .before .if1 .left)),
+      rw (w .ensures, passed-more (i .6) lt _ (told m .0) low (omega (arith, i .1))) (q .covers),
+    )
+
+add-t30 : tie.Need-add-t30 Inv-loop μ-loop
+add-t30 c = let l = c .before in omega (arith, l .loop .inv .1, room l, entry l .good .1 .1 .1 .1 .1 .1 .0)
+
+add-t31 : tie.Need-add-t31 Inv-loop μ-loop
+add-t31 c = let l = c .before in omega (arith, l .loop .inv .1, room l, entry l .good .1 .1 .1 .1 .1 .1 .0)
+
+same-length-5 : tie.Need-same-length-5 Inv-loop μ-loop
+same-length-5 c = words (c .before)
+
+same-length-6 : tie.Need-same-length-6 Inv-loop μ-loop
+same-length-6 c = room (c .before)
+
+returns-3 : tie.Need-returns-3 Inv-loop μ-loop
+returns-3 c =
+    let l = c .before in
+    record {
+      is = gap-mends _ _ _ _ _ (l .loop .inv .6) (c .loop-test .left) (l .loop .inv .0) (l .loop .inv .1) _ (omega (arith, l .loop .inv .2));
+      room = room l;
+    }
+
+pub fill-spec : {M : Type 1} → statement M
+fill-spec =
+    tie.close
+    (tie.spec
+    Inv-loop
+    μ-loop
+    add-lookups
+    write-last-requires
+    note-requires
+    sub-moves
+    loop-holds
+    add-lookups-2
+    sole-next-requires
+    enum-known-next
+    enum-told
+    same-length
+    same-length-2
+    returns
+    repeats-requires
+    same-length-3
+    same-length-4
+    returns-2
+    add-write-last
+    write-last-requires-2
+    add-i
+    loop-less
+    loop-again
+    add-t30
+    add-t31
+    same-length-5
+    same-length-6
+    returns-3)

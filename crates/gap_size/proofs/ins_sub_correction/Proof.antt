@@ -1,0 +1,87 @@
+use Prim.Native.Nat.{_-_, _<_}
+use native.Mathlib.Omega.{arith}
+use mathlib.Core.Path.{_≡_, refl, subst}
+use mathlib.Core.Option.{some}
+use borrow.Author.Needs.{needs}
+use Rattle.rules.specs.Set.{solid, setOf}
+use Rattle.rules.specs.Scan.{alternative}
+use Rattle.rules.proofs.Few.{SolidKmer}
+use Rattle.rules.proofs.Exactly.{x-good}
+use Rattle.kmer.specs.Kmer.{IsKmer}
+use Rattle.scan.specs.Scan.{NextIs}
+use Rattle.gap_size.proofs.Laws.{gap-full, no-alternative, from-alternative}
+use Rattle.gap_size.proofs.ins_sub_correction.Statement.{statement}
+use Rattle.gap_size.proofs.ins_sub_correction.Tie as tie
+
+-- x
+abbrev entry : tie.After-x → tie.Start
+entry c = c .before .before .before .before .before .before .before .before .before
+
+told : (c : tie.After-x)
+    → let b = entry c in
+    (alternative (b .args .head .k) (solid (setOf (b .args .set .now))) (b .args .kmer .code) .answer ≡ some (c .x .given .0 .0 .code))
+    × IsKmer (b .args .head .k) (c .x .given .0 .0)
+told c = subst (NextIs _ _) (c .x .given .1) (c .before .before .sole-alt .ensures)
+
+sub-if1 : tie.Need-sub-if1
+sub-if1 c = search needs
+
+returns : tie.Need-returns
+returns c =
+    let b = c .before .before .before .before .before .before in
+    let shorter : b .args .scan .index - b .args .head .k < b .args .scan .index = omega (arith, b .pre .2, b .pre .0 .shifts .k-low) in
+    record { is = gap-full _ _ _ _ _ _ _ (c .if1 .taken) shorter; room = refl }
+
+sole-alt-requires : tie.Need-sole-alt-requires
+sole-alt-requires c κs = search needs
+
+enum-known-x : tie.Need-enum-known-x
+enum-known-x c = search needs
+
+enum-told : tie.Need-enum-told
+enum-told c = search needs
+
+add-t12 : tie.Need-add-t12
+add-t12 c = search needs
+
+returns-2 : tie.Need-returns-2
+returns-2 c =
+    record {
+      is = no-alternative _ _ _ _ _ (subst (NextIs _ _) (c .before .enum-told .given .1) (c .before .before .before .sole-alt .ensures));
+      room = refl;
+    }
+
+fill-by-length-requires : tie.Need-fill-by-length-requires
+unfolding SolidKmer
+fill-by-length-requires c κs =
+    let x = c .before .before in
+    let b = entry x in
+    record {
+      ready = b .pre .0;
+      kmer = told x .1;
+      lit = x-good _ _ _ _ (told x .0) .1;
+      above = b .pre .2;
+      room = x .before .before .before .if1 .left;
+      few = b .pre .3;
+    }
+
+same-length : tie.Need-same-length
+same-length c = search needs
+
+returns-3 : tie.Need-returns-3
+returns-3 c = rw (from-alternative _ _ _ _ _ _ (told (c .before .before .before .before .before) .0)) (c .before .before .fill-by-length .ensures)
+
+pub ins-sub-correction-spec : {M : Type 1} → statement M
+ins-sub-correction-spec =
+    tie.close
+    (tie.spec
+    sub-if1
+    returns
+    sole-alt-requires
+    enum-known-x
+    enum-told
+    add-t12
+    returns-2
+    fill-by-length-requires
+    same-length
+    returns-3)

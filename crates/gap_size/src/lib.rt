@@ -1,0 +1,224 @@
+// Document 01, "GapSize": ports src/correct/gap_size.rs.
+mod filter;
+
+use kmer::Header;
+use kmer::Kmer;
+use scan::Attempt;
+use scan::Next;
+use scan::Scan;
+ghost use mathlib.Core.Path.{_≡_};
+ghost use mathlib.Core.Bool.{true};
+ghost use Prim.Native.Nat.{_+_, _-_, _^_, _≤_, _<_};
+ghost use lib.ListN.{length};
+ghost use Rattle.rules.specs.Set.{among, solid, setOf};
+ghost use Rattle.rules.specs.Counted.{after};
+ghost use Rattle.rules.specs.Scan.{errorLen};
+ghost use Rattle.rules.specs.GapSize.{gapFrom, gapSize};
+ghost use Rattle.kmer.specs.Kmer.{Shifts, IsKmer};
+ghost use Rattle.set.specs.Ready.{Ready};
+ghost use Rattle.scan.specs.Scan.{scanOf};
+ghost use Rattle.scan.specs.Attempt.{Attempted};
+ghost use Rattle.gap_size.specs.Gap.{passed, Fillable, Filled, later, cost};
+ghost use Rattle.gap_size.specs.Filter.{Covers, Asked};
+
+// Whether a k-mer is x or one of those that the letters of that many moves lead through.
+fn seen(head: Header, x: Kmer, letters: &[u8], moves: usize, code: u64) -> bool
+    requires { ⌜ Shifts head × IsKmer (head .k) x × (moves < length (now letters)) ⌝ }
+    ensures { λ r. ⌜ r ≡ among code (passed (head .k) (x .code) moves (now (letters .entry))) ⌝ }
+{
+    if code == x.code {
+        return true;
+    }
+    let mut at = x;
+    let end = moves + 1;
+    for i in 1..end {
+        at = scan::add_base(at, letters[i], head);
+        if code == at.code {
+            return true;
+        }
+    }
+    false
+}
+
+// The same, asked of the next k-mer, which goes into the filter: only where its bits were all set is it compared with the others.
+fn repeats(
+    head: Header,
+    x: Kmer,
+    letters: &[u8],
+    moves: usize,
+    code: u64,
+    filter: &mut [u64],
+) -> bool
+    requires { ⌜ Shifts head × IsKmer (head .k) x × (moves < length (now letters)) × (0 < length (now filter)) ⌝ }
+    requires { ⌜ Covers (now filter) (passed (head .k) (x .code) moves (now letters)) ⌝ }
+    ensures { λ r. ⌜ Asked (now (filter .entry)) (now (filter .exit)) (passed (head .k) (x .code) moves (now (letters .entry))) code r ⌝ }
+{
+    if filter::note(filter, code) {
+        seen(head, x, letters, moves, code)
+    } else {
+        false
+    }
+}
+
+// The moves of a gap from x, after all lookups up to x.
+fn fill(
+    set: &[u8],
+    starts: &[u32],
+    head: Header,
+    scan: Scan,
+    x: Kmer,
+    filter: &mut [u64],
+    out: &mut [u8],
+) -> Attempt
+    requires { ⌜ Fillable (now set) (now starts) head scan x (now out) × (0 < length (now filter)) ⌝ }
+    ensures { λ r. ⌜ Filled (now (set .entry)) head scan x (now (out .entry)) (now (out .exit)) r ⌝ }
+{
+    let mut lookups = scan.lookups + 4;
+    graph::write_last(out, 0, x);
+    filter::note(filter, x.code);
+    let mut at = x;
+    let moves = scan.index - head.k;
+    for i in 0..moves {
+        lookups += 4;
+        let Next::Kmer(next) = scan::sole_next(set, starts, head, at) else {
+            return Attempt::Refused(lookups);
+        };
+        if repeats(head, x, out, i, next.code, filter) {
+            return Attempt::Refused(lookups);
+        }
+        graph::write_last(out, i + 1, next);
+        at = next;
+    }
+    Attempt::Mend(moves + 1, moves + 1, lookups)
+}
+
+// The filter goes by the number of moves, two k-mers to a word where it can, so that a short gap clears little.
+fn fill_short(
+    set: &[u8],
+    starts: &[u32],
+    head: Header,
+    scan: Scan,
+    x: Kmer,
+    out: &mut [u8],
+) -> Attempt
+    requires { ⌜ Fillable (now set) (now starts) head scan x (now out) ⌝ }
+    ensures { λ r. ⌜ Filled (now (set .entry)) head scan x (now (out .entry)) (now (out .exit)) r ⌝ }
+{
+    let mut filter = [0u64; 64];
+    fill(set, starts, head, scan, x, &mut filter, out)
+}
+
+fn fill_long(
+    set: &[u8],
+    starts: &[u32],
+    head: Header,
+    scan: Scan,
+    x: Kmer,
+    out: &mut [u8],
+) -> Attempt
+    requires { ⌜ Fillable (now set) (now starts) head scan x (now out) ⌝ }
+    ensures { λ r. ⌜ Filled (now (set .entry)) head scan x (now (out .entry)) (now (out .exit)) r ⌝ }
+{
+    let mut filter = [0u64; 4096];
+    fill(set, starts, head, scan, x, &mut filter, out)
+}
+
+fn fill_longest(
+    set: &[u8],
+    starts: &[u32],
+    head: Header,
+    scan: Scan,
+    x: Kmer,
+    out: &mut [u8],
+) -> Attempt
+    requires { ⌜ Fillable (now set) (now starts) head scan x (now out) ⌝ }
+    ensures { λ r. ⌜ Filled (now (set .entry)) head scan x (now (out .entry)) (now (out .exit)) r ⌝ }
+{
+    let mut filter = [0u64; 131072];
+    fill(set, starts, head, scan, x, &mut filter, out)
+}
+
+fn fill_by_length(
+    set: &[u8],
+    starts: &[u32],
+    head: Header,
+    scan: Scan,
+    x: Kmer,
+    out: &mut [u8],
+) -> Attempt
+    requires { ⌜ Fillable (now set) (now starts) head scan x (now out) ⌝ }
+    ensures { λ r. ⌜ Filled (now (set .entry)) head scan x (now (out .entry)) (now (out .exit)) r ⌝ }
+{
+    let length = scan.index - head.k;
+    if length <= 128 {
+        return fill_short(set, starts, head, scan, x, out);
+    }
+    if length <= 8192 {
+        return fill_long(set, starts, head, scan, x, out);
+    }
+    fill_longest(set, starts, head, scan, x, out)
+}
+
+// Above k, after the scan. Without room for index − k + 1 letters the attempt is Full even if it would be refused, since the bases that
+// the scan passed have no room either.
+fn ins_sub_correction(
+    set: &[u8],
+    starts: &[u32],
+    head: Header,
+    scan: Scan,
+    kmer: Kmer,
+    out: &mut [u8],
+) -> Attempt
+    requires { ⌜ Ready (now set) (now starts) head × IsKmer (head .k) kmer × (head .k ≤ scan .index) × (scan .lookups < 2 ^ 63) ⌝ }
+    ensures { λ r. ⌜
+        Attempted (scan .index) (now (out .entry)) (now (out .exit))
+        (after (scan .lookups) (gapFrom (head .k) (solid (setOf (now (set .entry)))) (scan .index - head .k) (kmer .code)))
+        r ⌝ }
+{
+    if out.len() <= scan.index - head.k {
+        return Attempt::Full;
+    }
+    let Next::Kmer(x) = scan::sole_alt(set, starts, head, kmer) else {
+        return Attempt::Refused(scan.lookups + 4);
+    };
+    fill_by_length(set, starts, head, scan, x, out)
+}
+
+// The same answer, after lookups made before it.
+fn after(lookups: u64, attempt: Attempt) -> Attempt
+    requires { ⌜ lookups + cost attempt < 2 ^ 64 ⌝ }
+    ensures { λ r. ⌜ r ≡ later lookups attempt ⌝ }
+{
+    match attempt {
+        Attempt::Mend(letters, resume, more) => Attempt::Mend(letters, resume, lookups + more),
+        Attempt::Refused(more) => Attempt::Refused(lookups + more),
+        Attempt::Full => Attempt::Full,
+    }
+}
+
+// kmer is the bad k-mer, s the rest of the read at its bad base. The scan decides, and is made and counted once.
+pub fn correct_error(
+    set: &[u8],
+    starts: &[u32],
+    head: Header,
+    c: u8,
+    kmer: Kmer,
+    s: &[u8],
+    out: &mut [u8],
+) -> Attempt
+    requires { ⌜ Ready (now set) (now starts) head × IsKmer (head .k) kmer × (1 ≤ length (now s)) × (1 ≤ c) ⌝ }
+    ensures { λ r. ⌜
+        Attempted (errorLen (head .k) (solid (setOf (now (set .entry)))) (kmer .code) (now (s .entry)) .index) (now (out .entry)) (now (out .exit))
+        (gapSize (head .k) (head .n) (solid (setOf (now (set .entry)))) c (now (s .entry)) (kmer .code))
+        r ⌝ }
+{
+    let scan = scan::error_len(set, starts, head, kmer, s);
+    if scan.index < head.k {
+        return graph::from_scan(set, starts, head, scan, kmer, out);
+    }
+    if scan.index == head.k {
+        let one = exist::correct_error(set, starts, head, false, c, kmer, s, out);
+        return after(scan.lookups, one);
+    }
+    ins_sub_correction(set, starts, head, scan, kmer, out)
+}

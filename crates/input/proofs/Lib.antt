@@ -1,0 +1,3 @@
+pub mod Checks
+pub mod Lines
+pub mod Zeros

@@ -1,0 +1,128 @@
+// What a call is given, looked at before any set: checks 1 to 6 of document 01, the lines of a batch, and clearing a lent buffer.
+ghost use mathlib.Core.Path.{_≡_};
+ghost use mathlib.Core.List.{_++_};
+ghost use Prim.Native.Nat.{_-_, _≤_, _<_};
+ghost use lib.ListN.{length, getD, take, replicate};
+ghost use Rattle.rules.specs.Refusal.{atPlace, firstFailing};
+ghost use Rattle.rules.specs.Job.{known, lines};
+ghost use Rattle.rules.specs.Calls.{maxRead, buffersRight, inputCheck, batchRight};
+ghost use Rattle.input.specs.Input.{checkOf, LineAt};
+
+const MAX_READ: usize = 1048576;
+
+const MAX_METHODS: usize = 8;
+
+const MAX_OUTPUT: usize = 1048576;
+
+const MAX_WORK: usize = 2097152;
+
+const MAX_LINES: usize = 1024;
+
+// Fine, or refusal 1, 2, 3 with the method's index, 4 or 5.
+pub enum Input {
+    Fine,
+    Long,
+    Methods,
+    Unknown(usize),
+    Confirm,
+    Buffers,
+}
+
+fn is_known(method: u8) -> bool
+    ensures { λ r. ⌜ r ≡ known method ⌝ }
+{
+    1 <= method && method <= 4
+}
+
+// Check 3.
+fn check_methods(methods: &[u8]) -> Input
+    ensures { λ r. ⌜ checkOf r ≡ atPlace 3 (firstFailing (λ i. known (getD (now (methods .entry)) i 0)) 0 (length (now (methods .entry)))) ⌝ }
+{
+    for i in 0..methods.len() {
+        if !is_known(methods[i]) {
+            return Input::Unknown(i);
+        }
+    }
+    Input::Fine
+}
+
+fn buffers_right(input: usize, output: usize, work: usize) -> bool
+    requires { ⌜ input ≤ maxRead ⌝ }
+    ensures { λ r. ⌜ r ≡ buffersRight input output work ⌝ }
+{
+    if MAX_OUTPUT < output {
+        return false;
+    }
+    if MAX_WORK < work {
+        return false;
+    }
+    2 * output <= work && 2 * input <= work
+}
+
+// Checks 1 to 5, upward, by the lengths of input, output and work.
+pub fn check_input(input: usize, methods: &[u8], confirm: u8, output: usize, work: usize) -> Input
+    ensures { λ r. ⌜ checkOf r ≡ inputCheck input (now (methods .entry)) confirm output work ⌝ }
+{
+    if MAX_READ < input {
+        return Input::Long;
+    }
+    if MAX_METHODS < methods.len() {
+        return Input::Methods;
+    }
+    let methods_checked = check_methods(methods);
+    let Input::Fine = methods_checked else {
+        return methods_checked;
+    };
+    if confirm == 0 {
+        return Input::Confirm;
+    }
+    if !buffers_right(input, output, work) {
+        return Input::Buffers;
+    }
+    Input::Fine
+}
+
+fn count_lines(batch: &[u8]) -> usize
+    ensures { λ r. ⌜ r ≡ length (lines (now (batch .entry))) ⌝ }
+{
+    let mut count = 0;
+    for i in 0..batch.len() {
+        if batch[i] == 10 {
+            count += 1;
+        }
+    }
+    count
+}
+
+// Check 6.
+pub fn check_batch(batch: &[u8]) -> bool
+    ensures { λ r. ⌜ r ≡ batchRight (now (batch .entry)) ⌝ }
+{
+    let length = batch.len();
+    if length == 0 {
+        return true;
+    }
+    batch[length - 1] == 10 && count_lines(batch) <= MAX_LINES
+}
+
+// Where the line from `from` on ends: the index of its byte 10.
+pub fn line_end(batch: &[u8], from: usize) -> usize
+    requires { ⌜ (from < length (now batch)) × (getD (now batch) (length (now batch) - 1) 0 ≡ 10) ⌝ }
+    ensures { λ r. ⌜ LineAt (now (batch .entry)) from r ⌝ }
+{
+    let mut end = from;
+    while batch[end] != 10 {
+        end += 1;
+    }
+    end
+}
+
+// Zeros from `from` to the end.
+pub fn clear(buffer: &mut [u8], from: usize)
+    requires { ⌜ from ≤ length (now buffer) ⌝ }
+    ensures { λ _. ⌜ now (buffer .exit) ≡ take from (now (buffer .entry)) ++ replicate (length (now (buffer .entry)) - from) 0 ⌝ }
+{
+    for i in from..buffer.len() {
+        buffer[i] = 0;
+    }
+}

@@ -1,0 +1,80 @@
+-- The rules' calls: what decides them, read by read.
+use Prim.Native.Nat.{ℕ, suc, _+_, _-_, _≤_, _<_, max}
+use native.Mathlib.Omega.{arith}
+use native.Mathlib.Nat.{add-zero}
+use borrow.Author.Tests.{lt-ltb, le-ltb}
+use mathlib.Core.Path.{_≡_, refl, sym, ap, ap₂, _∙_}
+use mathlib.Core.Option.{Option, none, some}
+use mathlib.Core.List.{List, [], _∷_, _++_, append-nil}
+use lib.ListN.{length, replicate}
+use Rattle.rules.specs.Refusal.{Refusal, accepted, refused, Check}
+use Rattle.rules.specs.Set.{KmerSet, opened}
+use Rattle.rules.specs.Job.{Method, pass, result, methodsOf}
+use Rattle.rules.specs.Counts.{Fed, sum, passesOf, allPasses}
+use Rattle.rules.specs.Calls.{Given, After, unchanged, noRoom, longest, tooLong, results, report, corrected, call}
+
+-- ---- sums over passes
+
+pub sum-append : (f : Fed → ℕ) (ps qs : List Fed) → sum f (ps ++ qs) ≡ sum f ps + sum f qs
+unfolding sum
+sum-append f [] qs = omega arith
+sum-append f (p ∷ ps) qs = omega (arith, sum-append f ps qs)
+
+module _ (set : KmerSet) (c : ℕ) (ms : List Method) where
+  -- The longest pass result hangs on the methods and the read alone.
+  pub longest-same : (e d : List ℕ) (ns : List Method) (read : List ℕ) → longest set c ms e ns read ≡ longest set c ms d ns read
+  unfolding longest
+  longest-same e d [] read = refl
+  longest-same e d (m ∷ ns) read =
+      ap (max (length (pass set c m read .bytes))) (longest-same e d ns (pass set c m read .bytes))
+
+  pub sum-first : (f : Fed → ℕ) (read : List ℕ) (reads : List (List ℕ))
+      → sum f (allPasses set c ms (read ∷ reads)) ≡ sum f (passesOf set c ms read) + sum f (allPasses set c ms reads)
+  unfolding allPasses
+  sum-first f read reads = sum-append f (passesOf set c ms read) (allPasses set c ms reads)
+
+  module _ (ending : List ℕ) where
+    -- ---- 11 at the first read from number i on, or what is left for the later ones
+
+    pub too-long-here : (i left : ℕ) (read : List ℕ) (reads : List (List ℕ)) → left < longest set c ms ending ms read + length ending
+        → tooLong set c ms ending i left (read ∷ reads) ≡ some i
+    unfolding tooLong
+    too-long-here i left read reads h = rw (tooLong, lt-ltb left (longest set c ms ending ms read + length ending) h)
+
+    pub too-long-later : (i left : ℕ) (read : List ℕ) (reads : List (List ℕ)) → longest set c ms ending ms read + length ending ≤ left
+        → tooLong set c ms ending i left (read ∷ reads)
+        ≡ tooLong set c ms ending (suc i) (left - (length (result set c ms read) + length ending)) reads
+    unfolding tooLong
+    too-long-later i left read reads h = rw (tooLong, le-ltb left (longest set c ms ending ms read + length ending) h)
+
+    module _ (g : Given) (reads : List (List ℕ)) where
+      pub corrected-full : (line : ℕ) → tooLong set c ms ending 0 (length (g .output)) reads ≡ some line
+          → corrected set c ms ending g reads ≡ noRoom g line
+      unfolding corrected
+      corrected-full line e = rw (corrected, e)
+
+      pub corrected-fits : tooLong set c ms ending 0 (length (g .output)) reads ≡ none
+          → corrected set c ms ending g reads
+          ≡ record {
+            answer = accepted (report set c ms ending reads);
+            output = results set c ms ending reads ++ replicate (length (g .output) - length (results set c ms ending reads)) 0;
+            work = replicate (length (g .work)) 0;
+          }
+      unfolding corrected
+      corrected-fits e = rw (corrected, e)
+
+-- ---- the checks first, then the set's
+
+module _ (ending : List ℕ) (reads : List (List ℕ)) (check : Check) (g : Given) where
+  pub call-refused : (r : Refusal) → check ≡ some r → call ending reads check g ≡ unchanged g r
+  unfolding call
+  call-refused r e = rw (call, e)
+
+  pub call-not-opened : (r : Refusal) → check ≡ none → opened (g .set) ≡ refused r → call ending reads check g ≡ unchanged g r
+  unfolding call
+  call-not-opened r e o = rw (call, e, o)
+
+  pub call-opened : (set : KmerSet) → check ≡ none → opened (g .set) ≡ accepted set
+      → call ending reads check g ≡ corrected set (g .confirm) (methodsOf (g .methods)) ending g reads
+  unfolding call
+  call-opened set e o = rw (call, e, o)

@@ -1,0 +1,100 @@
+-- A call up to its opened set.
+use Prim.Native.Nat.{ℕ, _≤_}
+use mathlib.Core.Path.{_≡_, sym, ap, _∙_, subst}
+use mathlib.Core.Bool.{true, false}
+use mathlib.Core.Option.{none, some}
+use mathlib.Core.List.{List, [], _∷_}
+use lib.ListN.{length}
+use Rattle.rules.specs.Refusal.{Check, accepted, refused, _orElse_, unless}
+use Rattle.rules.specs.Set.{setCheck, headerK, headerN, setOf, opened}
+use Rattle.rules.specs.Job.{methodsOf, lines}
+use Rattle.rules.specs.Calls.{Given, After, inputCheck, batchRight, givenCheck, corrected, call, correctRead, correctBatch}
+use Rattle.rules.proofs.Opened.{opened-check}
+use Rattle.blocks.specs.declared.Opened.{Opened}
+use Rattle.blocks.specs.declared.Opened.the-variants.{Set}
+use Rattle.blocks.specs.Opened.{Opens}
+use Rattle.job.specs.declared.Refusal.{Refusal}
+use Rattle.job.specs.declared.Refusal.the-variants.{Batch}
+use Rattle.job.specs.declared.Answer.{Answer}
+use Rattle.job.specs.declared.Answer.the-variants.{Refused}
+use Rattle.job.specs.Answer.{refusalOf, Exact, Ceiling}
+use Rattle.job.proofs.Calls.{call-refused, call-not-opened, call-opened}
+use Rattle.job.proofs.Exact.{refused-exact, under-ceiling}
+
+-- What is known of a set that opened.
+module _ (bytes : List ℕ) (o : Opened) (k n : ℕ) (e : o ≡ Set k n) (h : Opens bytes o) where
+  told : Opens bytes (Set k n)
+  told = subst (Opens bytes) e h
+
+  pub set-opened : opened bytes ≡ accepted (setOf bytes)
+  set-opened = told .0
+
+  pub set-checked : (setCheck bytes ≡ none) × (k ≡ headerK bytes) × (n ≡ headerN bytes)
+  set-checked = (opened-check bytes (setOf bytes) set-opened, told .1, told .2)
+
+-- ---- the two calls, by what the checks of the input say
+
+module _ (g : Given) where
+  abbrev checks : Check
+  checks = inputCheck (length (g .input)) (g .methods) (g .confirm) (length (g .output)) (length (g .work))
+
+  abbrev ceiling : List (List ℕ) → Answer → Type 0
+  ceiling = Ceiling (setOf (g .set)) (g .confirm) (methodsOf (g .methods))
+
+  -- What a call whose set opened does with its reads, an ending behind each.
+  abbrev with-set : List ℕ → List (List ℕ) → After
+  with-set ending reads = corrected (setOf (g .set)) (g .confirm) (methodsOf (g .methods)) ending g reads
+
+  module _ (r : Refusal) where
+    pub read-refused : checks ≡ some (refusalOf r) → Exact (correctRead g) (Refused r) (g .output) (g .work)
+    unfolding correctRead givenCheck
+    read-refused e = refused-exact g (correctRead g) r (call-refused [] (g .input ∷ []) checks g (refusalOf r) e)
+
+    pub read-not-opened : checks ≡ none → opened (g .set) ≡ refused (refusalOf r) → Exact (correctRead g) (Refused r) (g .output) (g .work)
+    unfolding correctRead givenCheck
+    read-not-opened e o = refused-exact g (correctRead g) r (call-not-opened [] (g .input ∷ []) checks g (refusalOf r) e o)
+
+  pub read-corrected : (r : Answer) {o w : List ℕ} → checks ≡ none → opened (g .set) ≡ accepted (setOf (g .set)) → 1 ≤ g .confirm
+      → Exact (with-set [] (g .input ∷ [])) r o w → Exact (correctRead g) r o w × ceiling (g .input ∷ []) r
+  unfolding correctRead givenCheck
+  read-corrected r {o} {w} e opens low h = (
+    subst (λ (a : After). Exact a r o w) (sym (call-opened [] (g .input ∷ []) checks g (setOf (g .set)) e opens)) h,
+    under-ceiling (setOf (g .set)) (g .confirm) (methodsOf (g .methods)) [] g (g .input ∷ []) (g .set) opens low r h,
+  )
+
+  -- 6 comes after 5.
+  abbrev six : Check
+  six = unless (batchRight (g .input)) 6
+
+  module _ (r : Refusal) where
+    pub batch-refused : checks ≡ some (refusalOf r) → Exact (correctBatch g) (Refused r) (g .output) (g .work)
+    unfolding correctBatch givenCheck _orElse_
+    batch-refused e =
+        refused-exact g (correctBatch g) r
+        (call-refused (10 ∷ []) (lines (g .input)) (checks orElse six) g (refusalOf r) (ap (λ (c : Check). c orElse six) e))
+
+  module _ (e : checks ≡ none) where
+    pub batch-not-right : batchRight (g .input) ≡ false → Exact (correctBatch g) (Refused Batch) (g .output) (g .work)
+    unfolding correctBatch givenCheck _orElse_ unless
+    batch-not-right b =
+        refused-exact g (correctBatch g) Batch
+        (call-refused (10 ∷ []) (lines (g .input)) (checks orElse six) g (refusalOf Batch) (rw (e, b)))
+
+    module _ (b : batchRight (g .input) ≡ true) where
+      passed : (checks orElse six) ≡ none
+      unfolding _orElse_ unless
+      passed = rw (e, b)
+
+      pub batch-not-opened : (r : Refusal) → opened (g .set) ≡ refused (refusalOf r) → Exact (correctBatch g) (Refused r) (g .output) (g .work)
+      unfolding correctBatch givenCheck
+      batch-not-opened r o =
+          refused-exact g (correctBatch g) r (call-not-opened (10 ∷ []) (lines (g .input)) (checks orElse six) g (refusalOf r) passed o)
+
+      pub batch-corrected : (r : Answer) {o w : List ℕ} → opened (g .set) ≡ accepted (setOf (g .set)) → 1 ≤ g .confirm
+          → Exact (with-set (10 ∷ []) (lines (g .input))) r o w → Exact (correctBatch g) r o w × ceiling (lines (g .input)) r
+      unfolding correctBatch givenCheck
+      batch-corrected r {o} {w} opens low h = (
+        subst (λ (a : After). Exact a r o w)
+            (sym (call-opened (10 ∷ []) (lines (g .input)) (checks orElse six) g (setOf (g .set)) passed opens)) h,
+        under-ceiling (setOf (g .set)) (g .confirm) (methodsOf (g .methods)) (10 ∷ []) g (lines (g .input)) (g .set) opens low r h,
+      )

@@ -1,0 +1,92 @@
+-- What the parts of a call promise each other.
+use Prim.Native.Nat.{ℕ, _+_, _*_, _-_, _^_, _≤_, _<_}
+use mathlib.Core.Path.{_≡_}
+use mathlib.Core.List.{List, [], _∷_, _++_}
+use lib.ListN.{length, take, drop, replicate}
+use Rattle.rules.specs.Set.{KmerSet}
+use Rattle.rules.specs.Report.{yieldOf}
+use Rattle.rules.specs.Driver as Rules
+use Rattle.rules.specs.Job.{Method}
+use Rattle.rules.specs.Counts.{sum, allPasses, turns, lookups, attempts, corrections}
+use Rattle.rules.specs.Calls.{maxRead, maxMethods, maxOutput, longest, results}
+use Rattle.correct.specs.declared.Counts.{Counts}
+use Rattle.correct.specs.declared.Pass.{Pass}
+use Rattle.correct.specs.declared.Pass.the-variants.{Done, Full}
+use Rattle.correct.specs.Pass.{passOf}
+use Rattle.correct.specs.Through.{through}
+use Rattle.job.specs.declared.Report.{Report}
+
+-- What checks 1 to 5 leave, by the lengths of input, output and work.
+pub record Checked (c : ℕ) (ms : List ℕ) (i o w : ℕ) : Type 0 where
+  pub input : i ≤ maxRead
+  pub methods : length ms ≤ maxMethods
+  pub confirm : 1 ≤ c
+  pub output : o ≤ maxOutput
+  pub work : 2 * o ≤ w
+
+-- ---- the end of a call
+
+-- The bytes written stay, the rest of the output and the whole work buffer, of length w, are zero.
+pub record Cleared (written : ℕ) (o : List ℕ) (w : ℕ) (o′ w′ : List ℕ) : Type 0 where
+  pub output : o′ ≡ take written o ++ replicate (length o - written) 0
+  pub work : w′ ≡ replicate w 0
+
+-- The report on what was written and counted.
+abbrev pub reportOn : Counts → Report
+reportOn n =
+    record {
+      written = n .written;
+      turns = n .turns;
+      lookups = n .lookups;
+      attempts = n .attempts;
+      accepted = n .accepted;
+      «yield_» = yieldOf (n .accepted) (n .attempts);
+    }
+
+-- ---- the reads of a call in turn
+
+-- All of a call's reads: the bytes written, and what all passes count.
+unfoldable pub throughAll : KmerSet → ℕ → List Method → List ℕ → List (List ℕ) → Rules.Pass
+unfolding results sum allPasses turns lookups attempts corrections
+throughAll set c ms ending reads =
+    let ps = allPasses set c ms reads in
+    record {
+      bytes = results set c ms ending reads;
+      turns = sum (turns set c) ps;
+      lookups = sum (lookups set c) ps;
+      attempts = sum (attempts set c) ps;
+      accepted = sum (corrections set c) ps;
+    }
+
+-- A line with byte 10 behind its result.
+abbrev pub lineThrough : KmerSet → ℕ → List Method → List ℕ → Rules.Pass
+lineThrough set c ms line =
+    let p = through set c ms line in
+    record { bytes = p .bytes ++ (10 ∷ []); turns = p .turns; lookups = p .lookups; attempts = p .attempts; accepted = p .accepted }
+
+-- A line stands behind the first `at` bytes of the output; Full where a pass result and byte 10 are more than what is left.
+abbrev pub LineIs : KmerSet → ℕ → List Method → List ℕ → ℕ → List ℕ → List ℕ → Pass → Type 0
+LineIs set c ms line at o o′ (Done r) =
+    (passOf r (drop at o′) ≡ lineThrough set c ms line)
+    × (take at o′ ≡ take at o)
+    × (at + r .written ≤ length o)
+    × (longest set c ms (10 ∷ []) ms line + 1 ≤ length o - at)
+LineIs set c ms line at o o′ Full = length o - at < longest set c ms (10 ∷ []) ms line + 1
+
+abbrev pub added : Counts → Counts → Counts
+added a b =
+    record {
+      written = a .written + b .written;
+      turns = a .turns + b .turns;
+      lookups = a .lookups + b .lookups;
+      attempts = a .attempts + b .attempts;
+      accepted = a .accepted + b .accepted;
+    }
+
+-- Counts that fit their types.
+pub record Countable (n : Counts) : Type 0 where
+  pub written : n .written < 2 ^ 64
+  pub turns : n .turns < 2 ^ 64
+  pub lookups : n .lookups < 2 ^ 64
+  pub attempts : n .attempts < 2 ^ 64
+  pub accepted : n .accepted < 2 ^ 64

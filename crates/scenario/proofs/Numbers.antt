@@ -1,0 +1,64 @@
+-- Scenarios by their numbers: a rule over a row, or over a range of numbers, is one test that antt computes.
+use Prim.Native.Nat.{ℕ, zero, suc, _+_, _≤_, _<_}
+use native.Mathlib.Omega.{arith}
+use native.Mathlib.Nat.{eq-or-lt-of-le}
+use mathlib.Core.Path.{_≡_, refl}
+use mathlib.Core.Logic.{_⊎_, inl, inr}
+use mathlib.Core.Bool.{Bool, true, false, _&&_}
+use lib.Dec.{T, eqb, leb, eqb→eq, leb→le}
+use Rattle.rules.specs.Letters.{last}
+use Rattle.rules.specs.Exist.{Scenario}
+use Rattle.scenario.specs.declared.Row.{Row}
+use Rattle.scenario.specs.Scenario.{RowIs, Gives}
+
+left : (a b : Bool) → T (a && b) → T a
+left true b t = tt
+left false b t = absurd t
+
+right : (a b : Bool) → T (a && b) → T b
+right true b t = t
+right false b t = absurd t
+
+-- the tests of a row, in the order of `RowIs`
+abbrev pub rowRight : Scenario → Row → Bool
+rowRight sc r = eqb (r .least) (sc .least) && (eqb (r .start) (sc .o) && (eqb (r .resume) (sc .r) && (leb (r .start) 4 && leb (r .resume) 4)))
+
+pub row-right : (sc : Scenario) (r : Row) → T (rowRight sc r) → RowIs sc r
+row-right sc r t =
+    let t1 = right (eqb (r .least) (sc .least)) _ t in
+    let t2 = right (eqb (r .start) (sc .o)) _ t1 in
+    let t3 = right (eqb (r .resume) (sc .r)) _ t2 in
+    record {
+      least = eqb→eq _ _ (left (eqb (r .least) (sc .least)) _ t);
+      start = eqb→eq _ _ (left (eqb (r .start) (sc .o)) _ t1);
+      resume = eqb→eq _ _ (left (eqb (r .resume) (sc .r)) _ t2);
+      start-le = leb→le _ _ (left (leb (r .start) 4) _ t3);
+      resume-le = leb→le _ _ (right (leb (r .start) 4) _ t3);
+    }
+
+-- what a scenario gives, by its row
+pub gives : {sc : Scenario} {row : Row} (t code n : ℕ) → RowIs sc row → n ≤ 3 → last n code ≡ sc .letters t
+    → Gives sc t (record { code = code; letters = n; resume = row .resume })
+gives t code n q h e = record { is = λ i. record { letters = e i; resume = q .resume i }; small = record { letters-le = h; resume-le = q .resume-le } }
+
+-- n is none of the m numbers from lo on, as a `match` says it after what it said before
+abbrev pub Past : Type 0 → ℕ → ℕ → ℕ → Type 0
+Past Before n lo zero = Before
+Past Before n lo (suc m) = Past Before n lo m × (n ≡ lo + m → ⊥)
+
+pub past : (Before : Type 0) (n lo m : ℕ) → lo ≤ n → Past Before n lo m → lo + m ≤ n
+past Before n lo zero l p = omega arith
+past Before n lo (suc m) l p = let i = past Before n lo m l (p .0) in let ne = p .1 in omega arith
+
+-- what holds at each of the n numbers from lo on
+abbrev pub Each : (ℕ → Type 0) → ℕ → ℕ → Type 0
+Each P lo zero = Unit {0}
+Each P lo (suc n) = P lo × Each P (suc lo) n
+
+pub range : (P : ℕ → Type 0) (lo n : ℕ) → Each P lo n → (i : ℕ) → lo ≤ i → i < lo + n → P i
+range P lo zero e i l h = absurd (omega arith)
+range P lo (suc n) e i l h = go (range P (suc lo) n (e .1) i) (eq-or-lt-of-le l)
+  where
+    go : (lo < i → i < suc lo + n → P i) → (lo ≡ i) ⊎ (lo < i) → P i
+    go rest (inl q) = rw (← q) (e .0)
+    go rest (inr q) = rest q (omega arith)

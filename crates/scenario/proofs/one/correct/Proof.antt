@@ -1,0 +1,23 @@
+use native.Mathlib.Omega.{arith}
+use mathlib.Core.Path.{_≡_, refl}
+use lib.Dec.{lit≤}
+use Rattle.rules.specs.Letters.{last}
+use Rattle.rules.specs.Exist.{row, one}
+use Rattle.scenario.specs.Scenario.{nth}
+use Rattle.scenario.proofs.Numbers.{range, gives}
+use borrow.Author.Needs.{needs}
+use Rattle.scenario.proofs.one.correct.Statement.{statement}
+use Rattle.scenario.proofs.one.correct.Tie as tie
+
+row-of-requires : tie.Need-row-of-requires
+row-of-requires c κs = search needs
+
+returns : tie.Need-returns
+unfolding nth one row
+returns c k sol s t =
+    let n = c .before .args .number in
+    gives t _ 1 (c .row-of .ensures k sol (c .before .args .x) s) (lit≤ tt)
+    (range (λ i. last 1 (c .before .args .x) ≡ nth (one k sol (c .before .args .x) s) i .letters t) 0 3 (refl, (refl, (refl, tt))) n (omega arith) (omega arith))
+
+pub correct-spec : {M : Type 1} → statement M
+correct-spec = tie.close (tie.spec row-of-requires returns)

@@ -1,0 +1,27 @@
+use mathlib.Core.Path.{refl, sym, ap, _∙_}
+use lib.Dec.{lit≤}
+use borrow.Author.Tests.{not-true, not-false}
+use Rattle.scan.specs.declared.Next.the-variants.{Kmer, Refused}
+use Rattle.scenario.proofs.Trials.{trial-is}
+use Prim.Native.Nat.{ℕ}
+use mathlib.Core.Option.{Option, some}
+use Rattle.rules.specs.Counted.{give}
+use Rattle.scenario.specs.Scenario.{passingOf, TrialIs, plus}
+use borrow.Author.Needs.{needs}
+use Rattle.scenario.proofs.two.passing.Statement.{statement}
+use Rattle.scenario.proofs.two.passing.Tie as tie
+
+with-requires : tie.Need-with-requires
+with-requires c κs = search needs
+
+with-requires-2 : tie.Need-with-requires-2
+with-requires-2 c κs = search needs
+
+returns : tie.Need-returns
+unfolding passingOf give
+returns c =
+    let e = c .with2 .ensures in
+    trial-is (Kmer (c .with2 .result)) refl (ap {B = Option ℕ} some (sym (rw (c .before .with .ensures .is) at (e .is))), e .kmer) (lit≤ tt)
+
+pub passing-spec : {M : Type 1} → statement M
+passing-spec = tie.close (tie.spec with-requires with-requires-2 returns)

@@ -1,0 +1,13 @@
+use Rattle.scenario.proofs.Trials.{sole-is}
+use borrow.Author.Needs.{needs}
+use Rattle.scenario.proofs.two.sole.Statement.{statement}
+use Rattle.scenario.proofs.two.sole.Tie as tie
+
+sole-next-requires : tie.Need-sole-next-requires
+sole-next-requires c κs = search needs
+
+returns : tie.Need-returns
+returns c = sole-is _ _ _ (c .sole-next .result) (c .sole-next .ensures)
+
+pub sole-spec : {M : Type 1} → statement M
+sole-spec = tie.close (tie.spec sole-next-requires returns)

@@ -1,0 +1,88 @@
+-- The scenarios of One and Two by their numbers, and what their functions give by the rules.
+use Prim.Native.Nat.{ℕ, _≤_}
+use mathlib.Core.Path.{_≡_}
+use mathlib.Core.Bool.{Bool, true, false}
+use mathlib.Core.List.{List, []}
+use lib.ListN.{length, getD}
+use lib.Dec.{ltb}
+use Rattle.rules.specs.Letters.{addBase, last}
+use Rattle.rules.specs.Counted.{Try, refuse, give, _>>_}
+use Rattle.rules.specs.Scan.{isSolid, notSolid, sole}
+use Rattle.rules.specs.Exist as rules
+use Rattle.rules.specs.Exist.{Scenario, one, two}
+use Rattle.scan.specs.Scan.{NextIs}
+use Rattle.scenario.specs.declared.Row.{Row}
+use Rattle.scenario.specs.declared.Trial.{Trial}
+use Rattle.scenario.specs.declared.Mend.{Mend}
+
+-- ---- scenarios by their numbers
+
+-- How many scenarios One and Two have.
+abbrev pub numberOf : Bool → ℕ
+numberOf false = 3
+numberOf true = 13
+
+abbrev pub scenarios : Bool → ℕ → (ℕ → Bool) → ℕ → List ℕ → List Scenario
+scenarios false k sol = one k sol
+scenarios true k sol = two k sol
+
+-- The scenario of a number.
+unfoldable pub nth : List Scenario → ℕ → Scenario
+nth scs i = getD scs i (record { least = 0; trial = refuse; o = 0; letters = λ t. []; r = 0 })
+
+pub record RowIs (sc : Scenario) (r : Row) : Type 0 where
+  pub least : r .least ≡ sc .least
+  pub start : r .start ≡ sc .o
+  pub resume : r .resume ≡ sc .r
+  pub start-le : r .start ≤ 4
+  pub resume-le : r .resume ≤ 4
+
+-- ---- trials
+
+-- A scenario's trial: refused below its least length without lookups.
+unfoldable pub trialOf : List ℕ → Scenario → Try ℕ
+trialOf s sc = elim (ltb (length s) (sc .least)) [ true ↦ refuse | false ↦ sc .trial ]
+
+-- y+si
+abbrev pub plus : ℕ → ℕ → List ℕ → ℕ → ℕ
+plus k y s i = addBase k y (getD s i 0)
+
+-- SCI, DCI: x+s1+s3.
+unfoldable pub passingOf : ℕ → ℕ → List ℕ → Try ℕ
+passingOf k x s = give (plus k (plus k x s 1) s 3)
+
+module _ (k : ℕ) (sol : ℕ → Bool) (x : ℕ) (s : List ℕ) where
+  -- ICD, SCD, DCD: y = x+si, y+u(y).
+  unfoldable pub soleAfter : ℕ → Try ℕ
+  soleAfter i = sole k sol (plus k x s i)
+
+  -- ICI: x+s3, solid.
+  unfoldable pub solidAfter : Try ℕ
+  solidAfter = isSolid k sol (plus k x s 3)
+
+  -- SS, ICS: x+s1 not solid, x+u(x).
+  unfoldable pub insteadOf : Try ℕ
+  insteadOf = notSolid k sol (plus k x s 1) >> sole k sol x
+
+  -- SCS: y = x+s1 solid, y+s2 not, y+u(y).
+  unfoldable pub insteadAfter : Try ℕ
+  insteadAfter = isSolid k sol (plus k x s 1) >> notSolid k sol (plus k (plus k x s 1) s 2) >> sole k sol (plus k x s 1)
+
+pub record TrialIs (k : ℕ) (t : Try ℕ) (r : Trial) : Type 0 where
+  pub tried : NextIs k (t .answer) (r .tried)
+  pub lookups : t .lookups ≡ r .lookups
+  pub few : r .lookups ≤ 7
+
+-- ---- what is given
+
+abbrev pub mendOf : Mend → rules.Mend
+mendOf m = record { letters = last (m .letters) (m .code); resume = m .resume }
+
+pub record Small (m : Mend) : Type 0 where
+  pub letters-le : m .letters ≤ 3
+  pub resume-le : m .resume ≤ 4
+
+-- What a scenario gives where t is its tried k-mer.
+pub record Gives (sc : Scenario) (t : ℕ) (m : Mend) : Type 0 where
+  pub is : mendOf m ≡ record { letters = sc .letters t; resume = sc .r }
+  pub small : Small m

@@ -1,0 +1,86 @@
+// Document 01, "Correctors", the scenarios of One and Two: ports the trait `Scenario` of src/correct/exist/mod.rs. A scenario is its number
+// in the source's order.
+mod one;
+mod two;
+
+use kmer::Header;
+use kmer::Kmer;
+use scan::Next;
+ghost use mathlib.Core.Bool.{Bool};
+ghost use mathlib.Core.List.{List};
+ghost use mathlib.Core.Path.{_≡_};
+ghost use Prim.Native.Nat.{ℕ, _<_};
+ghost use Rattle.rules.specs.Set.{solid, setOf};
+ghost use Rattle.kmer.specs.Kmer.{IsKmer};
+ghost use Rattle.set.specs.Ready.{Ready};
+ghost use Rattle.scenario.specs.Scenario.{numberOf, scenarios, nth, RowIs, trialOf, TrialIs, Gives};
+
+// A scenario's least length of s, check start o and resume r.
+pub struct Row {
+    pub least: usize,
+    pub start: usize,
+    pub resume: usize,
+}
+
+// A trial's result, made once and kept: the tried k-mer or a refusal, and the lookups made.
+pub struct Trial {
+    pub tried: Next,
+    pub lookups: u64,
+}
+
+// What a scenario gives: the last letters of a k-mer, and the resume.
+pub struct Mend {
+    pub code: u64,
+    pub letters: usize,
+    pub resume: usize,
+}
+
+pub fn number_of(two: bool) -> usize
+    ensures { λ r. ⌜ r ≡ numberOf two ⌝ }
+{
+    if two { 13 } else { 3 }
+}
+
+pub fn row_of(two: bool, number: usize) -> Row
+    requires { ⌜ number < numberOf two ⌝ }
+    ensures { λ r. ⌜ ((k : ℕ) (sol : ℕ → Bool) (x : ℕ) (s : List ℕ) → RowIs (nth (scenarios two k sol x s) number) r) ⌝ }
+{
+    if two {
+        two::row_of(number)
+    } else {
+        one::row_of(number)
+    }
+}
+
+pub fn apply(
+    set: &[u8],
+    starts: &[u32],
+    head: Header,
+    two: bool,
+    number: usize,
+    x: Kmer,
+    s: &[u8],
+) -> Trial
+    requires { ⌜ Ready (now set) (now starts) head × IsKmer (head .k) x × (number < numberOf two) ⌝ }
+    ensures { λ r. ⌜ TrialIs (head .k) (trialOf (now (s .entry)) (nth (scenarios two (head .k) (solid (setOf (now (set .entry)))) (x .code) (now (s .entry))) number)) r ⌝ }
+{
+    if two {
+        two::apply(set, starts, head, number, x, s)
+    } else {
+        Trial {
+            tried: Next::Kmer(x),
+            lookups: 0,
+        }
+    }
+}
+
+pub fn correct(two: bool, number: usize, x: u64, tried: u64) -> Mend
+    requires { ⌜ number < numberOf two ⌝ }
+    ensures { λ r. ⌜ ((k : ℕ) (sol : ℕ → Bool) (s : List ℕ) → Gives (nth (scenarios two k sol x s) number) tried r) ⌝ }
+{
+    if two {
+        two::correct(number, x, tried)
+    } else {
+        one::correct(number, x)
+    }
+}

@@ -1,0 +1,42 @@
+// Document 01, One: I, S, D. Ports src/correct/exist/one.rs.
+use super::Mend;
+use super::Row;
+ghost use mathlib.Core.Bool.{Bool};
+ghost use mathlib.Core.List.{List};
+ghost use Prim.Native.Nat.{ℕ, _<_};
+ghost use Rattle.rules.specs.Exist as rules;
+ghost use Rattle.scenario.specs.Scenario.{nth, RowIs, Gives};
+
+pub fn row_of(number: usize) -> Row
+    requires { ⌜ number < 3 ⌝ }
+    ensures { λ r. ⌜ ((k : ℕ) (sol : ℕ → Bool) (x : ℕ) (s : List ℕ) → RowIs (nth (rules.one k sol x s) number) r) ⌝ }
+{
+    match number {
+        0 => Row {
+            least: 0,
+            start: 2,
+            resume: 2,
+        },
+        1 => Row {
+            least: 0,
+            start: 1,
+            resume: 1,
+        },
+        _ => Row {
+            least: 0,
+            start: 0,
+            resume: 0,
+        },
+    }
+}
+
+pub fn correct(number: usize, x: u64) -> Mend
+    requires { ⌜ number < 3 ⌝ }
+    ensures { λ r. ⌜ ((k : ℕ) (sol : ℕ → Bool) (s : List ℕ) (t : ℕ) → Gives (nth (rules.one k sol x s) number) t r) ⌝ }
+{
+    Mend {
+        code: x,
+        letters: 1,
+        resume: row_of(number).resume,
+    }
+}

@@ -1,0 +1,261 @@
+// Document 01, Two: II, IS, SS, SD, DD, ICI, ICS, ICD, SCI, SCS, SCD, DCI, DCD. Ports src/correct/exist/two.rs.
+use super::Mend;
+use super::Row;
+use super::Trial;
+use kmer::Header;
+use kmer::Kmer;
+use scan::Next;
+ghost use mathlib.Core.Bool.{Bool};
+ghost use mathlib.Core.List.{List};
+ghost use Prim.Native.Nat.{ℕ, _<_};
+ghost use lib.ListN.{length};
+ghost use Rattle.rules.specs.Set.{solid, setOf};
+ghost use Rattle.rules.specs.Scan;
+ghost use Rattle.rules.specs.Exist as rules;
+ghost use Rattle.kmer.specs.Kmer.{Shifts, IsKmer, HasCode};
+ghost use Rattle.set.specs.Ready.{Ready};
+ghost use Rattle.scenario.specs.Scenario.{nth, RowIs, trialOf, plus, soleAfter, solidAfter, passingOf, insteadOf, insteadAfter, TrialIs, Gives};
+
+pub fn row_of(number: usize) -> Row
+    requires { ⌜ number < 13 ⌝ }
+    ensures { λ r. ⌜ ((k : ℕ) (sol : ℕ → Bool) (x : ℕ) (s : List ℕ) → RowIs (nth (rules.two k sol x s) number) r) ⌝ }
+{
+    match number {
+        0 => Row {
+            least: 0,
+            start: 3,
+            resume: 2,
+        },
+        1 => Row {
+            least: 0,
+            start: 2,
+            resume: 2,
+        },
+        2 => Row {
+            least: 2,
+            start: 2,
+            resume: 2,
+        },
+        3 => Row {
+            least: 1,
+            start: 1,
+            resume: 1,
+        },
+        4 => Row {
+            least: 0,
+            start: 0,
+            resume: 0,
+        },
+        5 => Row {
+            least: 4,
+            start: 4,
+            resume: 3,
+        },
+        6 => Row {
+            least: 4,
+            start: 3,
+            resume: 4,
+        },
+        7 => Row {
+            least: 4,
+            start: 3,
+            resume: 2,
+        },
+        8 => Row {
+            least: 4,
+            start: 4,
+            resume: 4,
+        },
+        9 => Row {
+            least: 3,
+            start: 3,
+            resume: 3,
+        },
+        10 => Row {
+            least: 2,
+            start: 2,
+            resume: 2,
+        },
+        11 => Row {
+            least: 4,
+            start: 4,
+            resume: 1,
+        },
+        _ => Row {
+            least: 2,
+            start: 1,
+            resume: 1,
+        },
+    }
+}
+
+// The letters given are the last 1, 2 or 3 of a k-mer, or none.
+pub fn correct(number: usize, x: u64, tried: u64) -> Mend
+    requires { ⌜ number < 13 ⌝ }
+    ensures { λ r. ⌜ ((k : ℕ) (sol : ℕ → Bool) (s : List ℕ) → Gives (nth (rules.two k sol x s) number) tried r) ⌝ }
+{
+    let resume = row_of(number).resume;
+    match number {
+        0..=1 => Mend {
+            code: x,
+            letters: 1,
+            resume,
+        },
+        2..=4 => Mend {
+            code: tried,
+            letters: 2,
+            resume,
+        },
+        5 => Mend {
+            code: x,
+            letters: 1,
+            resume,
+        },
+        6..=7 => Mend {
+            code: tried,
+            letters: 2,
+            resume,
+        },
+        8..=10 => Mend {
+            code: tried,
+            letters: 3,
+            resume,
+        },
+        11 => Mend {
+            code: tried,
+            letters: 0,
+            resume,
+        },
+        _ => Mend {
+            code: tried,
+            letters: 3,
+            resume,
+        },
+    }
+}
+
+// y+si
+fn with(kmer: Kmer, s: &[u8], i: usize, head: Header) -> Kmer
+    requires { ⌜ Shifts head × IsKmer (head .k) kmer × (i < length (now s)) ⌝ }
+    ensures { λ r. ⌜ HasCode (head .k) (plus (head .k) (kmer .code) (now (s .entry)) i) r ⌝ }
+{
+    scan::add_base(kmer, s[i], head)
+}
+
+// x+u(x)
+fn sole(set: &[u8], starts: &[u32], head: Header, x: Kmer) -> Trial
+    requires { ⌜ Ready (now set) (now starts) head × IsKmer (head .k) x ⌝ }
+    ensures { λ r. ⌜ TrialIs (head .k) (Scan.sole (head .k) (solid (setOf (now (set .entry)))) (x .code)) r ⌝ }
+{
+    Trial {
+        tried: scan::sole_next(set, starts, head, x),
+        lookups: 4,
+    }
+}
+
+// y = x+si, y+u(y)
+fn sole_after(set: &[u8], starts: &[u32], head: Header, x: Kmer, s: &[u8], i: usize) -> Trial
+    requires { ⌜ Ready (now set) (now starts) head × IsKmer (head .k) x × (i < length (now s)) ⌝ }
+    ensures { λ r. ⌜ TrialIs (head .k) (soleAfter (head .k) (solid (setOf (now (set .entry)))) (x .code) (now (s .entry)) i) r ⌝ }
+{
+    sole(set, starts, head, with(x, s, i, head))
+}
+
+// x+s3, solid
+fn solid_after(set: &[u8], starts: &[u32], head: Header, x: Kmer, s: &[u8]) -> Trial
+    requires { ⌜ Ready (now set) (now starts) head × IsKmer (head .k) x × (3 < length (now s)) ⌝ }
+    ensures { λ r. ⌜ TrialIs (head .k) (solidAfter (head .k) (solid (setOf (now (set .entry)))) (x .code) (now (s .entry))) r ⌝ }
+{
+    let kmer = with(x, s, 3, head);
+    if set::get(set, starts, head, kmer) {
+        Trial {
+            tried: Next::Kmer(kmer),
+            lookups: 1,
+        }
+    } else {
+        Trial {
+            tried: Next::Refused,
+            lookups: 1,
+        }
+    }
+}
+
+// x+s1+s3
+fn passing(head: Header, x: Kmer, s: &[u8]) -> Trial
+    requires { ⌜ Shifts head × IsKmer (head .k) x × (3 < length (now s)) ⌝ }
+    ensures { λ r. ⌜ TrialIs (head .k) (passingOf (head .k) (x .code) (now (s .entry))) r ⌝ }
+{
+    Trial {
+        tried: Next::Kmer(with(with(x, s, 1, head), s, 3, head)),
+        lookups: 0,
+    }
+}
+
+// x+s1 not solid, x+u(x)
+fn instead(set: &[u8], starts: &[u32], head: Header, x: Kmer, s: &[u8]) -> Trial
+    requires { ⌜ Ready (now set) (now starts) head × IsKmer (head .k) x × (1 < length (now s)) ⌝ }
+    ensures { λ r. ⌜ TrialIs (head .k) (insteadOf (head .k) (solid (setOf (now (set .entry)))) (x .code) (now (s .entry))) r ⌝ }
+{
+    if set::get(set, starts, head, with(x, s, 1, head)) {
+        return Trial {
+            tried: Next::Refused,
+            lookups: 1,
+        };
+    }
+    Trial {
+        tried: scan::sole_next(set, starts, head, x),
+        lookups: 5,
+    }
+}
+
+// y = x+s1 solid, y+s2 not, y+u(y)
+fn instead_after(set: &[u8], starts: &[u32], head: Header, x: Kmer, s: &[u8]) -> Trial
+    requires { ⌜ Ready (now set) (now starts) head × IsKmer (head .k) x × (2 < length (now s)) ⌝ }
+    ensures { λ r. ⌜ TrialIs (head .k) (insteadAfter (head .k) (solid (setOf (now (set .entry)))) (x .code) (now (s .entry))) r ⌝ }
+{
+    let y = with(x, s, 1, head);
+    if !set::get(set, starts, head, y) {
+        return Trial {
+            tried: Next::Refused,
+            lookups: 1,
+        };
+    }
+    if set::get(set, starts, head, with(y, s, 2, head)) {
+        return Trial {
+            tried: Next::Refused,
+            lookups: 2,
+        };
+    }
+    Trial {
+        tried: scan::sole_next(set, starts, head, y),
+        lookups: 6,
+    }
+}
+
+pub fn apply(set: &[u8], starts: &[u32], head: Header, number: usize, x: Kmer, s: &[u8]) -> Trial
+    requires { ⌜ Ready (now set) (now starts) head × IsKmer (head .k) x × (number < 13) ⌝ }
+    ensures { λ r. ⌜ TrialIs (head .k) (trialOf (now (s .entry)) (nth (rules.two (head .k) (solid (setOf (now (set .entry)))) (x .code) (now (s .entry))) number)) r ⌝ }
+{
+    if s.len() < row_of(number).least {
+        return Trial {
+            tried: Next::Refused,
+            lookups: 0,
+        };
+    }
+    match number {
+        0..=1 => Trial {
+            tried: Next::Kmer(x),
+            lookups: 0,
+        },
+        2 => instead(set, starts, head, x, s),
+        3..=4 => sole(set, starts, head, x),
+        5 => solid_after(set, starts, head, x, s),
+        6 => instead(set, starts, head, x, s),
+        7 => sole_after(set, starts, head, x, s, 2),
+        8 => passing(head, x, s),
+        9 => instead_after(set, starts, head, x, s),
+        10 => sole_after(set, starts, head, x, s, 1),
+        11 => passing(head, x, s),
+        _ => sole_after(set, starts, head, x, s, 0),
+    }
+}
