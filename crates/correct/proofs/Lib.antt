@@ -1,8 +1,6 @@
-pub mod Parts
-pub mod Ends
-pub mod Turns
+pub mod Copies
+pub mod Drives
+pub mod InTurn
 pub mod Limits
 pub mod Passes
-pub mod InTurn
 pub mod Underway
-pub mod Methods

@@ -1,22 +1,23 @@
 -- A pass's counts stay within limits that the length of what it is fed sets, whatever the set. Serves the counters: they never wrap.
-use Prim.Native.Nat.{ℕ, zero, suc, _+_, _*_, _-_, _≤_, _<_}
+use Prim.Native.Nat.{ℕ, _+_, _*_, _-_, _≤_, _<_}
 use native.Mathlib.Omega.{arith}
 use native.Mathlib.Decide.{decLe}
 use native.Mathlib.Nat.{mul-le-mul-left, mul-le-mul-right}
-use mathlib.Core.Path.{_≡_, refl, ap}
+use mathlib.Core.Path.{_≡_}
 use mathlib.Core.Option.{none}
 use mathlib.Core.List.{List}
 use lib.ListN.{length}
-use Rattle.rules.specs.Set.{solid, setCheck, setOf, headerN, keysFrom}
+use Rattle.rules.specs.Set.{solid, setCheck, setOf}
 use Rattle.rules.specs.Driver.{Pass, drive}
 use Rattle.rules.specs.Job.{Method, One, Two, Graph, GapSize, correctError, pass}
 use Rattle.rules.specs.Counts.{F}
 use Rattle.rules.proofs.Driver.{drive-turns}
 use Rattle.rules.proofs.Lookups.{drive-lookups, drive-short}
 use Rattle.rules.proofs.Demands.{fair, steady}
+use Rattle.turn.proofs.Methods.{keys-are}
 use Rattle.set.proofs.Opened.{opened-k-low, opened-k-high, opened-n-le}
 use Rattle.rules.specs.Calls.{maxRead}
-use Rattle.correct.proofs.Ends.{drive-fewer}
+use Rattle.correct.proofs.Drives.{drive-fewer}
 use Rattle.correct.proofs.InTurn.{both}
 
 -- The largest F of demand 3: GapSize's, at k = 31, confirm 255 and 16,777,216 keys.
@@ -30,18 +31,13 @@ pub record Limited (w : ℕ) (p : Pass) : Type 0 where
   pub attempts : p .attempts ≤ 2 * w
   pub accepted : p .accepted ≤ 2 * w
 
-pub length-keys : (bytes : List ℕ) (i n : ℕ) → length (keysFrom bytes i n) ≡ n
-unfolding keysFrom
-length-keys bytes i zero = refl
-length-keys bytes i (suc n) = ap suc (length-keys bytes (suc i) n)
-
 module _ (bytes : List ℕ) (opens : setCheck bytes ≡ none) (c : ℕ) (c-low : 1 ≤ c) (c-high : c < 256) where
   F-le : (m : Method) → F (setOf bytes) c m ≤ maxF
   unfolding F setOf
   F-le One = omega arith
   F-le Two = omega arith
-  F-le Graph = omega (arith, length-keys bytes 0 (headerN bytes), opened-n-le bytes opens)
-  F-le GapSize = omega (arith, length-keys bytes 0 (headerN bytes), opened-n-le bytes opens, opened-k-high bytes opens)
+  F-le Graph = omega (arith, keys-are bytes, opened-n-le bytes opens)
+  F-le GapSize = omega (arith, keys-are bytes, opened-n-le bytes opens, opened-k-high bytes opens)
 
   k-low : 1 ≤ setOf bytes .k
   unfolding setOf

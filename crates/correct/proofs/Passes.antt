@@ -15,12 +15,12 @@ use Rattle.kmer.specs.declared.Header.{Header}
 use Rattle.kmer.specs.declared.Kmer.{Kmer}
 use Rattle.kmer.specs.Kmer.{HasCode}
 use Rattle.set.specs.Ready.{Ready}
-use Rattle.correct.specs.declared.Place.{Place}
+use Rattle.turn.specs.declared.Place.{Place}
 use Rattle.rules.specs.Calls.{maxRead}
 use Rattle.correct.specs.Pass.{unchanged}
-use Rattle.correct.specs.Turn.{stateOf, Countable, attemptOf, endOf}
-use Rattle.correct.proofs.Turns.{set-k}
-use Rattle.correct.proofs.Ends.{drive-short-is, drive-is, drive-long}
+use Rattle.turn.specs.Turn.{stateOf, Countable, attemptOf, endOf}
+use Rattle.turn.proofs.Turns.{set-k}
+use Rattle.correct.proofs.Drives.{drive-short-is, drive-is, drive-long}
 use Rattle.correct.proofs.Limits.{maxF, Limited}
 
 pub countable : (w : ℕ) (p : Rules.Pass) → w ≤ maxRead → Limited w p → Countable p
@@ -35,7 +35,7 @@ countable w p h l =
 
 -- The first k-mer, copied: 1 lookup.
 abbrev pub firstPlace : ℕ → Kmer → Bool → Place
-firstPlace k y v = record { kmer = y; previous = v; at = k; done = record { written = k; turns = 0; lookups = 1; attempts = 0; accepted = 0 } }
+firstPlace k y v = record { kmer = y; previous = v; at = k; written = k; turns = 0; lookups = 1; attempts = 0; accepted = 0 }
 
 module _ (bytes starts : List ℕ) (head : Header) (ready : Ready bytes starts head) (method c : ℕ) (read : List ℕ) where
   pass-is : pass (setOf bytes) c (methodOf method) read ≡ drive (head .k) (solid (setOf bytes)) (attemptOf bytes method c) read

@@ -1,22 +1,17 @@
 // The driver, `Corrector::correct` of src/correct/mod.rs: a pass, which is one read through one method, and a read through a list of
 // methods. Document 01, "Driver".
 use kmer::Header;
-use kmer::Kmer;
-use scan::Attempt;
+use turn::Place;
+use turn::Turned;
 ghost use mathlib.Core.Path.{_≡_};
-ghost use mathlib.Core.Bool.{true, false};
 ghost use Prim.Native.Nat.{_+_, _-_, _≤_, _<_, _^_};
 ghost use lib.ListN.{length, take};
-ghost use Rattle.rules.specs.Letters.{addAll};
-ghost use Rattle.rules.specs.Set.{setOf, solid};
-ghost use Rattle.rules.specs.Scan.{errorLen};
+ghost use Rattle.rules.specs.Set.{setOf};
 ghost use Rattle.rules.specs.Job.{methodOf, pass};
-ghost use Rattle.kmer.specs.Kmer.{Shifts, IsKmer, HasCode};
 ghost use Rattle.set.specs.Ready.{Ready};
-ghost use Rattle.scan.specs.Attempt.{Attempted};
 ghost use Rattle.rules.specs.Calls.{maxRead, maxOutput, maxMethods};
 ghost use Rattle.correct.specs.Pass.{unchanged, PassIs, Passed};
-ghost use Rattle.correct.specs.Turn.{stateOf, countedOf, Stands, Countable, attemptOf, endOf, Kept, Mended, Turning, BadAt, TurnIs};
+ghost use Rattle.turn.specs.Turn.{stateOf, Stands, Countable, endOf};
 ghost use Rattle.correct.specs.Through.{held, Through, joined};
 
 // What was written and counted.
@@ -34,20 +29,6 @@ pub enum Pass {
     Full,
 }
 
-// Where a pass stands: the k-mer, whether the previous one counts as solid, the index of the next base, and what is done.
-struct Place {
-    kmer: Kmer,
-    previous: bool,
-    at: usize,
-    done: Counts,
-}
-
-// Full: what the turn has to write, or what comes after it, does not fit.
-enum Turned {
-    To(Place),
-    Full,
-}
-
 fn copy(src: &[u8], dst: &mut [u8])
     requires { ⌜ length (now src) ≤ length (now dst) ⌝ }
     ensures { λ _. ⌜ take (length (now (src .entry))) (now (dst .exit)) ≡ now (src .entry) ⌝ }
@@ -55,179 +36,6 @@ fn copy(src: &[u8], dst: &mut [u8])
     for i in 0..src.len() {
         dst[i] = src[i];
     }
-}
-
-// An attempt under a method, kmer being the bad k-mer and s the rest of the read at its bad base.
-fn correct_error(
-    set: &[u8],
-    starts: &[u32],
-    head: Header,
-    method: u8,
-    c: u8,
-    kmer: Kmer,
-    s: &[u8],
-    out: &mut [u8],
-) -> Attempt
-    requires { ⌜ Ready (now set) (now starts) head × IsKmer (head .k) kmer × (1 ≤ length (now s)) × (1 ≤ c) ⌝ }
-    ensures { λ r. ⌜
-        Attempted (errorLen (head .k) (solid (setOf (now (set .entry)))) (kmer .code) (now (s .entry)) .index) (now (out .entry)) (now (out .exit))
-        (attemptOf (now (set .entry)) method c (now (s .entry)) (kmer .code))
-        r ⌝ }
-{
-    match method {
-        1 => exist::correct_error(set, starts, head, false, c, kmer, s, out),
-        2 => exist::correct_error(set, starts, head, true, c, kmer, s, out),
-        3 => graph::correct_error(set, starts, head, kmer, s, out),
-        _ => gap_size::correct_error(set, starts, head, c, kmer, s, out),
-    }
-}
-
-fn add_letters(kmer: Kmer, letters: &[u8], head: Header) -> Kmer
-    requires { ⌜ Shifts head × IsKmer (head .k) kmer ⌝ }
-    ensures { λ r. ⌜ HasCode (head .k) (addAll (head .k) (kmer .code) (now (letters .entry))) r ⌝ }
-{
-    let mut y = kmer;
-    for i in 0..letters.len() {
-        y = scan::add_base(y, letters[i], head);
-    }
-    y
-}
-
-// One turn more: bytes written, lookups beside the turn's own, attempts made and accepted.
-fn counted(done: Counts, written: usize, lookups: u64, attempts: u64, accepted: u64) -> Counts
-    requires { ⌜ (done .written + written < 2 ^ 64) × (done .turns < 2 ^ 63) × (done .lookups + (1 + lookups) < 2 ^ 64) ⌝ }
-    requires { ⌜ (done .attempts + attempts < 2 ^ 64) × (done .accepted + accepted < 2 ^ 64) ⌝ }
-    ensures { λ r. ⌜ r ≡ countedOf done written lookups attempts accepted ⌝ }
-{
-    Counts {
-        written: done.written + written,
-        turns: done.turns + 1,
-        lookups: done.lookups + (1 + lookups),
-        attempts: done.attempts + attempts,
-        accepted: done.accepted + accepted,
-    }
-}
-
-// The base is kept: its k-mer becomes the pass's, and solid says what its lookup answered.
-fn keep(
-    p: Place,
-    base: u8,
-    kmer: Kmer,
-    solid: bool,
-    attempts: u64,
-    lookups: u64,
-    out: &mut [u8],
-) -> Turned
-    requires { ⌜
-        (p .at < 2 ^ 63) × (p .done .turns < 2 ^ 63) × (p .done .lookups + (1 + lookups) < 2 ^ 64) × (p .done .attempts + attempts < 2 ^ 64) ⌝ }
-    ensures { λ r. ⌜ Kept p base kmer solid attempts lookups (now (out .entry)) (now (out .exit)) r ⌝ }
-{
-    let done = p.done;
-    let w = done.written;
-    if out.len() <= w {
-        return Turned::Full;
-    }
-    out[w] = base;
-    Turned::To(Place {
-        kmer,
-        previous: solid,
-        at: p.at + 1,
-        done: counted(done, 1, lookups, attempts, 0),
-    })
-}
-
-// The letters of an accepted attempt stand in the output already. The bad k-mer takes them in place of its last letter, and the pass
-// goes on `resume` bases further, or stops at the read's end, `len`.
-fn mend(
-    p: Place,
-    bad: Kmer,
-    letters: &[u8],
-    resume: usize,
-    lookups: u64,
-    len: usize,
-    head: Header,
-) -> Place
-    requires { ⌜ Shifts head × IsKmer (head .k) bad × (p .at ≤ len) × (p .done .written + length (now letters) < 2 ^ 64) ⌝ }
-    requires { ⌜
-        (p .done .turns < 2 ^ 63) × (p .done .lookups + (1 + lookups) < 2 ^ 64) × (p .done .attempts < 2 ^ 63) × (p .done .accepted < 2 ^ 63) ⌝ }
-    ensures { λ r. ⌜ Mended (head .k) p (bad .code) (now (letters .entry)) resume lookups len r ⌝ }
-{
-    let mut at = len;
-    if resume < len - p.at {
-        at = p.at + resume;
-    }
-    let moved = kmer::drop_last(bad, head);
-    let done = p.done;
-    Place {
-        kmer: add_letters(moved, letters, head),
-        previous: true,
-        at,
-        done: counted(done, letters.len(), lookups, 1, 1),
-    }
-}
-
-// A turn at a base whose k-mer is not solid while the previous was.
-fn bad_base(
-    set: &[u8],
-    starts: &[u32],
-    head: Header,
-    method: u8,
-    c: u8,
-    p: Place,
-    bad: Kmer,
-    read: &[u8],
-    out: &mut [u8],
-) -> Turned
-    requires { ⌜ Turning (now set) (now starts) head method c p (now read) (now out) ⌝ }
-    requires { ⌜ BadAt (now set) head p bad (now read) ⌝ }
-    ensures { λ r. ⌜ TurnIs (now (set .entry)) head method c p (now (read .entry)) (now (out .entry)) (now (out .exit)) r ⌝ }
-{
-    let at = p.at;
-    let w = p.done.written;
-    let tried = correct_error(
-        set,
-        starts,
-        head,
-        method,
-        c,
-        bad,
-        &read[at..],
-        &mut out[w..],
-    );
-    match tried {
-        Attempt::Mend(n, resume, lookups) => {
-            let end = w + n;
-            Turned::To(mend(p, bad, &out[w..end], resume, lookups, read.len(), head))
-        }
-        Attempt::Refused(lookups) => keep(p, read[at], bad, false, 1, lookups, out),
-        Attempt::Full => Turned::Full,
-    }
-}
-
-fn turn(
-    set: &[u8],
-    starts: &[u32],
-    head: Header,
-    method: u8,
-    c: u8,
-    p: Place,
-    read: &[u8],
-    out: &mut [u8],
-) -> Turned
-    requires { ⌜ Turning (now set) (now starts) head method c p (now read) (now out) ⌝ }
-    ensures { λ r. ⌜ TurnIs (now (set .entry)) head method c p (now (read .entry)) (now (out .entry)) (now (out .exit)) r ⌝ }
-{
-    let at = p.at;
-    let base = read[at];
-    let next = scan::add_base(p.kmer, base, head);
-    if set::get(set, starts, head, next) {
-        return keep(p, base, next, true, 0, 0, out);
-    }
-    let previous = p.previous;
-    if !previous {
-        return keep(p, base, next, false, 0, 0, out);
-    }
-    bad_base(set, starts, head, method, c, p, next, read, out)
 }
 
 // Turns until no base is left.
@@ -251,13 +59,18 @@ fn turns_of(
 {
     let mut p = first;
     while p.at < read.len() {
-        let Turned::To(next) = turn(set, starts, head, method, c, p, read, out) else {
+        let Turned::To(next) = turn::turn(set, starts, head, method, c, p, read, out) else {
             return Pass::Full;
         };
         p = next;
     }
-    let done = p.done;
-    Pass::Done(done)
+    Pass::Done(Counts {
+        written: p.written,
+        turns: p.turns,
+        lookups: p.lookups,
+        attempts: p.attempts,
+        accepted: p.accepted,
+    })
 }
 
 // The read as it is, with nothing counted.
@@ -305,13 +118,11 @@ pub fn correct(
         kmer,
         previous,
         at: k,
-        done: Counts {
-            written: k,
-            turns: 0,
-            lookups: 1,
-            attempts: 0,
-            accepted: 0,
-        },
+        written: k,
+        turns: 0,
+        lookups: 1,
+        attempts: 0,
+        accepted: 0,
     };
     turns_of(set, starts, head, method, c, first, read, out)
 }

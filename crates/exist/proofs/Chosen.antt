@@ -6,13 +6,13 @@ use native.Mathlib.Nat.{eq-or-lt-of-le}
 use mathlib.Core.Logic.{_⊎_, inl, inr}
 use mathlib.Core.Path.{_≡_, refl, sym, ap, _∙_}
 use mathlib.Core.Bool.{Bool, true, false}
-use mathlib.Core.Option.{Option, none, some}
+use mathlib.Core.Option.{none, some}
 use mathlib.Core.List.{List, [], _∷_, _++_, map, map-append}
 use lib.ListN.{length, take, drop, getD, set, replicate, length-map, List·getD-map, drop-of-length-le}
 use lib.Seq.{length-take-le, getD-take, drop-cons, take-suc-set, getD-set-same, getD-set-other}
 use borrow.Author.Tests.{lt-ltb, le-ltb}
 use Rattle.rules.specs.Letters.{inPlace, addAll}
-use Rattle.rules.specs.Counted.{Counted, Try, refuse, give, after, _>>_}
+use Rattle.rules.specs.Counted.{Counted, refuse, give, after, _>>_}
 use Rattle.rules.specs.Scan.{only, isSolid}
 use Rattle.rules.specs.Exist.{Mend, cons, oneMore, oneMoreOf, choose}
 use Rattle.scenario.proofs.Trials.{solid-yes, solid-no, refused-then, given-then}

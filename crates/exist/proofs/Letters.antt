@@ -1,10 +1,10 @@
 -- The letters of a mend: the last ones of a k-mer, first one first.
 use Prim.Native.Nat.{ℕ, zero, suc, _+_, _*_, _-_, _/_, _%_, _^_, _≤_, _<_}
 use native.Mathlib.Omega.{arith}
-use native.Mathlib.Nat.{pow-succ', div-div-eq-div-mul, add-suc, div-one}
-use mathlib.Core.Path.{_≡_, refl, sym, ap, _∙_}
-use mathlib.Core.List.{List, [], _∷_, _++_}
+use native.Mathlib.Nat.{pow-succ', div-div-eq-div-mul, div-one}
 use native.Mathlib.Numerals.{add-one}
+use mathlib.Core.Path.{_≡_, refl, sym, ap, _∙_}
+use mathlib.Core.List.{List, [], _∷_}
 use lib.ListN.{length, getD, take, drop, set, length-append, List·getD-append, drop-of-length-le}
 use lib.Seq.{getD-at, drop-cons, take-suc, take-suc-set, take-all}
 use lib.Bits.{bitAnd, and-mask}

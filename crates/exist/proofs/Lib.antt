@@ -1,4 +1,4 @@
 pub mod Letters
 pub mod Scores
 pub mod Chosen
-pub mod Whole
+pub mod Attempts

@@ -1,20 +1,20 @@
 -- The scenarios' scores, and which of them are kept.
-use Prim.Native.Nat.{ℕ, zero, suc, _+_, _-_, _≤_, _<_}
+use Prim.Native.Nat.{ℕ, suc, _+_, _-_, _≤_, _<_}
 use native.Mathlib.Omega.{arith}
 use native.Mathlib.Numerals.{add-one}
 use mathlib.Core.Path.{_≡_, refl, sym, ap, _∙_}
 use mathlib.Core.Bool.{Bool, true, false}
 use mathlib.Core.Option.{Option, none, some}
 use mathlib.Core.List.{List, [], _∷_, _++_, append-assoc, append-nil}
-use lib.Dec.{eqb, ltb, lit≤}
+use lib.Dec.{ltb, lit≤}
 use lib.ListN.{length, take, drop, getD, drop-of-length-le}
 use lib.Seq.{drop-cons, slice, slice-cons, slice-empty, take-add, drop-at, length-take-le}
 use borrow.Author.Tests.{lt-ltb, le-ltb, eq-eqb, ne-eqb}
 use Rattle.rules.specs.Letters.{addBase}
-use Rattle.rules.specs.Counted.{Counted, Try, after, refuse, _>>=_}
+use Rattle.rules.specs.Counted.{Counted, after, refuse, _>>=_}
 use Rattle.rules.specs.Exist.{Scenario, Mend, cons, one, two, solidRun, score, keep, tried, kept}
 use Rattle.scenario.specs.Scenario.{numberOf, scenarios, nth, trialOf}
-use Rattle.scenario.proofs.Trials.{trial-short, trial-long, refused-bind, given-bind}
+use Rattle.scenario.proofs.Trials.{refused-bind, given-bind}
 use Rattle.exist.specs.Exist.{confirm}
 
 module _ (k : ℕ) (sol : ℕ → Bool) (c : ℕ) (s : List ℕ) (pos : 1 ≤ c) (sc : Scenario) where

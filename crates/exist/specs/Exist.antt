@@ -2,14 +2,14 @@
 use Prim.Native.Nat.{ℕ, _+_, _≤_, _<_}
 use mathlib.Core.Path.{_≡_}
 use mathlib.Core.Bool.{Bool, true, false}
-use mathlib.Core.Option.{none, some}
+use mathlib.Core.Option.{Option, none, some}
 use mathlib.Core.List.{List, map}
 use lib.ListN.{length, getD, take, drop}
 use lib.Dec.{eqb}
 use Rattle.rules.specs.Letters.{letter, last}
 use Rattle.rules.specs.Counted.{Counted, Try, after}
-use Rattle.rules.specs.Exist as rules
 use Rattle.rules.specs.Exist.{Scenario}
+use Rattle.rules.specs.Exist as rules
 use Rattle.kmer.specs.Kmer.{IsKmer}
 use Rattle.scan.specs.declared.Next.{Next}
 use Rattle.scan.specs.declared.Next.the-variants.{Kmer, Refused}
@@ -18,8 +18,9 @@ use Rattle.scenario.specs.declared.Mend.{Mend}
 use Rattle.scenario.specs.Scenario.{mendOf, Small}
 use Rattle.exist.specs.declared.Scenarii.{Scenarii}
 use Rattle.exist.specs.declared.More.{More}
+use Rattle.exist.specs.declared.Pick.{Pick}
+use Rattle.exist.specs.declared.Pick.the-variants.{Mend as Use, Refused as NoUse}
 use Rattle.exist.specs.declared.Choice.{Choice}
-use Rattle.exist.specs.declared.Choice.the-variants.{Mend as Use, Refused as None}
 
 -- What is left of a scenario's score where its tried k-mer t is solid and s long enough: the c bases from o.
 unfoldable pub confirm : ℕ → (ℕ → Bool) → ℕ → List ℕ → Scenario → ℕ → Try rules.Mend
@@ -71,6 +72,11 @@ pub record MoreIs (m : rules.Mend) (t : Try rules.Mend) (r : More) : Type 0 wher
   pub is : moreOf m r ≡ t
   pub few : r .lookups ≤ 1
 
-abbrev pub ChoiceIs : Try rules.Mend → Choice → Type 0
-ChoiceIs t (Use m l) = (t .answer ≡ some (mendOf m)) × Small m × (t .lookups ≡ l) × (l ≤ 13)
-ChoiceIs t (None l) = (t .answer ≡ none) × (t .lookups ≡ l) × (l ≤ 13)
+abbrev pub PickIs : Option rules.Mend → Pick → Type 0
+PickIs o (Use m) = (o ≡ some (mendOf m)) × Small m
+PickIs o NoUse = o ≡ none
+
+pub record ChoiceIs (t : Try rules.Mend) (r : Choice) : Type 0 where
+  pub is : PickIs (t .answer) (r .pick)
+  pub lookups : t .lookups ≡ r .lookups
+  pub few : r .lookups ≤ 13

@@ -5,12 +5,10 @@ use scan::Attempt;
 use scan::Next;
 use scenario::Mend;
 use scenario::Trial;
-ghost use mathlib.Core.Bool.{Bool};
-ghost use mathlib.Core.List.{List};
 ghost use mathlib.Core.Path.{_≡_};
-ghost use Prim.Native.Nat.{ℕ, _≤_, _<_};
-ghost use lib.ListN.{length, take, getD};
-ghost use Rattle.rules.specs.Letters.{letter, last, inPlace, addAll};
+ghost use Prim.Native.Nat.{_≤_, _<_};
+ghost use lib.ListN.{length, take};
+ghost use Rattle.rules.specs.Letters.{last, inPlace, addAll};
 ghost use Rattle.rules.specs.Set.{solid, setOf};
 ghost use Rattle.rules.specs.Scan.{errorLen};
 ghost use Rattle.rules.specs.Exist as rules;
@@ -18,25 +16,30 @@ ghost use Rattle.kmer.specs.Kmer.{Shifts, IsKmer, HasCode};
 ghost use Rattle.set.specs.Ready.{Ready};
 ghost use Rattle.scan.specs.Attempt.{Attempted};
 ghost use Rattle.scenario.specs.Scenario.{numberOf, scenarios, nth, mendOf, Small};
-ghost use Rattle.exist.specs.Exist.{confirm, Eligible, mendsOf, Held, KeptIs, LetterIs, MoreIs, ChoiceIs};
+ghost use Rattle.exist.specs.Exist.{Eligible, mendsOf, Held, KeptIs, LetterIs, MoreIs, ChoiceIs};
 
 // The scenarios kept, the first `count` of the group, and the lookups of all scenarios.
-pub struct Scenarii {
-    pub kept: [Mend; 13],
-    pub count: usize,
-    pub lookups: u64,
+struct Scenarii {
+    kept: [Mend; 13],
+    count: usize,
+    lookups: u64,
 }
 
 // One base more: whether its k-mer is solid, and the lookups made.
-pub struct More {
-    pub solid: bool,
-    pub lookups: u64,
+struct More {
+    solid: bool,
+    lookups: u64,
 }
 
-// The mend to use, or a refusal; the lookups of one base more.
-pub enum Choice {
-    Mend(Mend, u64),
-    Refused(u64),
+// The mend to use.
+enum Pick {
+    Mend(Mend),
+    Refused,
+}
+
+struct Choice {
+    pick: Pick,
+    lookups: u64,
 }
 
 // The tried k-mer, unless the score is 0 from the outset: the trial refuses, its k-mer isn't solid, or o + c exceeds the length of s.
@@ -54,28 +57,25 @@ fn eligible(
     ensures { λ r. ⌜ Eligible (head .k) (solid (setOf (now (set .entry)))) c (now (s .entry)) (nth (scenarios two (head .k) (solid (setOf (now (set .entry)))) (x .code) (now (s .entry))) number) r ⌝ }
 {
     let trial = scenario::apply(set, starts, head, two, number, x, s);
-    let lookups = trial.lookups;
     let tried = trial.tried;
     let Next::Kmer(kmer) = tried else {
         return trial;
     };
-    let start = scenario::row_of(two, number).start;
+    let lookups = trial.lookups + 1;
+    let start = scenario::check_start(two, number);
     if !set::get(set, starts, head, kmer) {
         return Trial {
             tried: Next::Refused,
-            lookups: lookups + 1,
+            lookups,
         };
     }
     if s.len() < start + c {
         return Trial {
             tried: Next::Refused,
-            lookups: lookups + 1,
+            lookups,
         };
     }
-    Trial {
-        tried: Next::Kmer(kmer),
-        lookups: lookups + 1,
-    }
+    Trial { tried, lookups }
 }
 
 // The scenarios that score c: the c bases of s from o are added, and the trial ends at the first base whose k-mer isn't solid.
@@ -106,7 +106,7 @@ fn get_scenarii(
         let Next::Kmer(first) = tried else {
             continue 'scenarios;
         };
-        let start = scenario::row_of(two, number).start;
+        let start = scenario::check_start(two, number);
         let last = start + c;
         let mut kmer = first;
         for j in start..last {
@@ -211,7 +211,10 @@ fn choose(
     let kept = scenarii.kept;
     let count = scenarii.count;
     if count == 1 {
-        return Choice::Mend(kept[0], 0);
+        return Choice {
+            pick: Pick::Mend(kept[0]),
+            lookups: 0,
+        };
     }
     let mut chosen = Mend {
         code: 0,
@@ -230,9 +233,15 @@ fn choose(
         }
     }
     if remaining == 1 {
-        Choice::Mend(chosen, lookups)
+        Choice {
+            pick: Pick::Mend(chosen),
+            lookups,
+        }
     } else {
-        Choice::Refused(lookups)
+        Choice {
+            pick: Pick::Refused,
+            lookups,
+        }
     }
 }
 
@@ -255,16 +264,15 @@ pub fn correct_error(
     };
     let confirm = c as usize;
     let scenarii = get_scenarii(set, starts, head, two, confirm, x, s);
-    let lookups = 4 + scenarii.lookups;
     let choice = choose(set, starts, head, confirm, kmer, s, scenarii);
-    match choice {
-        Choice::Refused(more) => Attempt::Refused(lookups + more),
-        Choice::Mend(mend, more) => {
-            if out.len() < mend.letters {
-                return Attempt::Full;
-            }
-            write(mend, out);
-            Attempt::Mend(mend.letters, mend.resume, lookups + more)
-        }
+    let lookups = 4 + scenarii.lookups + choice.lookups;
+    let pick = choice.pick;
+    let Pick::Mend(mend) = pick else {
+        return Attempt::Refused(lookups);
+    };
+    if out.len() < mend.letters {
+        return Attempt::Full;
     }
+    write(mend, out);
+    Attempt::Mend(mend.letters, mend.resume, lookups)
 }

@@ -11,7 +11,7 @@ use mathlib.Core.List.{List, [], _∷_, _++_}
 use lib.ListN.{length, take, drop, set, getD, length-append, length-set, length-take}
 use lib.Seq.{slice, slice-empty, slice-cons, length-slice, take-suc-set, drop-append-le, length-take-le}
 use Rattle.rules.specs.Letters.{add, addBase, addAll, code, last, lastLetter}
-use Rattle.rules.specs.Set.{among, maxKeys, headerK, headerN, keysFrom, setOf, solid}
+use Rattle.rules.specs.Set.{among, maxKeys, headerK, setOf, solid}
 use Rattle.rules.specs.Counted.{Counted, Try, after, refuse, give, next, _>>=_}
 use Rattle.rules.specs.Scan.{sole, alternative}
 use Rattle.rules.specs.Exist.{Mend}
@@ -24,7 +24,7 @@ use Rattle.rules.proofs.Few.{SolidKmer, few}
 use Rattle.rules.proofs.Correctors.{gap-any, gap-cost}
 use Rattle.kmer.specs.declared.Header.{Header}
 use Rattle.set.specs.Ready.{Ready}
-use Rattle.set.proofs.Opened.{opened-n-le}
+use Rattle.set.proofs.Opened.{opened-n-le, set-count}
 use Rattle.graph.proofs.Laws.{bind-none, bind-some, alternative-lookups}
 use Rattle.gap_size.specs.Gap.{mendFrom, onward, passed}
 
@@ -150,18 +150,13 @@ module _ (k : ℕ) (sol : ℕ → Bool) where
           on true h = rw (e, gap, h) (omega arith)
           on false h = rw (e, gap, h) (omega (arith, i z))
 
-pub keys-count : (bytes : List ℕ) (i m : ℕ) → length (keysFrom bytes i m) ≡ m
-unfolding keysFrom
-keys-count bytes i zero = refl
-keys-count bytes i (suc m) = ap suc (keys-count bytes (suc i) m)
-
 -- no k-mer comes twice, so a gap makes at most 2n moves
 pub gap-bound : {bytes starts : List ℕ} {head : Header} → Ready bytes starts head → (m x : ℕ) → x < 4 ^ head .k → solid (setOf bytes) x ≡ true
     → gap (head .k) (solid (setOf bytes)) m (x ∷ []) x 0 .lookups ≤ 8 * maxKeys
 unfolding setOf among SolidKmer
 gap-bound {bytes} {starts} {head} r m x lt lit =
     let n = opened-n-le bytes (r .opens) in
-    let c = keys-count bytes 0 (headerN bytes) in
+    let c = set-count bytes in
     let g : SolidKmer (headerK bytes) (solid (setOf bytes)) x = (rw (← (r .k-is)) lt, lit) in
     rw (r .k-is)
     (omega (

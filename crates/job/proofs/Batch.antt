@@ -1,5 +1,5 @@
 -- A batch line by line: what is done and what is left.
-use Prim.Native.Nat.{ℕ, suc, _+_, _*_, _-_, _^_, _≤_, _<_}
+use Prim.Native.Nat.{ℕ, _+_, _-_, _^_, _≤_, _<_}
 use native.Mathlib.Omega.{arith}
 use native.Mathlib.Nat.{add-zero, zero-add, add-assoc, sub-zero}
 use native.Mathlib.Numerals.{add-one}
@@ -12,8 +12,8 @@ use lib.Seq.{length-take-le, take-add}
 use Rattle.rules.specs.Set.{KmerSet, setCheck, setOf}
 use Rattle.rules.specs.Driver as Rules
 use Rattle.rules.specs.Job.{Method, pass, result, methodsOf, lines, linesFrom}
-use Rattle.rules.specs.Counts.{sum, passesOf, allPasses, turns, lookups, attempts, corrections}
-use Rattle.rules.specs.Calls.{Given, maxRead, maxMethods, maxLines, batchRight, longest, tooLong, results, corrected}
+use Rattle.rules.specs.Counts.{sum, allPasses, turns, lookups, attempts, corrections}
+use Rattle.rules.specs.Calls.{Given, maxRead, maxMethods, maxLines, batchRight, tooLong, results, corrected}
 use Rattle.input.specs.Input.{LineAt}
 use Rattle.correct.specs.declared.Counts.{Counts}
 use Rattle.correct.specs.declared.Pass.{Pass}
@@ -23,13 +23,14 @@ use Rattle.job.specs.declared.Answer.{Answer}
 use Rattle.job.specs.declared.Answer.the-variants.{Report as Reported, Refused}
 use Rattle.job.specs.Answer.{Exact}
 use Rattle.correct.specs.Pass.{passOf}
+use Rattle.correct.proofs.InTurn.{longest-any}
 use Rattle.correct.specs.Through.{through}
-use Rattle.job.specs.Reads.{Checked, Cleared, reportOn, throughAll, lineThrough, LineIs, added, Countable}
+use Rattle.job.specs.Reads.{Checked, Cleared, reportOn, lineThrough, LineIs, added, Countable}
 use Rattle.correct.proofs.Limits.{Limited, pass-limited}
 use Rattle.job.proofs.Totals.{Small, methods-length, read-small}
 use Rattle.job.proofs.Checked.{few-lines}
-use Rattle.job.proofs.Exact.{full-exact, fits-exact}
-use Rattle.job.proofs.Calls.{longest-same, sum-first, too-long-here, too-long-later}
+use Rattle.job.proofs.Exact.{throughAll, full-exact, fits-exact}
+use Rattle.job.proofs.Calls.{sum-first, too-long-here, too-long-later}
 
 -- What q writes and counts, behind p.
 abbrev pub behind : Rules.Pass → Rules.Pass → Rules.Pass
@@ -137,7 +138,7 @@ module _ (set : KmerSet) (c : ℕ) (ms : List Method) where
         sym (length-take-le w (drop (done .written) o′) (omega (arith, length-drop (done .written) o′, h .2)))
         ∙ ap length bytes ∙ length-append (result set c ms read) ending in
         let left-is : room - done .written - (length (result set c ms read) + 1) ≡ room - (done .written + w) = omega arith in
-        let more = read-small set c limits ms read few short (omega (arith, longest-same set c ms [] ending ms read, h .3, g .length-is)) in
+        let more = read-small set c limits ms read few short (omega (arith, longest-any set c ms ms [] ending ms read, h .3, g .length-is)) in
         let t = g .small in
         record {
           lines = omega (arith, g .lines);

@@ -1,17 +1,16 @@
 -- The rules' calls: what decides them, read by read.
-use Prim.Native.Nat.{ℕ, suc, _+_, _-_, _≤_, _<_, max}
+use Prim.Native.Nat.{ℕ, suc, _+_, _-_, _≤_, _<_}
 use native.Mathlib.Omega.{arith}
-use native.Mathlib.Nat.{add-zero}
 use borrow.Author.Tests.{lt-ltb, le-ltb}
-use mathlib.Core.Path.{_≡_, refl, sym, ap, ap₂, _∙_}
-use mathlib.Core.Option.{Option, none, some}
-use mathlib.Core.List.{List, [], _∷_, _++_, append-nil}
+use mathlib.Core.Path.{_≡_}
+use mathlib.Core.Option.{none, some}
+use mathlib.Core.List.{List, [], _∷_, _++_}
 use lib.ListN.{length, replicate}
 use Rattle.rules.specs.Refusal.{Refusal, accepted, refused, Check}
 use Rattle.rules.specs.Set.{KmerSet, opened}
-use Rattle.rules.specs.Job.{Method, pass, result, methodsOf}
+use Rattle.rules.specs.Job.{Method, result, methodsOf}
 use Rattle.rules.specs.Counts.{Fed, sum, passesOf, allPasses}
-use Rattle.rules.specs.Calls.{Given, After, unchanged, noRoom, longest, tooLong, results, report, corrected, call}
+use Rattle.rules.specs.Calls.{Given, unchanged, noRoom, longest, tooLong, results, report, corrected, call}
 
 -- ---- sums over passes
 
@@ -21,13 +20,6 @@ sum-append f [] qs = omega arith
 sum-append f (p ∷ ps) qs = omega (arith, sum-append f ps qs)
 
 module _ (set : KmerSet) (c : ℕ) (ms : List Method) where
-  -- The longest pass result hangs on the methods and the read alone.
-  pub longest-same : (e d : List ℕ) (ns : List Method) (read : List ℕ) → longest set c ms e ns read ≡ longest set c ms d ns read
-  unfolding longest
-  longest-same e d [] read = refl
-  longest-same e d (m ∷ ns) read =
-      ap (max (length (pass set c m read .bytes))) (longest-same e d ns (pass set c m read .bytes))
-
   pub sum-first : (f : Fed → ℕ) (read : List ℕ) (reads : List (List ℕ))
       → sum f (allPasses set c ms (read ∷ reads)) ≡ sum f (passesOf set c ms read) + sum f (allPasses set c ms reads)
   unfolding allPasses

@@ -1,19 +1,19 @@
 -- A call's answer and buffers are the rules'.
-use Prim.Native.Nat.{ℕ, _+_, _*_, _-_, _≤_, _<_}
+use Prim.Native.Nat.{ℕ, _-_, _≤_}
 use native.Mathlib.Omega.{arith}
 use native.Mathlib.Nat.{sub-zero}
-use mathlib.Core.Path.{_≡_, refl, sym, ap, ap₂, _∙_, subst}
+use mathlib.Core.Path.{_≡_, refl, sym, ap, ap₂, _∙_}
 use mathlib.Core.Option.{Option, none, some}
 use mathlib.Core.List.{List, _++_}
 use lib.ListN.{length, take, replicate}
 use lib.Seq.{length-take-le}
-use Rattle.rules.specs.Refusal.{Outcome, accepted, refused}
+use Rattle.rules.specs.Refusal.{accepted}
 use Rattle.rules.specs.Report as Reports
 use Rattle.rules.specs.Report.{yieldOf}
 use Rattle.rules.specs.Set.{KmerSet, opened}
 use Rattle.rules.specs.Driver.{Pass}
 use Rattle.rules.specs.Job.{Method}
-use Rattle.rules.specs.Counts.{Fed, sum, allPasses, W, ceiling}
+use Rattle.rules.specs.Counts.{sum, allPasses, turns, lookups, attempts, corrections}
 use Rattle.rules.specs.Calls.{Given, After, unchanged, noRoom, tooLong, results, report, corrected}
 use Rattle.rules.proofs.Demands.{ceilings}
 use Rattle.correct.specs.declared.Counts.{Counts}
@@ -24,8 +24,21 @@ use Rattle.job.specs.declared.Answer.{Answer}
 use Rattle.job.specs.declared.Answer.the-variants.{Report as Reported, Refused}
 use Rattle.correct.specs.Pass.{passOf}
 use Rattle.job.specs.Answer.{refusalOf, reportOf, answerOf, Exact, Ceiling}
-use Rattle.job.specs.Reads.{Cleared, reportOn, throughAll}
+use Rattle.job.specs.Reads.{Cleared, reportOn}
 use Rattle.job.proofs.Calls.{corrected-full, corrected-fits}
+
+-- All of a call's reads: the bytes written, and what all passes count.
+unfoldable pub throughAll : KmerSet → ℕ → List Method → List ℕ → List (List ℕ) → Pass
+unfolding results sum allPasses turns lookups attempts corrections
+throughAll set c ms ending reads =
+    let ps = allPasses set c ms reads in
+    record {
+      bytes = results set c ms ending reads;
+      turns = sum (turns set c) ps;
+      lookups = sum (lookups set c) ps;
+      attempts = sum (attempts set c) ps;
+      accepted = sum (corrections set c) ps;
+    }
 
 -- Refusals 1 to 10.
 pub refused-exact : (g : Given) (after : After) (r : Refusal) → after ≡ unchanged g (refusalOf r) → Exact after (Refused r) (g .output) (g .work)

@@ -1,10 +1,10 @@
 -- A line in what is left of the output less 1, with byte 10 behind it.
-use Prim.Native.Nat.{ℕ, suc, _+_, _-_, _≤_, _<_}
+use Prim.Native.Nat.{ℕ, _+_, _-_, _≤_, _<_}
 use native.Mathlib.Omega.{arith}
 use native.Mathlib.Numerals.{add-one}
-use mathlib.Core.Path.{_≡_, sym, ap, _∙_, subst}
+use mathlib.Core.Path.{_≡_, ap, _∙_, subst}
 use mathlib.Core.List.{List, [], _∷_, _++_}
-use lib.ListN.{length, take, drop, set, length-append, length-drop, length-set}
+use lib.ListN.{length, take, drop, set, length-append, length-drop}
 use lib.Seq.{length-take-le, take-at, drop-at, take-append-le, take-set-le, take-suc-set, drop-set-add}
 use Rattle.rules.specs.Set.{setOf}
 use Rattle.rules.specs.Driver as Rules
@@ -12,10 +12,9 @@ use Rattle.rules.specs.Job.{Method, methodsOf}
 use Rattle.correct.specs.declared.Counts.{Counts}
 use Rattle.correct.specs.declared.Pass.{Pass}
 use Rattle.correct.specs.declared.Pass.the-variants.{Done, Full}
-use Rattle.correct.specs.Pass.{passOf}
-use Rattle.correct.specs.Through.{through, ThroughIs, Through}
-use Rattle.job.specs.Reads.{lineThrough, LineIs}
-use Rattle.job.proofs.Calls.{longest-same}
+use Rattle.correct.proofs.InTurn.{longest-any}
+use Rattle.correct.specs.Through.{ThroughIs, Through}
+use Rattle.job.specs.Reads.{LineIs}
 
 module _ (o : List ℕ) (at : ℕ) (h : at < length o) where
   -- What is left less 1, from `at` on.
@@ -51,7 +50,7 @@ module _ (o : List ℕ) (at : ℕ) (h : at < length o) where
     pub line-full : passed ≡ Full → LineIs (setOf bytes) c ms line at o o₁ Full
     line-full e =
         let is = subst (ThroughIs (setOf bytes) c ms line (length lent) part) e (t .is) in
-        omega (arith, is, lent-length, longest-same (setOf bytes) c ms [] (10 ∷ []) ms line)
+        omega (arith, is, lent-length, longest-any (setOf bytes) c ms ms [] (10 ∷ []) ms line)
 
     module _ (done : Counts) (e : passed ≡ Done done) where
       is : ThroughIs (setOf bytes) c ms line (length lent) part (Done done)
@@ -91,5 +90,5 @@ module _ (o : List ℕ) (at : ℕ) (h : at < length o) where
             },
             take-set-le at o₁ (at + n) 10 (omega arith) ∙ take-at (take at o) (part ++ drop room (drop at o)) at front,
             omega (arith, line-within, same),
-            omega (arith, is .2, lent-length, longest-same (setOf bytes) c ms [] (10 ∷ []) ms line),
+            omega (arith, is .2, lent-length, longest-any (setOf bytes) c ms ms [] (10 ∷ []) ms line),
           )

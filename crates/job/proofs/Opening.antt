@@ -1,6 +1,6 @@
 -- A call up to its opened set.
 use Prim.Native.Nat.{ℕ, _≤_}
-use mathlib.Core.Path.{_≡_, sym, ap, _∙_, subst}
+use mathlib.Core.Path.{_≡_, sym, ap, subst}
 use mathlib.Core.Bool.{true, false}
 use mathlib.Core.Option.{none, some}
 use mathlib.Core.List.{List, [], _∷_}
@@ -8,7 +8,7 @@ use lib.ListN.{length}
 use Rattle.rules.specs.Refusal.{Check, accepted, refused, _orElse_, unless}
 use Rattle.rules.specs.Set.{setCheck, headerK, headerN, setOf, opened}
 use Rattle.rules.specs.Job.{methodsOf, lines}
-use Rattle.rules.specs.Calls.{Given, After, inputCheck, batchRight, givenCheck, corrected, call, correctRead, correctBatch}
+use Rattle.rules.specs.Calls.{Given, After, inputCheck, batchRight, givenCheck, corrected, correctRead, correctBatch}
 use Rattle.rules.proofs.Opened.{opened-check}
 use Rattle.blocks.specs.declared.Opened.{Opened}
 use Rattle.blocks.specs.declared.Opened.the-variants.{Set}

@@ -1,7 +1,6 @@
 -- A single read is a list of one read, with nothing behind it.
-use Prim.Native.Nat.{ℕ, _+_, _^_, _≤_, _<_}
+use Prim.Native.Nat.{ℕ, _^_, _≤_, _<_}
 use native.Mathlib.Omega.{arith}
-use native.Mathlib.Nat.{add-zero}
 use mathlib.Core.Path.{_≡_, sym, ap, _∙_, subst}
 use mathlib.Core.Option.{none, some}
 use mathlib.Core.List.{List, [], _∷_, _++_, append-nil}
@@ -10,7 +9,7 @@ use lib.Seq.{length-front}
 use Rattle.rules.specs.Set.{KmerSet, setCheck, setOf}
 use Rattle.rules.specs.Driver as Rules
 use Rattle.rules.specs.Job.{Method, methodsOf, result}
-use Rattle.rules.specs.Counts.{Fed, sum, passesOf, allPasses, turns, lookups, attempts, corrections}
+use Rattle.rules.specs.Counts.{sum, passesOf, allPasses, turns, lookups, attempts, corrections}
 use Rattle.rules.specs.Calls.{longest, tooLong, results, corrected}
 use Rattle.correct.specs.declared.Counts.{Counts}
 use Rattle.correct.specs.declared.Pass.{Pass}
@@ -20,11 +19,11 @@ use Rattle.job.specs.declared.Answer.{Answer}
 use Rattle.job.specs.declared.Answer.the-variants.{Report as Reported, Refused}
 use Rattle.correct.specs.Through.{through, ThroughIs, Through}
 use Rattle.job.specs.Answer.{given, Exact}
-use Rattle.job.specs.Reads.{Checked, Cleared, reportOn, throughAll}
+use Rattle.job.specs.Reads.{Checked, Cleared, reportOn}
 use Rattle.correct.proofs.Limits.{pass-limited}
 use Rattle.job.proofs.Totals.{methods-length, read-small}
 use Rattle.job.proofs.Calls.{too-long-here, too-long-later}
-use Rattle.job.proofs.Exact.{full-exact, fits-exact}
+use Rattle.job.proofs.Exact.{throughAll, full-exact, fits-exact}
 
 module _ (set : KmerSet) (c : ℕ) (ms : List Method) (read : List ℕ) where
   passes-are : allPasses set c ms (read ∷ []) ≡ passesOf set c ms read

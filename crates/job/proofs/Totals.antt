@@ -1,5 +1,5 @@
 -- The totals of a call: no read counts more than the limits of document 01 allow, so that no counter wraps.
-use Prim.Native.Nat.{ℕ, suc, _+_, _*_, _≤_, max}
+use Prim.Native.Nat.{ℕ, suc, _+_, _*_, _≤_}
 use native.Mathlib.Omega.{arith}
 use native.Mathlib.Nat.{mul-le-mul-right}
 use mathlib.Core.Path.{_≡_, refl, ap}

@@ -7,7 +7,7 @@ use Rattle.rules.specs.Refusal.{Outcome, accepted, refused}
 use Rattle.rules.specs.Report as Reports
 use Rattle.rules.specs.Set.{KmerSet}
 use Rattle.rules.specs.Job.{Method}
-use Rattle.rules.specs.Counts.{Fed, sum, allPasses, W, ceiling}
+use Rattle.rules.specs.Counts.{sum, allPasses, W, ceiling}
 use Rattle.rules.specs.Calls.{Given, After}
 use Rattle.input.specs.declared.Input.{Input}
 use Rattle.input.specs.declared.Input.the-variants as Inputs

@@ -7,8 +7,7 @@ use Rattle.rules.specs.Set.{KmerSet}
 use Rattle.rules.specs.Report.{yieldOf}
 use Rattle.rules.specs.Driver as Rules
 use Rattle.rules.specs.Job.{Method}
-use Rattle.rules.specs.Counts.{sum, allPasses, turns, lookups, attempts, corrections}
-use Rattle.rules.specs.Calls.{maxRead, maxMethods, maxOutput, longest, results}
+use Rattle.rules.specs.Calls.{maxRead, maxMethods, maxOutput, longest}
 use Rattle.correct.specs.declared.Counts.{Counts}
 use Rattle.correct.specs.declared.Pass.{Pass}
 use Rattle.correct.specs.declared.Pass.the-variants.{Done, Full}
@@ -43,20 +42,7 @@ reportOn n =
       «yield_» = yieldOf (n .accepted) (n .attempts);
     }
 
--- ---- the reads of a call in turn
-
--- All of a call's reads: the bytes written, and what all passes count.
-unfoldable pub throughAll : KmerSet → ℕ → List Method → List ℕ → List (List ℕ) → Rules.Pass
-unfolding results sum allPasses turns lookups attempts corrections
-throughAll set c ms ending reads =
-    let ps = allPasses set c ms reads in
-    record {
-      bytes = results set c ms ending reads;
-      turns = sum (turns set c) ps;
-      lookups = sum (lookups set c) ps;
-      attempts = sum (attempts set c) ps;
-      accepted = sum (corrections set c) ps;
-    }
+-- ---- a line of a batch
 
 -- A line with byte 10 behind its result.
 abbrev pub lineThrough : KmerSet → ℕ → List Method → List ℕ → Rules.Pass

@@ -1,5 +1,4 @@
 // The calls of document 01: a single read, and a batch.
-
 use blocks::Opened;
 use correct::Counts;
 use correct::Pass;
@@ -8,8 +7,8 @@ use kmer::Header;
 ghost use mathlib.Core.Path.{_≡_};
 ghost use mathlib.Core.Bool.{true};
 ghost use mathlib.Core.List.{[], _∷_};
-ghost use Prim.Native.Nat.{_+_, _≤_, _<_, _^_};
-ghost use lib.ListN.{length, replicate};
+ghost use Prim.Native.Nat.{_≤_, _<_, _^_};
+ghost use lib.ListN.{length};
 ghost use Rattle.rules.specs.Report.{yieldOf};
 ghost use Rattle.rules.specs.Set.{setOf};
 ghost use Rattle.rules.specs.Job.{methodsOf, lines};
@@ -18,7 +17,7 @@ ghost use Rattle.set.specs.Ready.{Ready};
 ghost use Rattle.job.specs.Answer.{Exact, Ceiling, given, InputRefused, SetRefused};
 ghost use Rattle.job.specs.Reads.{Checked, Cleared, reportOn, LineIs, Countable, added};
 
-// What set::prepare fills.
+// The entries of the table that set::prepare fills.
 const STARTS: usize = 65537;
 
 // Document 01, "Report".
@@ -89,7 +88,9 @@ fn clear_rest(written: usize, output: &mut [u8], work: &mut [u8])
 
 // Refusal 11.
 fn no_room(line: usize, output: &mut [u8], work: &mut [u8]) -> Answer
-    ensures { λ r. ⌜ (r ≡ Answer.Refused (Refusal.NoRoom line)) × Cleared 0 (now (output .entry)) (length (now (work .entry))) (now (output .exit)) (now (work .exit)) ⌝ }
+    ensures { λ r. ⌜
+        (r ≡ Answer.Refused (Refusal.NoRoom line))
+        × Cleared 0 (now (output .entry)) (length (now (work .entry))) (now (output .exit)) (now (work .exit)) ⌝ }
 {
     clear_rest(0, output, work);
     Answer::Refused(Refusal::NoRoom(line))
@@ -108,7 +109,9 @@ fn yield_of(accepted: u64, attempts: u64) -> u64
 
 fn accept(done: Counts, output: &mut [u8], work: &mut [u8]) -> Answer
     requires { ⌜ (done .written ≤ length (now output)) × (done .accepted < 2 ^ 54) ⌝ }
-    ensures { λ r. ⌜ (r ≡ Answer.Report (reportOn done)) × Cleared (done .written) (now (output .entry)) (length (now (work .entry))) (now (output .exit)) (now (work .exit)) ⌝ }
+    ensures { λ r. ⌜
+        (r ≡ Answer.Report (reportOn done))
+        × Cleared (done .written) (now (output .entry)) (length (now (work .entry))) (now (output .exit)) (now (work .exit)) ⌝ }
 {
     clear_rest(done.written, output, work);
     Answer::Report(Report {
@@ -132,8 +135,14 @@ fn correct_one(
     output: &mut [u8],
     work: &mut [u8],
 ) -> Answer
-    requires { ⌜ Ready (now set) (now starts) head × Checked confirm (now methods) (length (now read)) (length (now output)) (length (now work)) ⌝ }
-    ensures { λ r. ⌜ Exact (corrected (setOf (now (set .entry))) confirm (methodsOf (now (methods .entry))) [] (given (now (set .entry)) confirm (now (methods .entry)) (now (read .entry)) (now (output .entry)) (now (work .entry))) (now (read .entry) ∷ [])) r (now (output .exit)) (now (work .exit)) ⌝ }
+    requires { ⌜
+        Ready (now set) (now starts) head
+        × Checked confirm (now methods) (length (now read)) (length (now output)) (length (now work)) ⌝ }
+    ensures { λ r. ⌜
+        Exact (corrected (setOf (now (set .entry))) confirm (methodsOf (now (methods .entry))) []
+        (given (now (set .entry)) confirm (now (methods .entry)) (now (read .entry)) (now (output .entry)) (now (work .entry)))
+        (now (read .entry) ∷ []))
+        r (now (output .exit)) (now (work .exit)) ⌝ }
 {
     let room = output.len();
     let passed = correct::through(
@@ -164,8 +173,13 @@ fn correct_line(
     output: &mut [u8],
     work: &mut [u8],
 ) -> Pass
-    requires { ⌜ Ready (now set) (now starts) head × Checked confirm (now methods) (length (now line)) (length (now output)) (length (now work)) × (at ≤ length (now output)) ⌝ }
-    ensures { λ r. ⌜ LineIs (setOf (now (set .entry))) confirm (methodsOf (now (methods .entry))) (now (line .entry)) at (now (output .entry)) (now (output .exit)) r ⌝ }
+    requires { ⌜
+        Ready (now set) (now starts) head
+        × Checked confirm (now methods) (length (now line)) (length (now output)) (length (now work))
+        × (at ≤ length (now output)) ⌝ }
+    ensures { λ r. ⌜
+        LineIs (setOf (now (set .entry))) confirm (methodsOf (now (methods .entry))) (now (line .entry))
+        at (now (output .entry)) (now (output .exit)) r ⌝ }
 {
     if output.len() <= at {
         return Pass::Full;
@@ -220,8 +234,15 @@ fn correct_lines(
     output: &mut [u8],
     work: &mut [u8],
 ) -> Answer
-    requires { ⌜ Ready (now set) (now starts) head × Checked confirm (now methods) (length (now batch)) (length (now output)) (length (now work)) × (batchRight (now batch) ≡ true) ⌝ }
-    ensures { λ r. ⌜ Exact (corrected (setOf (now (set .entry))) confirm (methodsOf (now (methods .entry))) (10 ∷ []) (given (now (set .entry)) confirm (now (methods .entry)) (now (batch .entry)) (now (output .entry)) (now (work .entry))) (lines (now (batch .entry)))) r (now (output .exit)) (now (work .exit)) ⌝ }
+    requires { ⌜
+        Ready (now set) (now starts) head
+        × Checked confirm (now methods) (length (now batch)) (length (now output)) (length (now work))
+        × (batchRight (now batch) ≡ true) ⌝ }
+    ensures { λ r. ⌜
+        Exact (corrected (setOf (now (set .entry))) confirm (methodsOf (now (methods .entry))) (10 ∷ [])
+        (given (now (set .entry)) confirm (now (methods .entry)) (now (batch .entry)) (now (output .entry)) (now (work .entry)))
+        (lines (now (batch .entry))))
+        r (now (output .exit)) (now (work .exit)) ⌝ }
 {
     let mut done = Counts {
         written: 0,
@@ -255,6 +276,7 @@ fn correct_lines(
     accept(done, output, work)
 }
 
+// The single-read call: corrects a read by the methods, into the output.
 pub fn correct_read(
     set: &[u8],
     confirm: u8,
@@ -263,8 +285,11 @@ pub fn correct_read(
     output: &mut [u8],
     work: &mut [u8],
 ) -> Answer
-    ensures exact { λ r. ⌜ Exact (correctRead (given (now (set .entry)) confirm (now (methods .entry)) (now (read .entry)) (now (output .entry)) (now (work .entry)))) r (now (output .exit)) (now (work .exit)) ⌝ }
-    ensures ceiling { λ r. ⌜ Ceiling (setOf (now (set .entry))) confirm (methodsOf (now (methods .entry))) (now (read .entry) ∷ []) r ⌝ }
+    ensures exact { λ r. ⌜
+        Exact (correctRead (given (now (set .entry)) confirm (now (methods .entry)) (now (read .entry)) (now (output .entry)) (now (work .entry))))
+        r (now (output .exit)) (now (work .exit)) ⌝ }
+    ensures ceiling { λ r. ⌜
+        Ceiling (setOf (now (set .entry))) confirm (methodsOf (now (methods .entry))) (now (read .entry) ∷ []) r ⌝ }
 {
     let checked = input::check_input(read.len(), methods, confirm, output.len(), work.len());
     let Input::Fine = checked else {
@@ -279,6 +304,7 @@ pub fn correct_read(
     correct_one(set, &starts, head, confirm, methods, read, output, work)
 }
 
+// The batch call: corrects the lines of a batch by the methods, into the output.
 pub fn correct_batch(
     set: &[u8],
     confirm: u8,
@@ -287,8 +313,11 @@ pub fn correct_batch(
     output: &mut [u8],
     work: &mut [u8],
 ) -> Answer
-    ensures exact { λ r. ⌜ Exact (correctBatch (given (now (set .entry)) confirm (now (methods .entry)) (now (batch .entry)) (now (output .entry)) (now (work .entry)))) r (now (output .exit)) (now (work .exit)) ⌝ }
-    ensures ceiling { λ r. ⌜ Ceiling (setOf (now (set .entry))) confirm (methodsOf (now (methods .entry))) (lines (now (batch .entry))) r ⌝ }
+    ensures exact { λ r. ⌜
+        Exact (correctBatch (given (now (set .entry)) confirm (now (methods .entry)) (now (batch .entry)) (now (output .entry)) (now (work .entry))))
+        r (now (output .exit)) (now (work .exit)) ⌝ }
+    ensures ceiling { λ r. ⌜
+        Ceiling (setOf (now (set .entry))) confirm (methodsOf (now (methods .entry))) (lines (now (batch .entry))) r ⌝ }
 {
     let checked = input::check_input(batch.len(), methods, confirm, output.len(), work.len());
     let Input::Fine = checked else {

@@ -11,11 +11,11 @@ use lib.Seq.{drop-cons}
 use mir.Val.{boolByte as bit}
 use Rattle.rules.specs.Letters.{add, addBase, code}
 use Rattle.rules.specs.Counted.{Try, give, _>>=_, next, after, refuse}
-use Rattle.rules.specs.Scan.{only, yesFrom, Scan, successors, u, sole, alternative, scanFrom}
+use Rattle.rules.specs.Scan.{only, yesFrom, successors, u, sole, alternative, scanFrom}
+use Rattle.rules.proofs.Scan.{only-yes}
 use Rattle.scan.specs.declared.Sole.{Sole}
 use Rattle.scan.specs.declared.Sole.the-variants.{Nuc, Refused}
 use Rattle.scan.specs.Scan.{nucOf}
-use Rattle.rules.proofs.Scan.{only-yes}
 
 -- ---- the sole successor
 

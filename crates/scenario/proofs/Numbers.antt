@@ -2,14 +2,15 @@
 use Prim.Native.Nat.{ℕ, zero, suc, _+_, _≤_, _<_}
 use native.Mathlib.Omega.{arith}
 use native.Mathlib.Nat.{eq-or-lt-of-le}
-use mathlib.Core.Path.{_≡_, refl}
+use mathlib.Core.Path.{_≡_, refl, _∙_}
 use mathlib.Core.Logic.{_⊎_, inl, inr}
 use mathlib.Core.Bool.{Bool, true, false, _&&_}
+use mathlib.Core.List.{List}
 use lib.Dec.{T, eqb, leb, eqb→eq, leb→le}
 use Rattle.rules.specs.Letters.{last}
-use Rattle.rules.specs.Exist.{Scenario}
+use Rattle.rules.specs.Exist.{Scenario, two}
 use Rattle.scenario.specs.declared.Row.{Row}
-use Rattle.scenario.specs.Scenario.{RowIs, Gives}
+use Rattle.scenario.specs.Scenario.{nth, RowIs, lettersOf, LettersAre, Gives}
 
 left : (a b : Bool) → T (a && b) → T a
 left true b t = tt
@@ -21,25 +22,39 @@ right false b t = absurd t
 
 -- the tests of a row, in the order of `RowIs`
 abbrev pub rowRight : Scenario → Row → Bool
-rowRight sc r = eqb (r .least) (sc .least) && (eqb (r .start) (sc .o) && (eqb (r .resume) (sc .r) && (leb (r .start) 4 && leb (r .resume) 4)))
+rowRight sc r = eqb (r .0) (sc .least) && (eqb (r .1) (sc .o) && (eqb (r .2) (sc .r) && (leb (r .1) 4 && leb (r .2) 4)))
 
 pub row-right : (sc : Scenario) (r : Row) → T (rowRight sc r) → RowIs sc r
 row-right sc r t =
-    let t1 = right (eqb (r .least) (sc .least)) _ t in
-    let t2 = right (eqb (r .start) (sc .o)) _ t1 in
-    let t3 = right (eqb (r .resume) (sc .r)) _ t2 in
+    let t1 = right (eqb (r .0) (sc .least)) _ t in
+    let t2 = right (eqb (r .1) (sc .o)) _ t1 in
+    let t3 = right (eqb (r .2) (sc .r)) _ t2 in
     record {
-      least = eqb→eq _ _ (left (eqb (r .least) (sc .least)) _ t);
-      start = eqb→eq _ _ (left (eqb (r .start) (sc .o)) _ t1);
-      resume = eqb→eq _ _ (left (eqb (r .resume) (sc .r)) _ t2);
-      start-le = leb→le _ _ (left (leb (r .start) 4) _ t3);
-      resume-le = leb→le _ _ (right (leb (r .start) 4) _ t3);
+      least = eqb→eq _ _ (left (eqb (r .0) (sc .least)) _ t);
+      start = eqb→eq _ _ (left (eqb (r .1) (sc .o)) _ t1);
+      resume = eqb→eq _ _ (left (eqb (r .2) (sc .r)) _ t2);
+      start-le = leb→le _ _ (left (leb (r .1) 4) _ t3);
+      resume-le = leb→le _ _ (right (leb (r .1) 4) _ t3);
     }
 
 -- what a scenario gives, by its row
 pub gives : {sc : Scenario} {row : Row} (t code n : ℕ) → RowIs sc row → n ≤ 3 → last n code ≡ sc .letters t
-    → Gives sc t (record { code = code; letters = n; resume = row .resume })
+    → Gives sc t (record { code = code; letters = n; resume = row .2 })
 gives t code n q h e = record { is = λ i. record { letters = e i; resume = q .resume i }; small = record { letters-le = h; resume-le = q .resume-le } }
+
+pub gives-one : {sc : Scenario} {row : Row} (x t n : ℕ) → RowIs sc row → LettersAre sc x t n → n ≡ 1
+    → Gives sc t (record { code = x; letters = n; resume = row .2 })
+gives-one x t n q l e = gives t x n q (l .few) (rw e (rw e at (l .are)))
+
+pub gives-many : {sc : Scenario} {row : Row} (x t n : ℕ) → RowIs sc row → LettersAre sc x t n → (n ≡ 1 → ⊥)
+    → Gives sc t (record { code = t; letters = n; resume = row .2 })
+unfolding last
+gives-many x t n q l e = gives t t n q (l .few) (many n e ∙ l .are)
+  where
+    many : (m : ℕ) → (m ≡ 1 → ⊥) → last m t ≡ lettersOf m x t
+    many zero g = refl
+    many (suc zero) g = absurd (g refl)
+    many (suc (suc m)) g = refl
 
 -- n is none of the m numbers from lo on, as a `match` says it after what it said before
 abbrev pub Past : Type 0 → ℕ → ℕ → ℕ → Type 0
@@ -62,3 +77,11 @@ range P lo (suc n) e i l h = go (range P (suc lo) n (e .1) i) (eq-or-lt-of-le l)
     go : (lo < i → i < suc lo + n → P i) → (lo ≡ i) ⊎ (lo < i) → P i
     go rest (inl q) = rw (← q) (e .0)
     go rest (inr q) = rest q (omega arith)
+
+-- the m scenarios of Two from lo on give n letters
+pub letters-in : (n lo m : ℕ) → n ≤ 3
+    → ((k : ℕ) (sol : ℕ → Bool) (x : ℕ) (s : List ℕ) (t : ℕ) → Each (λ i. lettersOf n x t ≡ nth (two k sol x s) i .letters t) lo m)
+    → (i : ℕ) → lo ≤ i → i < lo + m
+    → (k : ℕ) (sol : ℕ → Bool) (x : ℕ) (s : List ℕ) (t : ℕ) → LettersAre (nth (two k sol x s) i) x t n
+letters-in n lo m few each i l h k sol x s t =
+    record { are = range (λ j. lettersOf n x t ≡ nth (two k sol x s) j .letters t) lo m (each k sol x s t) i l h; few = few }

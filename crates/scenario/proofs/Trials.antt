@@ -1,7 +1,7 @@
 -- The trials of Two, and what their lookups answer.
 use Prim.Native.Nat.{ℕ, _+_, _≤_, _<_, zero-le}
 use native.Mathlib.Omega.{arith}
-use mathlib.Core.Path.{_≡_, refl, sym, ap, _∙_, subst}
+use mathlib.Core.Path.{_≡_, refl, ap, _∙_, subst}
 use mathlib.Core.Bool.{Bool, true, false}
 use mathlib.Core.Option.{Option, none, some}
 use mathlib.Core.List.{List}
@@ -11,9 +11,9 @@ use borrow.Author.Tests.{lt-ltb, le-ltb}
 use Rattle.rules.specs.Counted.{Try, refuse, give, after, next, _>>=_, _>>_}
 use Rattle.rules.specs.Scan.{isSolid, notSolid, sole}
 use Rattle.rules.specs.Exist.{Scenario, row, with, one, two}
-use Rattle.scan.specs.declared.Next.{Next}
 use Rattle.kmer.specs.declared.Kmer.{Kmer as KmerOf}
 use Rattle.kmer.specs.Kmer.{IsKmer}
+use Rattle.scan.specs.declared.Next.{Next}
 use Rattle.scan.specs.declared.Next.the-variants.{Kmer, Refused}
 use Rattle.scan.specs.Scan.{NextIs}
 use Rattle.scan.proofs.Laws.{sole-lookups}

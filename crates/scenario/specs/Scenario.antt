@@ -1,5 +1,5 @@
 -- The scenarios of One and Two by their numbers, and what their functions give by the rules.
-use Prim.Native.Nat.{ℕ, _≤_}
+use Prim.Native.Nat.{ℕ, zero, suc, _≤_}
 use mathlib.Core.Path.{_≡_}
 use mathlib.Core.Bool.{Bool, true, false}
 use mathlib.Core.List.{List, []}
@@ -8,8 +8,8 @@ use lib.Dec.{ltb}
 use Rattle.rules.specs.Letters.{addBase, last}
 use Rattle.rules.specs.Counted.{Try, refuse, give, _>>_}
 use Rattle.rules.specs.Scan.{isSolid, notSolid, sole}
-use Rattle.rules.specs.Exist as rules
 use Rattle.rules.specs.Exist.{Scenario, one, two}
+use Rattle.rules.specs.Exist as rules
 use Rattle.scan.specs.Scan.{NextIs}
 use Rattle.scenario.specs.declared.Row.{Row}
 use Rattle.scenario.specs.declared.Trial.{Trial}
@@ -31,11 +31,11 @@ unfoldable pub nth : List Scenario → ℕ → Scenario
 nth scs i = getD scs i (record { least = 0; trial = refuse; o = 0; letters = λ t. []; r = 0 })
 
 pub record RowIs (sc : Scenario) (r : Row) : Type 0 where
-  pub least : r .least ≡ sc .least
-  pub start : r .start ≡ sc .o
-  pub resume : r .resume ≡ sc .r
-  pub start-le : r .start ≤ 4
-  pub resume-le : r .resume ≤ 4
+  pub least : r .0 ≡ sc .least
+  pub start : r .1 ≡ sc .o
+  pub resume : r .2 ≡ sc .r
+  pub start-le : r .1 ≤ 4
+  pub resume-le : r .2 ≤ 4
 
 -- ---- trials
 
@@ -74,6 +74,16 @@ pub record TrialIs (k : ℕ) (t : Try ℕ) (r : Trial) : Type 0 where
   pub few : r .lookups ≤ 7
 
 -- ---- what is given
+
+-- Where n letters are the last of: a single one of x, more of the tried k-mer.
+abbrev pub lettersOf : ℕ → ℕ → ℕ → List ℕ
+lettersOf zero x t = []
+lettersOf (suc zero) x t = last 1 x
+lettersOf (suc (suc n)) x t = last (suc (suc n)) t
+
+pub record LettersAre (sc : Scenario) (x t n : ℕ) : Type 0 where
+  pub are : lettersOf n x t ≡ sc .letters t
+  pub few : n ≤ 3
 
 abbrev pub mendOf : Mend → rules.Mend
 mendOf m = record { letters = last (m .letters) (m .code); resume = m .resume }

@@ -9,18 +9,14 @@ use scan::Next;
 ghost use mathlib.Core.Bool.{Bool};
 ghost use mathlib.Core.List.{List};
 ghost use mathlib.Core.Path.{_≡_};
-ghost use Prim.Native.Nat.{ℕ, _<_};
+ghost use Prim.Native.Nat.{ℕ, _≤_, _<_};
 ghost use Rattle.rules.specs.Set.{solid, setOf};
 ghost use Rattle.kmer.specs.Kmer.{IsKmer};
 ghost use Rattle.set.specs.Ready.{Ready};
-ghost use Rattle.scenario.specs.Scenario.{numberOf, scenarios, nth, RowIs, trialOf, TrialIs, Gives};
+ghost use Rattle.scenario.specs.Scenario.{numberOf, scenarios, nth, trialOf, TrialIs, Gives};
 
 // A scenario's least length of s, check start o and resume r.
-pub struct Row {
-    pub least: usize,
-    pub start: usize,
-    pub resume: usize,
-}
+pub struct Row(pub usize, pub usize, pub usize);
 
 // A trial's result, made once and kept: the tried k-mer or a refusal, and the lookups made.
 pub struct Trial {
@@ -41,14 +37,14 @@ pub fn number_of(two: bool) -> usize
     if two { 13 } else { 3 }
 }
 
-pub fn row_of(two: bool, number: usize) -> Row
+pub fn check_start(two: bool, number: usize) -> usize
     requires { ⌜ number < numberOf two ⌝ }
-    ensures { λ r. ⌜ ((k : ℕ) (sol : ℕ → Bool) (x : ℕ) (s : List ℕ) → RowIs (nth (scenarios two k sol x s) number) r) ⌝ }
+    ensures { λ r. ⌜ ((k : ℕ) (sol : ℕ → Bool) (x : ℕ) (s : List ℕ) → r ≡ nth (scenarios two k sol x s) number .o) × (r ≤ 4) ⌝ }
 {
     if two {
-        two::row_of(number)
+        two::row_of(number).1
     } else {
-        one::row_of(number)
+        one::row_of(number).1
     }
 }
 

@@ -12,21 +12,9 @@ pub fn row_of(number: usize) -> Row
     ensures { λ r. ⌜ ((k : ℕ) (sol : ℕ → Bool) (x : ℕ) (s : List ℕ) → RowIs (nth (rules.one k sol x s) number) r) ⌝ }
 {
     match number {
-        0 => Row {
-            least: 0,
-            start: 2,
-            resume: 2,
-        },
-        1 => Row {
-            least: 0,
-            start: 1,
-            resume: 1,
-        },
-        _ => Row {
-            least: 0,
-            start: 0,
-            resume: 0,
-        },
+        0 => Row(0, 2, 2),
+        1 => Row(0, 1, 1),
+        _ => Row(0, 0, 0),
     }
 }
 
@@ -37,6 +25,6 @@ pub fn correct(number: usize, x: u64) -> Mend
     Mend {
         code: x,
         letters: 1,
-        resume: row_of(number).resume,
+        resume: row_of(number).2,
     }
 }

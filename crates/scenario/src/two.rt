@@ -14,123 +14,64 @@ ghost use Rattle.rules.specs.Scan;
 ghost use Rattle.rules.specs.Exist as rules;
 ghost use Rattle.kmer.specs.Kmer.{Shifts, IsKmer, HasCode};
 ghost use Rattle.set.specs.Ready.{Ready};
-ghost use Rattle.scenario.specs.Scenario.{nth, RowIs, trialOf, plus, soleAfter, solidAfter, passingOf, insteadOf, insteadAfter, TrialIs, Gives};
+ghost use Rattle.scenario.specs.Scenario.{nth, RowIs, trialOf, plus, soleAfter, solidAfter, passingOf, insteadOf, insteadAfter, TrialIs, LettersAre, Gives};
 
 pub fn row_of(number: usize) -> Row
     requires { ⌜ number < 13 ⌝ }
     ensures { λ r. ⌜ ((k : ℕ) (sol : ℕ → Bool) (x : ℕ) (s : List ℕ) → RowIs (nth (rules.two k sol x s) number) r) ⌝ }
 {
     match number {
-        0 => Row {
-            least: 0,
-            start: 3,
-            resume: 2,
-        },
-        1 => Row {
-            least: 0,
-            start: 2,
-            resume: 2,
-        },
-        2 => Row {
-            least: 2,
-            start: 2,
-            resume: 2,
-        },
-        3 => Row {
-            least: 1,
-            start: 1,
-            resume: 1,
-        },
-        4 => Row {
-            least: 0,
-            start: 0,
-            resume: 0,
-        },
-        5 => Row {
-            least: 4,
-            start: 4,
-            resume: 3,
-        },
-        6 => Row {
-            least: 4,
-            start: 3,
-            resume: 4,
-        },
-        7 => Row {
-            least: 4,
-            start: 3,
-            resume: 2,
-        },
-        8 => Row {
-            least: 4,
-            start: 4,
-            resume: 4,
-        },
-        9 => Row {
-            least: 3,
-            start: 3,
-            resume: 3,
-        },
-        10 => Row {
-            least: 2,
-            start: 2,
-            resume: 2,
-        },
-        11 => Row {
-            least: 4,
-            start: 4,
-            resume: 1,
-        },
-        _ => Row {
-            least: 2,
-            start: 1,
-            resume: 1,
-        },
+        0 => Row(0, 3, 2), // II
+        1 => Row(0, 2, 2), // IS
+        2 => Row(2, 2, 2), // SS
+        3 => Row(1, 1, 1), // SD
+        4 => Row(0, 0, 0), // DD
+        5 => Row(4, 4, 3), // ICI
+        6 => Row(4, 3, 4), // ICS
+        7 => Row(4, 3, 2), // ICD
+        8 => Row(4, 4, 4), // SCI
+        9 => Row(3, 3, 3), // SCS
+        10 => Row(2, 2, 2), // SCD
+        11 => Row(4, 4, 1), // DCI
+        _ => Row(2, 1, 1), // DCD
     }
 }
 
-// The letters given are the last 1, 2 or 3 of a k-mer, or none.
+// How many letters are given.
+fn letters(number: usize) -> usize
+    requires { ⌜ number < 13 ⌝ }
+    ensures { λ r. ⌜ ((k : ℕ) (sol : ℕ → Bool) (x : ℕ) (s : List ℕ) (t : ℕ) → LettersAre (nth (rules.two k sol x s) number) x t r) ⌝ }
+{
+    match number {
+        0..=1 => 1,
+        2..=4 => 2,
+        5 => 1,
+        6..=7 => 2,
+        8..=10 => 3,
+        11 => 0,
+        _ => 3,
+    }
+}
+
+// A single letter is x's last; more are the tried k-mer's.
 pub fn correct(number: usize, x: u64, tried: u64) -> Mend
     requires { ⌜ number < 13 ⌝ }
     ensures { λ r. ⌜ ((k : ℕ) (sol : ℕ → Bool) (s : List ℕ) → Gives (nth (rules.two k sol x s) number) tried r) ⌝ }
 {
-    let resume = row_of(number).resume;
-    match number {
-        0..=1 => Mend {
+    let letters = letters(number);
+    let resume = row_of(number).2;
+    if letters == 1 {
+        Mend {
             code: x,
-            letters: 1,
+            letters,
             resume,
-        },
-        2..=4 => Mend {
+        }
+    } else {
+        Mend {
             code: tried,
-            letters: 2,
+            letters,
             resume,
-        },
-        5 => Mend {
-            code: x,
-            letters: 1,
-            resume,
-        },
-        6..=7 => Mend {
-            code: tried,
-            letters: 2,
-            resume,
-        },
-        8..=10 => Mend {
-            code: tried,
-            letters: 3,
-            resume,
-        },
-        11 => Mend {
-            code: tried,
-            letters: 0,
-            resume,
-        },
-        _ => Mend {
-            code: tried,
-            letters: 3,
-            resume,
-        },
+        }
     }
 }
 
@@ -236,7 +177,7 @@ pub fn apply(set: &[u8], starts: &[u32], head: Header, number: usize, x: Kmer, s
     requires { ⌜ Ready (now set) (now starts) head × IsKmer (head .k) x × (number < 13) ⌝ }
     ensures { λ r. ⌜ TrialIs (head .k) (trialOf (now (s .entry)) (nth (rules.two (head .k) (solid (setOf (now (set .entry)))) (x .code) (now (s .entry))) number)) r ⌝ }
 {
-    if s.len() < row_of(number).least {
+    if s.len() < row_of(number).0 {
         return Trial {
             tried: Next::Refused,
             lookups: 0,

@@ -3,7 +3,7 @@ use mathlib.Core.Path.{_≡_}
 use lib.ListN.{length, take}
 use lib.Seq.{take-length}
 use borrow.Author.Needs.{needs}
-use Rattle.correct.proofs.Parts.{copy-one}
+use Rattle.correct.proofs.Copies.{copy-one}
 use Rattle.correct.proofs.copy.Statement.{statement}
 use Rattle.correct.proofs.copy.Tie as tie
 

@@ -7,7 +7,7 @@ use Rattle.rules.specs.Set.{setOf}
 use Rattle.rules.specs.Driver as Rules
 use Rattle.rules.specs.Job.{methodOf, pass}
 use Rattle.correct.specs.Pass.{PassIs}
-use Rattle.correct.specs.Turn.{stateOf, Countable, endOf}
+use Rattle.turn.specs.Turn.{stateOf, Countable, endOf}
 use Rattle.correct.proofs.Limits.{pass-limited}
 use Rattle.correct.proofs.Passes.{countable, firstPlace, pass-short, pass-long, pass-begun}
 use Rattle.correct.proofs.correct.Statement.{statement}

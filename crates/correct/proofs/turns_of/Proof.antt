@@ -5,9 +5,9 @@ use borrow.Author.Needs.{needs}
 use Rattle.rules.specs.Set.{setOf, solid}
 use Rattle.rules.specs.Driver.{State}
 use Rattle.rules.proofs.Driver.{left, finish-end}
-use Rattle.correct.specs.declared.Turned.the-variants.{To}
-use Rattle.correct.specs.Turn.{stateOf, Stands, Countable, attemptOf, endOf, Turning, TurnIs}
-use Rattle.correct.proofs.Turns.{same-end, fewer-left}
+use Rattle.turn.specs.declared.Turned.the-variants.{To}
+use Rattle.turn.specs.Turn.{stateOf, Stands, Countable, attemptOf, endOf, Turning, TurnIs}
+use Rattle.turn.proofs.Turns.{same-end, fewer-left}
 use Rattle.correct.proofs.turns_of.Statement.{statement}
 use Rattle.correct.proofs.turns_of.Tie as tie
 
@@ -94,9 +94,9 @@ same-length-2 c = search needs
 returns-2 : tie.Need-returns-2 Inv-loop μ-loop
 unfolding stateOf
 returns-2 c =
-    let l = c .before .before .before in
+    let l = c .before .before in
     let a = l .before .before .before .before .before .args in
-    let over = drop-of-length-le (a .read .now) {i = l .loop .p .at} (c .before .if1 .left) in
+    let over = drop-of-length-le (a .read .now) {i = l .loop .p .at} (c .if1 .left) in
     let end = finish-end (a .head .k) (solid (setOf (a .set .now))) (attemptOf (a .set .now) (a .method) (a .c)) (stateOf (l .loop .p) (a .read .now) (l .loop .out)) over in
     (sym (ap (λ (q : State). q .done) end) ∙ l .loop .inv .2, l .loop .inv .0 .written)
 

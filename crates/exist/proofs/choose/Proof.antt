@@ -1,22 +1,18 @@
-use mathlib.Core.List.{List}
+use Prim.Native.Nat.{_-_, _≤_}
+use native.Mathlib.Omega.{arith}
+use mathlib.Core.List.{List, map}
+use mathlib.Core.Path.{_≡_, sym, ap, _∙_}
+use mathlib.Core.Logic.{⊎-elim}
+use lib.ListN.{length, take}
+use borrow.Author.Needs.{needs}
 use Rattle.rules.specs.Counted.{Try}
 use Rattle.rules.specs.Exist.{Mend}
-use Rattle.exist.specs.Exist.{mendsOf}
-use Prim.Native.Nat.{ℕ, _-_, _≤_, _<_}
-use native.Mathlib.Omega.{arith}
-use mathlib.Core.Path.{_≡_, refl, sym, ap, _∙_}
-use mathlib.Core.Logic.{⊎-elim}
-use mathlib.Core.List.{map}
-use lib.ListN.{length, take}
 use Rattle.rules.specs.Set.{solid, setOf}
 use Rattle.scenario.specs.Scenario.{mendOf, Small}
+use Rattle.exist.specs.Exist.{mendsOf}
 use Rattle.exist.proofs.Chosen.{mends-length, mends-cons, mends-one, Asked, asked-none, asked-yes, asked-no, choose-one, choose-found, choose-refused}
-use borrow.Author.Needs.{needs}
 use Rattle.exist.proofs.choose.Statement.{statement}
 use Rattle.exist.proofs.choose.Tie as tie
-use Rattle.exist.proofs.choose.Reads as reads
-use Rattle.exist.proofs.choose.Lts as lts
-use Rattle.exist.proofs.one_more.Reads as one-more-reads
 
 abbrev Inv-loop : tie.InvT-loop
 Inv-loop set starts head c kmer s kept count chosen₀ remaining₀ lookups₀ i₀ chosen remaining lookups i =
@@ -26,7 +22,6 @@ Inv-loop set starts head c kmer s kept count chosen₀ remaining₀ lookups₀ i
 abbrev μ-loop : tie.MeasureT-loop
 μ-loop set starts head c kmer s kept count chosen₀ remaining₀ lookups₀ i₀ chosen remaining lookups i = count - i
 
--- src/lib.rt:214:29
 abbrev ms : tie.At-loop Inv-loop μ-loop → List Mend
 ms c = mendsOf (c .before .before .before .before .before .before .args .scenarii)
 
@@ -48,50 +43,40 @@ ended c = rw (counted (c .before)) (c .loop-test .left)
 array-copy-out-t19 : tie.Need-array-copy-out-t19 Inv-loop μ-loop
 array-copy-out-t19 c = search needs
 
--- src/lib.rt:214:9
 returns : tie.Need-returns Inv-loop μ-loop
 returns c =
     let t = c .before in
     let b = t .before .before .before .before .before in
     let held = b .pre .3 in
     let e = choose-one _ _ _ _ _ _ (mends-one (b .args .scenarii .kept) (b .args .scenarii .count) (omega (arith, held .count-le, held .group)) (t .if1 .taken)) in
-    (ap (λ (r : Try Mend). r .answer) e, held .small 0 (omega arith), ap (λ (r : Try Mend). r .lookups) e, search needs)
+    record { is = (ap (λ (r : Try Mend). r .answer) e, held .small 0 (omega arith)); lookups = ap (λ (r : Try Mend). r .lookups) e; few = search needs }
 
--- src/lib.rt:223:5
 loop-holds : tie.Need-loop-holds Inv-loop μ-loop
 loop-holds c = (search needs, search needs, search needs, search needs, asked-none _ _ _ _ _ _ _)
 
--- src/lib.rt:224:20
 mul-mend : tie.Need-mul-mend Inv-loop μ-loop
 mul-mend c = search needs
 
--- src/lib.rt:224:20
 array-copy-out-mend : tie.Need-array-copy-out-mend Inv-loop μ-loop
 array-copy-out-mend c = search needs
 
--- src/lib.rt:225:13
 one-more-requires : tie.Need-one-more-requires Inv-loop μ-loop
 one-more-requires c κs =
     let b = c .before .before .before .before .before .before .before .before in
     (b .pre .0, b .pre .1, b .pre .2, b .pre .3 .small _ (c .before .loop-test .taken))
 
--- src/lib.rt:226:9
 add-lookups : tie.Need-add-lookups Inv-loop μ-loop
 add-lookups c = search needs
 
--- src/lib.rt:229:13
 add-remaining : tie.Need-add-remaining Inv-loop μ-loop
 add-remaining c = search needs
 
--- src/lib.rt:223:9
 add-i : tie.Need-add-i Inv-loop μ-loop
 add-i c = search needs
 
--- src/lib.rt:223:5
 loop-less : tie.Need-loop-less Inv-loop μ-loop
 loop-less c = search needs
 
--- src/lib.rt:223:5
 loop-again : tie.Need-loop-again Inv-loop μ-loop
 loop-again c =
     let m = c .before .before in
@@ -118,17 +103,15 @@ loop-again c =
     ))
     (c .if2 .came)
 
--- src/lib.rt:199:1
 returns-2 : tie.Need-returns-2 Inv-loop μ-loop
 returns-2 c =
     let e = choose-found _ _ _ _ _ _ (many (c .before .before)) (c .before .before .loop .inv .4) (ended (c .before)) (c .if3 .taken) in
-    (ap (λ (r : Try Mend). r .answer) e, c .before .before .loop .inv .3, ap (λ (r : Try Mend). r .lookups) e, search needs)
+    record { is = (ap (λ (r : Try Mend). r .answer) e, c .before .before .loop .inv .3); lookups = ap (λ (r : Try Mend). r .lookups) e; few = search needs }
 
--- src/lib.rt:199:1
 returns-3 : tie.Need-returns-3 Inv-loop μ-loop
 returns-3 c =
     let e = choose-refused _ _ _ _ _ _ (many (c .before .before)) (c .before .before .loop .inv .4) (ended (c .before)) (c .if3 .left) in
-    (ap (λ (r : Try Mend). r .answer) e, ap (λ (r : Try Mend). r .lookups) e, search needs)
+    record { is = ap (λ (r : Try Mend). r .answer) e; lookups = ap (λ (r : Try Mend). r .lookups) e; few = search needs }
 
 pub choose-spec : {M : Type 1} → statement M
 choose-spec =

@@ -1,102 +1,105 @@
--- proved by a colleague beside you; Whole.antt goes with it
-use native.Mathlib.Omega.{arith}
-use mathlib.Core.Path.{subst}
+use Prim.Native.Nat.{_+_}
+use mathlib.Core.Path.{_≡_, ap, subst}
 use borrow.Author.Needs.{needs}
+use Rattle.rules.specs.Set.{solid, setOf}
+use Rattle.rules.specs.Counted.{Try}
+use Rattle.rules.specs.Scan.{alternative}
+use Rattle.rules.specs.Exist.{Mend, exist}
+use Rattle.scan.specs.declared.Next.the-variants.{Kmer}
 use Rattle.scan.specs.Scan.{NextIs}
-use Rattle.exist.specs.Exist.{ChoiceIs}
-use Rattle.exist.proofs.Whole.{no-x, refused, full, mended}
+use Rattle.scenario.specs.Scenario.{scenarios}
+use Rattle.exist.specs.declared.Pick.the-variants.{Mend as Use}
+use Rattle.exist.specs.Exist.{PickIs}
+use Rattle.exist.proofs.Attempts.{exist-none, exist-answer, exist-lookups, refused, full, mended}
 use Rattle.exist.proofs.correct_error.Statement.{statement}
 use Rattle.exist.proofs.correct_error.Tie as tie
-use Rattle.exist.proofs.correct_error.Reads as reads
-use Rattle.exist.proofs.correct_error.Lts as lts
-use Rattle.exist.proofs.choose.Reads as choose-reads
-use Rattle.exist.proofs.get_scenarii.Reads as get-scenarii-reads
-use Rattle.exist.proofs.write.Reads as write-reads
-use Rattle.scan.proofs.sole_alt.Reads as sole-alt-reads
 
--- src/lib.rt:249:25
+abbrev attempt : tie.Start → Try Mend
+attempt b =
+    let a = b .args in
+    let sol = solid (setOf (a .set .now)) in
+    exist (a .head .k) sol (a .c) (a .s .now) (scenarios (a .two) (a .head .k) sol) (a .kmer .code)
+
+abbrev start : tie.After-x → tie.Start
+start c = c .before .before .before .before .before .before .before
+
+-- the alternative
+x-is : (c : tie.After-x) → (let a = start c .args in
+    NextIs (a .head .k) (alternative (a .head .k) (solid (setOf (a .set .now))) (a .kmer .code) .answer) (Kmer (c .x .given .0 .0)))
+x-is c = subst (NextIs _ _) (c .x .given .1) (c .before .before .sole-alt .ensures)
+
+-- what was chosen, and what it cost, said of the attempt
+picked : (c : tie.After-choose) → PickIs (attempt (start (c .before .before .before)) .answer) (c .choose .result .pick)
+picked c =
+    let g = c .before in
+    rw (exist-answer _ _ _ _ _ _ (x-is (g .before .before) .0) (g .get-scenarii .result) (g .get-scenarii .ensures)) (c .choose .ensures .is)
+
+paid : (c : tie.After-choose)
+    → attempt (start (c .before .before .before)) .lookups ≡ 4 + c .before .get-scenarii .result .lookups + c .choose .result .lookups
+paid c =
+    let g = c .before in
+    exist-lookups _ _ _ _ _ _ (x-is (g .before .before) .0) (g .get-scenarii .result) (g .get-scenarii .ensures) (c .choose .ensures .lookups)
+
+used : (c : tie.After-pick) → PickIs (attempt (start (c .before .before .before .before .before .before .before)) .answer) (Use (c .pick .given .0 .0))
+used c = subst (PickIs _) (c .pick .given .1) (picked (c .before .before .before .before))
+
 sole-alt-requires : tie.Need-sole-alt-requires
 sole-alt-requires c κs = search needs
 
--- src/lib.rt:249:20
 enum-known-x : tie.Need-enum-known-x
 enum-known-x c = search needs
 
--- src/lib.rt:250:9
 enum-told : tie.Need-enum-told
 enum-told c = search needs
 
--- src/lib.rt:250:9
 returns : tie.Need-returns
-returns c = no-x _ _ _ _ _ _ _ _ (subst (NextIs _ _) (c .enum-told .given .1) (c .before .before .sole-alt .ensures))
+returns c =
+    let a = c .before .before in
+    let e = exist-none _ _ _ _ _ _ (subst (NextIs _ _) (c .enum-told .given .1) (a .sole-alt .ensures)) in
+    refused (ap (λ (t : Try Mend). t .answer) e) (ap (λ (t : Try Mend). t .lookups) e)
 
--- src/lib.rt:253:9
 get-scenarii-requires : tie.Need-get-scenarii-requires
-get-scenarii-requires c κs =
-    (search needs, subst (NextIs _ _) (c .before .x .given .1) (c .before .before .before .sole-alt .ensures) .1, search needs, search needs)
+get-scenarii-requires c κs = (search needs, x-is (c .before) .1, search needs, search needs)
 
--- src/lib.rt:254:19
-add-lookups : tie.Need-add-lookups
-add-lookups c = search needs
-
--- src/lib.rt:255:9
 choose-requires : tie.Need-choose-requires
 choose-requires c κs = search needs
 
--- src/lib.rt:257:25
-enum-known-choice : tie.Need-enum-known-choice
-enum-known-choice c = search needs
+add-lookups : tie.Need-add-lookups
+add-lookups c = search needs
 
--- src/lib.rt:257:51
-add-t19 : tie.Need-add-t19
-add-t19 c =
-    let chosen = subst (ChoiceIs _) (c .before .choice .given .1) (c .before .before .before .choose .ensures) in
-    omega (arith, chosen .2, c .before .before .before .before .before .get-scenarii .ensures .few)
+add-lookups-2 : tie.Need-add-lookups-2
+add-lookups-2 c = search needs
 
--- src/lib.rt:258:22
-enum-known-choice-2 : tie.Need-enum-known-choice-2
-enum-known-choice-2 c = search needs
+enum-known-pick : tie.Need-enum-known-pick
+enum-known-pick c = search needs
 
--- src/lib.rt:260:17
+enum-told-2 : tie.Need-enum-told-2
+enum-told-2 c = search needs
+
 returns-2 : tie.Need-returns-2
 returns-2 c =
-    let at = c .before .before .before in
-    let kept = at .before .before .before .before in
-    full _ _ _ _ _ _ _ (subst (NextIs _ _) (kept .before .before .x .given .1) (kept .before .before .before .before .sole-alt .ensures) .0) _ (kept .get-scenarii .ensures) _ _ _ _
-    (subst (ChoiceIs _) (at .choice2 .given .1) (at .before .before .choose .ensures)) (search needs)
+    let h = c .before .before .before .before in
+    refused (subst (PickIs _) (c .enum-told2 .given .1) (picked h)) (paid h)
 
--- src/lib.rt:262:13
-write-requires : tie.Need-write-requires
-write-requires c κs =
-    let at = c .before .before .before .before in
-    (subst (ChoiceIs _) (at .choice2 .given .1) (at .before .before .choose .ensures) .1, search needs)
-
--- src/lib.rt:263:54
-add-t25 : tie.Need-add-t25
-add-t25 c =
-    let at = c .before .before .before .before .before .before .before in
-    let chosen = subst (ChoiceIs _) (at .choice2 .given .1) (at .before .before .choose .ensures) in
-    omega (arith, chosen .3, at .before .before .before .before .get-scenarii .ensures .few)
-
--- src/lib.rt:236:1
 returns-3 : tie.Need-returns-3
 returns-3 c =
-    let at = c .before in
-    let kept = at .before .before .before .before in
-    refused _ _ _ _ _ _ _ (subst (NextIs _ _) (kept .before .before .x .given .1) (kept .before .before .before .before .sole-alt .ensures) .0) _ (kept .get-scenarii .ensures) _ _ _
-    (subst (ChoiceIs _) (at .choice .given .1) (at .before .before .choose .ensures))
+    let m = c .before .before .before in
+    full (m .pick .given .0 .0) (used m .0) (c .if1 .taken)
 
--- src/lib.rt:236:1
+write-requires : tie.Need-write-requires
+write-requires c κs =
+    let e = c .before in
+    (used (e .before .before .before) .1, e .if1 .left)
+
 same-length : tie.Need-same-length
 same-length c = search needs
 
--- src/lib.rt:236:1
 returns-4 : tie.Need-returns-4
 returns-4 c =
-    let at = c .before .before .before .before .before .before .before in
-    let kept = at .before .before .before .before in
-    mended _ _ _ _ _ _ _ (subst (NextIs _ _) (kept .before .before .x .given .1) (kept .before .before .before .before .sole-alt .ensures) .0) _ (kept .get-scenarii .ensures) _ _ _ _ _
-    (subst (ChoiceIs _) (at .choice2 .given .1) (at .before .before .choose .ensures)) (c .before .before .write .ensures .0) (c .before .before .write .ensures .1) (search needs)
+    let w = c .before .before in
+    let e = w .before .before in
+    let m = e .before .before .before in
+    mended (m .pick .given .0 .0) (used m .0) (paid (m .before .before .before .before)) (e .if1 .left) (w .write .ensures .0) (w .write .ensures .1)
 
 pub correct-error-spec : {M : Type 1} → statement M
 correct-error-spec =
@@ -107,14 +110,13 @@ correct-error-spec =
     enum-told
     returns
     get-scenarii-requires
-    add-lookups
     choose-requires
-    enum-known-choice
-    add-t19
-    enum-known-choice-2
+    add-lookups
+    add-lookups-2
+    enum-known-pick
+    enum-told-2
     returns-2
-    write-requires
-    add-t25
     returns-3
+    write-requires
     same-length
     returns-4)

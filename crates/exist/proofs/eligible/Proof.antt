@@ -1,111 +1,95 @@
-use Prim.Native.Nat.{ℕ, _+_, _≤_}
-use lib.ListN.{length}
+use Prim.Native.Nat.{_+_, _≤_}
+use native.Mathlib.Omega.{arith}
 use mathlib.Core.Path.{_≡_, sym, _∙_}
 use mathlib.Core.Option.{some}
+use lib.ListN.{length}
+use borrow.Author.Needs.{needs}
+use borrow.Author.Tests.{not-true, not-false}
 use Rattle.rules.specs.Set.{solid, setOf}
 use Rattle.rules.specs.Exist.{Scenario}
 use Rattle.kmer.specs.Kmer.{IsKmer}
 use Rattle.scenario.specs.Scenario.{scenarios, nth, trialOf}
-use native.Mathlib.Omega.{arith}
-use mathlib.Core.Bool.{true}
-use mathlib.Core.List.{[]}
-use borrow.Author.Tests.{not-true, not-false}
 use Rattle.scenario.proofs.Trials.{trial-refused, trial-given}
 use Rattle.exist.proofs.Scores.{eligible-none, eligible-weak, eligible-short, eligible-on}
-use borrow.Author.Needs.{needs}
 use Rattle.exist.proofs.eligible.Statement.{statement}
 use Rattle.exist.proofs.eligible.Tie as tie
-use Rattle.exist.proofs.eligible.Reads as reads
-use Rattle.exist.proofs.eligible.Lts as lts
-use Rattle.scenario.proofs.apply.Reads as apply-reads
-use Rattle.scenario.proofs.row_of.Reads as row-of-reads
-use Rattle.set.proofs.get.Reads as get-reads
 
--- src/lib.rt:56:9
-abbrev sc : tie.Start → Scenario
-sc b = nth (scenarios (b .args .two) (b .args .head .k) (solid (setOf (b .args .set .now))) (b .args .x .code) (b .args .s .now)) (b .args .number)
+abbrev sc : tie.After-apply → Scenario
+sc c =
+    let a = c .before .before .before .before .args in
+    nth (scenarios (a .two) (a .head .k) (solid (setOf (a .set .now))) (a .x .code) (a .s .now)) (a .number)
 
-abbrev start : tie.After-tried → tie.Start
-start c = c .before .before .before .before .before .before
+abbrev start : tie.After-apply → tie.Start
+start c = c .before .before .before .before
+
+abbrev at : tie.After-tried → tie.After-apply
+at c = c .before .before
 
 -- the trial gave a k-mer
-given : (c : tie.After-tried) → (let y = c .tried .given .0 .0 in
-    (trialOf (start c .args .s .now) (sc (start c)) ≡ record { answer = some (y .code); lookups = c .before .before .apply .result .lookups })
-    × IsKmer (start c .args .head .k) y)
-given c = trial-given _ _ (c .before .before .apply .result) _ (c .before .before .apply .ensures) (c .tried .given .1)
+given : (c : tie.After-tried) → (let a = start (at c) .args in
+    (trialOf (a .s .now) (sc (at c)) ≡ record { answer = some (c .tried .given .0 .0 .code); lookups = at c .apply .result .lookups })
+    × IsKmer (a .head .k) (c .tried .given .0 .0))
+given c = trial-given _ _ (at c .apply .result) _ (at c .apply .ensures) (c .tried .given .1)
 
 apply-requires : tie.Need-apply-requires
 apply-requires c κs = search needs
 
--- src/lib.rt:59:20
 enum-known-tried : tie.Need-enum-known-tried
 enum-known-tried c = search needs
 
--- src/lib.rt:60:9
 enum-told : tie.Need-enum-told
 enum-told c = search needs
 
--- src/lib.rt:60:9
 returns : tie.Need-returns
 returns c =
     let a = c .before .before in
-    let b = a .before .before .before .before in
     let e = c .enum-told .given .1 in
-    record { is = rw e (eligible-none _ _ _ _ (b .pre .3) (sc b) (trial-refused _ _ (a .apply .result) (a .apply .ensures) e)); few = omega (arith, a .apply .ensures .few) }
+    record {
+      is = rw e (eligible-none _ _ _ _ (start a .pre .3) (sc a) (trial-refused _ (trialOf (start a .args .s .now) (sc a)) (a .apply .result) (a .apply .ensures) e));
+      few = omega (arith, a .apply .ensures .few);
+    }
 
--- src/lib.rt:62:17
-row-of-requires : tie.Need-row-of-requires
-row-of-requires c κs = search needs
+add-lookups : tie.Need-add-lookups
+add-lookups c = search needs
 
--- src/lib.rt:63:9
+check-start-requires : tie.Need-check-start-requires
+check-start-requires c κs = search needs
+
 get-requires : tie.Need-get-requires
-get-requires c κs = (search needs, given (c .before .before) .1)
+get-requires c κs = (search needs, given (c .before .before .before) .1)
 
--- src/lib.rt:66:22
-add-t18 : tie.Need-add-t18
-add-t18 c = search needs
-
--- src/lib.rt:64:9
 returns-2 : tie.Need-returns-2
 returns-2 c =
     let g = c .before in
-    let t = g .before .before .before in
+    let t = g .before .before .before .before in
     record {
-      is = eligible-weak _ _ _ _ (start t .pre .3) (sc (start t)) (given t .0) (sym (g .get .ensures) ∙ not-true _ (c .if1 .taken));
-      few = omega (arith, t .before .before .apply .ensures .few);
+      is = eligible-weak _ _ _ _ (start (at t) .pre .3) (sc (at t)) (given t .0) (sym (g .get .ensures) ∙ not-true _ (c .if1 .taken));
+      few = omega (arith, at t .apply .ensures .few);
     }
 
--- src/lib.rt:69:18
 add-if2 : tie.Need-add-if2
-add-if2 c = omega (arith, c .before .before .row-of .ensures 0 (λ n. true) 0 [] .start-le)
+add-if2 c = search needs
 
--- src/lib.rt:72:22
-add-t22 : tie.Need-add-t22
-add-t22 c = search needs
-
--- src/lib.rt:70:9
 returns-3 : tie.Need-returns-3
 returns-3 c =
     let g = c .before .before in
-    let t = g .before .before .before in
+    let t = g .before .before .before .before in
+    let found = sym (g .get .ensures) ∙ not-false _ (c .before .if1 .left) in
     record {
-      is = eligible-short _ _ _ _ (start t .pre .3) (sc (start t)) (given t .0) (sym (g .get .ensures) ∙ not-false _ (c .before .if1 .left)) (rw (← (g .before .row-of .ensures _ _ _ _ .start)) (c .if2 .taken));
-      few = omega (arith, t .before .before .apply .ensures .few);
+      is = eligible-short _ _ _ _ (start (at t) .pre .3) (sc (at t)) (given t .0) found (rw (← (g .before .check-start .ensures .0 _ _ _ _)) (c .if2 .taken));
+      few = omega (arith, at t .apply .ensures .few);
     }
 
--- src/lib.rt:77:18
-add-t24 : tie.Need-add-t24
-add-t24 c = search needs
-
--- src/lib.rt:43:1
 returns-4 : tie.Need-returns-4
 returns-4 c =
     let g = c .before .before in
-    let t = g .before .before .before in
-    let long : sc (start t) .o + start t .args .c ≤ length (start t .args .s .now) = rw (← (g .before .row-of .ensures _ _ _ _ .start)) (c .if2 .left) in
+    let t = g .before .before .before .before in
+    let a = start (at t) .args in
+    let found = sym (g .get .ensures) ∙ not-false _ (c .before .if1 .left) in
+    let long : sc (at t) .o + a .c ≤ length (a .s .now) = rw (← (g .before .check-start .ensures .0 _ _ _ _)) (c .if2 .left) in
     record {
-      is = (eligible-on _ _ _ _ (start t .pre .3) (sc (start t)) (given t .0) (sym (g .get .ensures) ∙ not-false _ (c .before .if1 .left)) long, given t .1, long);
-      few = omega (arith, t .before .before .apply .ensures .few);
+      is = (eligible-on _ _ _ _ (start (at t) .pre .3) (sc (at t)) (given t .0) found long, given t .1, long);
+      few = omega (arith, at t .apply .ensures .few);
     }
 
 pub eligible-spec : {M : Type 1} → statement M
@@ -116,12 +100,10 @@ eligible-spec =
     enum-known-tried
     enum-told
     returns
-    row-of-requires
+    add-lookups
+    check-start-requires
     get-requires
-    add-t18
     returns-2
     add-if2
-    add-t22
     returns-3
-    add-t24
     returns-4)

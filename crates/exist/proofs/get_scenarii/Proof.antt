@@ -1,31 +1,20 @@
-use mathlib.Core.Path.{subst}
-use Rattle.rules.specs.Exist.{Scenario}
-use Rattle.scan.specs.declared.Next.the-variants.{Kmer}
-use Rattle.exist.specs.Exist.{EligibleIs}
 use Prim.Native.Nat.{ℕ, _+_, _-_, _*_, _≤_, _<_}
 use native.Mathlib.Omega.{arith}
-use mathlib.Core.Path.{_≡_, refl, sym, ap, _∙_}
-use mathlib.Core.Bool.{Bool, true}
-use mathlib.Core.List.{List, [], map}
+use mathlib.Core.Path.{subst, _≡_, refl, _∙_}
+use mathlib.Core.List.{map}
 use lib.ListN.{length, take, getD, length-set}
 use borrow.Author.Tests.{not-true, not-false}
 use borrow.Author.Needs.{needs}
+use Rattle.rules.specs.Exist.{Scenario}
 use Rattle.rules.specs.Set.{solid, setOf}
 use Rattle.kmer.specs.Kmer.{IsKmer}
+use Rattle.scan.specs.declared.Next.the-variants.{Kmer}
 use Rattle.scenario.specs.Scenario.{numberOf, scenarios, nth, mendOf, Small}
-use Rattle.exist.specs.Exist.{blank}
+use Rattle.exist.specs.Exist.{EligibleIs, blank}
 use Rattle.exist.proofs.Scores.{Run, run-none, run-on, run-bad, run-all, tried-bad, tried-all, Done, done-none, done-refused, done-kept, done-answer, done-lookups, scenarios-length, number-le}
 use Rattle.exist.proofs.Chosen.{mends-store, small-store}
 use Rattle.exist.proofs.get_scenarii.Statement.{statement}
 use Rattle.exist.proofs.get_scenarii.Tie as tie
-use Rattle.exist.proofs.get_scenarii.Reads as reads
-use Rattle.exist.proofs.get_scenarii.Lts as lts
-use Rattle.exist.proofs.eligible.Reads as eligible-reads
-use Rattle.scan.proofs.add_base.Reads as add-base-reads
-use Rattle.scenario.proofs.correct.Reads as correct-reads
-use Rattle.scenario.proofs.number_of.Reads as number-of-reads
-use Rattle.scenario.proofs.row_of.Reads as row-of-reads
-use Rattle.set.proofs.get.Reads as get-reads
 
 abbrev Inv-loop : tie.InvT-loop
 Inv-loop set starts head two c x s kept count lookups₀ end number₀ first start last kmer₀ j₀ lookups number kmer j =
@@ -44,7 +33,6 @@ Inv-scenarios set starts head two c x s kept₀ count₀ lookups₀ end number�
 abbrev μ-scenarios : tie.MeasureT-scenarios
 μ-scenarios set starts head two c x s kept₀ count₀ lookups₀ end number₀ kept count lookups number = end - number
 
--- src/lib.rt:101:9
 abbrev start : tie.At-scenarios Inv-loop μ-loop Inv-scenarios μ-scenarios → tie.Start Inv-loop μ-loop Inv-scenarios μ-scenarios
 start c = c .before .before .before .before .before
 
@@ -64,25 +52,25 @@ inside : (c : tie.In-scenarios Inv-loop μ-loop Inv-scenarios μ-scenarios) → 
     c .before .scenarios .number < length (scenarios (a .two) (a .head .k) (solid (setOf (a .set .now))) (a .x .code) (a .s .now)))
 inside c = let a = start (c .before) .args in rw (scenarios-length (a .two) (a .head .k) (solid (setOf (a .set .now))) (a .x .code) (a .s .now)) (numbered c)
 
-abbrev at : tie.After-row-of Inv-loop μ-loop Inv-scenarios μ-scenarios → tie.After-eligible Inv-loop μ-loop Inv-scenarios μ-scenarios
+abbrev at : tie.After-check-start Inv-loop μ-loop Inv-scenarios μ-scenarios → tie.After-eligible Inv-loop μ-loop Inv-scenarios μ-scenarios
 at c = c .before .before .before .before .before
 
 -- its trial left a k-mer to confirm
-given : (c : tie.After-row-of Inv-loop μ-loop Inv-scenarios μ-scenarios) → (let i = at c .before in let a = start (i .before) .args in
+given : (c : tie.After-check-start Inv-loop μ-loop Inv-scenarios μ-scenarios) → (let i = at c .before in let a = start (i .before) .args in
     EligibleIs (a .head .k) (solid (setOf (a .set .now))) (a .c) (a .s .now) (here i) (at c .eligible .result .lookups) (Kmer (c .before .before .tried .given .0 .0)))
 given c = subst (EligibleIs _ _ _ _ _ _) (c .before .before .tried .given .1) (at c .eligible .ensures .is)
 
-starts-at : (c : tie.After-row-of Inv-loop μ-loop Inv-scenarios μ-scenarios) → c .row-of .result .start ≡ here (at c .before) .o
-starts-at c = c .row-of .ensures _ _ _ _ .start
+starts-at : (c : tie.After-check-start Inv-loop μ-loop Inv-scenarios μ-scenarios) → c .check-start .result ≡ here (at c .before) .o
+starts-at c = c .check-start .ensures .0 _ _ _ _
 
-long : (c : tie.After-row-of Inv-loop μ-loop Inv-scenarios μ-scenarios) → (let a = start (at c .before .before) .args in c .row-of .result .start + a .c ≤ length (a .s .now))
+long : (c : tie.After-check-start Inv-loop μ-loop Inv-scenarios μ-scenarios) → (let a = start (at c .before .before) .args in c .check-start .result + a .c ≤ length (a .s .now))
 long c = omega (arith, starts-at c, given c .2)
 
-near : (c : tie.After-row-of Inv-loop μ-loop Inv-scenarios μ-scenarios) → c .row-of .result .start + start (at c .before .before) .args .c < 260
-near c = omega (arith, c .row-of .ensures 0 (λ n. true) 0 [] .start-le, start (at c .before .before) .pre .3)
+near : (c : tie.After-check-start Inv-loop μ-loop Inv-scenarios μ-scenarios) → c .check-start .result + start (at c .before .before) .args .c < 260
+near c = omega (arith, c .check-start .ensures .1, start (at c .before .before) .pre .3)
 
 -- there is room for one more in the group
-stored : (c : tie.After-row-of Inv-loop μ-loop Inv-scenarios μ-scenarios) → at c .before .before .scenarios .count < 13
+stored : (c : tie.After-check-start Inv-loop μ-loop Inv-scenarios μ-scenarios) → at c .before .before .scenarios .count < 13
 stored c = let i = at c .before in omega (arith, i .before .scenarios .inv .1, i .scenarios-test .taken, i .before .before .number-of .ensures, number-le (start (i .before) .args .two))
 
 -- a scenario asks at most 8 times before its bases, and then once for each
@@ -94,86 +82,68 @@ spent c =
 number-of-requires : tie.Need-number-of-requires Inv-loop μ-loop Inv-scenarios μ-scenarios
 number-of-requires c κs = search needs
 
--- src/lib.rt:102:5
 scenarios-holds : tie.Need-scenarios-holds Inv-loop μ-loop Inv-scenarios μ-scenarios
 scenarios-holds c = (search needs, search needs, search needs, refl, λ i h. absurd (omega arith), done-none _ _ _ _ _)
 
--- src/lib.rt:103:13
 eligible-requires : tie.Need-eligible-requires Inv-loop μ-loop Inv-scenarios μ-scenarios
 eligible-requires c κs =
     let b = start (c .before) in
     (b .pre .0, b .pre .1, numbered c, b .pre .2, b .pre .3)
 
--- src/lib.rt:104:9
 add-lookups : tie.Need-add-lookups Inv-loop μ-loop Inv-scenarios μ-scenarios
 add-lookups c = omega (arith, c .before .eligible .ensures .few, few (c .before .before .before))
 
--- src/lib.rt:106:24
 enum-known-tried : tie.Need-enum-known-tried Inv-loop μ-loop Inv-scenarios μ-scenarios
 enum-known-tried c = search needs
 
--- src/lib.rt:107:13
 enum-told : tie.Need-enum-told Inv-loop μ-loop Inv-scenarios μ-scenarios
 enum-told c = search needs
 
--- src/lib.rt:107:13
 add-number : tie.Need-add-number Inv-loop μ-loop Inv-scenarios μ-scenarios
 add-number c = omega (arith, few (c .before .before .before .before .before))
 
--- src/lib.rt:102:5
 scenarios-less : tie.Need-scenarios-less Inv-loop μ-loop Inv-scenarios μ-scenarios
 scenarios-less c = search needs
 
--- src/lib.rt:102:5
 scenarios-again : tie.Need-scenarios-again Inv-loop μ-loop Inv-scenarios μ-scenarios
 scenarios-again c =
     let e = c .before .before .before in
     let a = e .before .before .scenarios in
-    let q = subst (EligibleIs _ _ _ _ _ _) (c .enum-told .given .1) (e .eligible .ensures .is) in
+    let q = subst (EligibleIs _ _ _ _ (here (e .before)) _) (c .enum-told .given .1) (e .eligible .ensures .is) in
     (search needs, search needs, omega (arith, e .eligible .ensures .few), a .inv .3, a .inv .4, done-refused _ _ _ _ _ (a .inv .5) (inside (e .before)) q)
 
--- src/lib.rt:109:21
-row-of-requires : tie.Need-row-of-requires Inv-loop μ-loop Inv-scenarios μ-scenarios
-row-of-requires c κs = numbered (c .before .before .before .before .before)
+check-start-requires : tie.Need-check-start-requires Inv-loop μ-loop Inv-scenarios μ-scenarios
+check-start-requires c κs = numbered (c .before .before .before .before .before)
 
--- src/lib.rt:110:20
 add-last : tie.Need-add-last Inv-loop μ-loop Inv-scenarios μ-scenarios
 add-last c = omega (arith, near c)
 
--- src/lib.rt:112:9
 loop-holds : tie.Need-loop-holds Inv-loop μ-loop Inv-scenarios μ-scenarios
 loop-holds c = (refl, search needs, search needs, given c .1, omega arith, run-none _ _ _ _ _ _)
 
--- src/lib.rt:113:41
 shared-slice-read-add-base :
     tie.Need-shared-slice-read-add-base Inv-loop μ-loop Inv-scenarios μ-scenarios
 shared-slice-read-add-base c = omega (arith, long (c .before .before .before))
 
--- src/lib.rt:113:13
 add-base-requires : tie.Need-add-base-requires Inv-loop μ-loop Inv-scenarios μ-scenarios
 add-base-requires c κs = search needs
 
--- src/lib.rt:114:13
 add-lookups-2 : tie.Need-add-lookups-2 Inv-loop μ-loop Inv-scenarios μ-scenarios
 add-lookups-2 c =
     let l = c .before .before .before in
     omega (arith, spent l, few (at (l .before) .before .before))
 
--- src/lib.rt:115:17
 get-requires : tie.Need-get-requires Inv-loop μ-loop Inv-scenarios μ-scenarios
 get-requires c κs = search needs
 
--- src/lib.rt:116:17
 add-number-2 : tie.Need-add-number-2 Inv-loop μ-loop Inv-scenarios μ-scenarios
 add-number-2 c =
     let l = c .before .before .before .before .before in
     omega (arith, l .loop .inv .0, few (at (l .before) .before .before))
 
--- src/lib.rt:102:5
 scenarios-less-2 : tie.Need-scenarios-less-2 Inv-loop μ-loop Inv-scenarios μ-scenarios
 scenarios-less-2 c = search needs
 
--- src/lib.rt:102:5
 scenarios-again-2 : tie.Need-scenarios-again-2 Inv-loop μ-loop Inv-scenarios μ-scenarios
 scenarios-again-2 c =
     let g = c .before in
@@ -185,7 +155,7 @@ scenarios-again-2 c =
     let a = e .before .before .scenarios in
     let bad = run-bad _ _ _ _ _ _ (l .loop .inv .5) (l .loop .inv .1) (i .loop-test .taken) (long r) (n .add-base .ensures .is) (g .get .ensures) (not-true _ (c .if1 .taken)) in
     let q = tried-bad _ _ _ _ (here (e .before)) _ _ (starts-at r) (given r .2) bad _ (given r .0) (omega arith) in
-    let z : l .loop .lookups + 1 ≡ a .lookups + (e .eligible .result .lookups + (l .loop .j - r .row-of .result .start + 1)) = omega (arith, l .loop .inv .4) in (
+    let z : l .loop .lookups + 1 ≡ a .lookups + (e .eligible .result .lookups + (l .loop .j - r .check-start .result + 1)) = omega (arith, l .loop .inv .4) in (
       omega (arith, l .loop .inv .0, e .before .scenarios-test .taken),
       omega (arith, l .loop .inv .0, a .inv .1),
       omega (arith, l .loop .inv .0, spent l),
@@ -194,15 +164,12 @@ scenarios-again-2 c =
       rw (l .loop .inv .0, z) (done-refused _ _ _ _ _ (a .inv .5) (inside (e .before)) q),
     )
 
--- src/lib.rt:112:13
 add-j : tie.Need-add-j Inv-loop μ-loop Inv-scenarios μ-scenarios
 add-j c = omega (arith, near (c .before .before .before .before .before .before))
 
--- src/lib.rt:112:9
 loop-less : tie.Need-loop-less Inv-loop μ-loop Inv-scenarios μ-scenarios
 loop-less c = search needs
 
--- src/lib.rt:112:9
 loop-again : tie.Need-loop-again Inv-loop μ-loop Inv-scenarios μ-scenarios
 loop-again c =
     let g = c .before in
@@ -217,33 +184,26 @@ loop-again c =
       run-on _ _ _ _ _ _ (l .loop .inv .5) (l .loop .inv .1) (i .loop-test .taken) (long (l .before)) (n .add-base .ensures .is) (g .get .ensures) (not-false _ (c .if1 .left)),
     )
 
--- src/lib.rt:119:23
 correct-requires : tie.Need-correct-requires Inv-loop μ-loop Inv-scenarios μ-scenarios
 correct-requires c κs = rw (c .before .loop .inv .0) (numbered (at (c .before .before) .before))
 
--- src/lib.rt:119:9
 mul-kept : tie.Need-mul-kept Inv-loop μ-loop Inv-scenarios μ-scenarios
 mul-kept c = omega (arith, stored (c .before .before .before))
 
--- src/lib.rt:119:9
 array-set-from-kept : tie.Need-array-set-from-kept Inv-loop μ-loop Inv-scenarios μ-scenarios
 array-set-from-kept c = stored (c .before .before .before)
 
--- src/lib.rt:120:9
 add-count : tie.Need-add-count Inv-loop μ-loop Inv-scenarios μ-scenarios
 add-count c = omega (arith, stored (c .before .before .before))
 
--- src/lib.rt:102:21
 add-number-3 : tie.Need-add-number-3 Inv-loop μ-loop Inv-scenarios μ-scenarios
 add-number-3 c =
     let l = c .before .before in
     omega (arith, l .loop .inv .0, few (at (l .before) .before .before))
 
--- src/lib.rt:102:5
 scenarios-less-3 : tie.Need-scenarios-less-3 Inv-loop μ-loop Inv-scenarios μ-scenarios
 scenarios-less-3 c = search needs
 
--- src/lib.rt:102:5
 scenarios-again-3 : tie.Need-scenarios-again-3 Inv-loop μ-loop Inv-scenarios μ-scenarios
 scenarios-again-3 c =
     let i = c .before in
@@ -255,7 +215,7 @@ scenarios-again-3 c =
     let gives = rw (l .loop .inv .0) at (c .correct .ensures (b .head .k) (solid (setOf (b .set .now))) (b .s .now)) in
     let all = run-all _ _ _ _ _ _ (l .loop .inv .5) (i .loop-test .left) (l .loop .inv .2) in
     let q = tried-all _ _ _ _ (here (e .before)) _ _ (starts-at r) (given r .2) all _ (given r .0) (omega arith) in
-    let z : l .loop .lookups ≡ a .lookups + (e .eligible .result .lookups + (r .row-of .result .start + b .c - r .row-of .result .start)) = omega (arith, l .loop .inv .4, l .loop .inv .2, i .loop-test .left) in
+    let z : l .loop .lookups ≡ a .lookups + (e .eligible .result .lookups + (r .check-start .result + b .c - r .check-start .result)) = omega (arith, l .loop .inv .4, l .loop .inv .2, i .loop-test .left) in
     let room : a .count < length (a .kept) = omega (arith, stored r, a .inv .3) in (
       omega (arith, l .loop .inv .0, e .before .scenarios-test .taken),
       omega (arith, l .loop .inv .0, a .inv .1),
@@ -265,7 +225,6 @@ scenarios-again-3 c =
       rw (mends-store (a .kept) (a .count) (c .correct .result) room, gives .is, l .loop .inv .0, z) (done-kept _ _ _ _ _ (a .inv .5) (inside (e .before)) q),
     )
 
--- src/lib.rt:82:1
 returns : tie.Need-returns Inv-loop μ-loop Inv-scenarios μ-scenarios
 returns c =
     let a = c .before .scenarios in
@@ -296,7 +255,7 @@ get-scenarii-spec =
     add-number
     scenarios-less
     scenarios-again
-    row-of-requires
+    check-start-requires
     add-last
     loop-holds
     shared-slice-read-add-base

@@ -1,27 +1,20 @@
-use Rattle.exist.proofs.Letters.{letter-is}
 use borrow.Author.Needs.{needs}
+use Rattle.exist.proofs.Letters.{letter-is}
 use Rattle.exist.proofs.letter_at.Statement.{statement}
 use Rattle.exist.proofs.letter_at.Tie as tie
-use Rattle.exist.proofs.letter_at.Reads as reads
-use Rattle.exist.proofs.letter_at.Lts as lts
 
--- src/lib.rt:195:25
 sub-result : tie.Need-sub-result
 sub-result c = search needs
 
--- src/lib.rt:195:25
 sub-result-2 : tie.Need-sub-result-2
 sub-result-2 c = search needs
 
--- src/lib.rt:195:20
 mul-result : tie.Need-mul-result
 mul-result c = search needs
 
--- src/lib.rt:195:6
 shr-result : tie.Need-shr-result
 shr-result c = search needs
 
--- src/lib.rt:191:1
 returns : tie.Need-returns
 returns c = letter-is _ _ (c .before .before .pre .1)
 

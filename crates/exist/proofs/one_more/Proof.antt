@@ -1,54 +1,39 @@
+use mathlib.Core.Path.{refl}
 use lib.Dec.{lit≤}
-use mathlib.Core.Path.{refl, sym, ap, _∙_}
+use borrow.Author.Needs.{needs}
 use Rattle.scenario.specs.Scenario.{mendOf}
 use Rattle.exist.proofs.Chosen.{more-short, more-long}
-use borrow.Author.Needs.{needs}
 use Rattle.exist.proofs.one_more.Statement.{statement}
 use Rattle.exist.proofs.one_more.Tie as tie
-use Rattle.exist.proofs.one_more.Reads as reads
-use Rattle.exist.proofs.one_more.Lts as lts
-use Rattle.exist.proofs.add_all.Reads as add-all-reads
-use Rattle.exist.proofs.in_place.Reads as in-place-reads
-use Rattle.set.proofs.get.Reads as get-reads
 
--- src/lib.rt:184:15
 add-end : tie.Need-add-end
 add-end c = search needs
 
--- src/lib.rt:184:15
 add-end-2 : tie.Need-add-end-2
 add-end-2 c = search needs
 
--- src/lib.rt:186:9
 returns : tie.Need-returns
 returns c =
     record { is = more-short _ _ _ _ _ (mendOf (c .before .before .before .before .args .mend)) (c .if1 .taken); few = lit≤ tt }
 
--- src/lib.rt:191:25
 in-place-requires : tie.Need-in-place-requires
 in-place-requires c κs = search needs
 
--- src/lib.rt:191:53
 sub-add-all : tie.Need-sub-add-all
 sub-add-all c = search needs
 
--- src/lib.rt:191:53
 part-add-all-start : tie.Need-part-add-all-start
 part-add-all-start c = search needs
 
--- src/lib.rt:191:53
 part-add-all-end : tie.Need-part-add-all-end
 part-add-all-end c = search needs
 
--- src/lib.rt:191:9
 add-all-requires : tie.Need-add-all-requires
 add-all-requires c κs = search needs
 
--- src/lib.rt:193:16
 get-requires : tie.Need-get-requires
 get-requires c κs = search needs
 
--- src/lib.rt:171:1
 returns-2 : tie.Need-returns-2
 returns-2 c =
     let a = c .before .before .before .before .before .before .before .before .args in

@@ -1,48 +1,37 @@
 use Prim.Native.Nat.{_-_, _≤_}
 use native.Mathlib.Omega.{arith}
-use mathlib.Core.Path.{_≡_, sym, _∙_}
+use mathlib.Core.Path.{sym, _∙_}
 use lib.ListN.{length}
 use lib.Seq.{length-take-le}
 use Rattle.job.proofs.Line.{lent-length, line-full, line-within, line-done}
 use borrow.Author.Needs.{needs}
 use Rattle.job.proofs.correct_line.Statement.{statement}
 use Rattle.job.proofs.correct_line.Tie as tie
-use Rattle.job.proofs.correct_line.Reads as reads
-use Rattle.job.proofs.correct_line.Lts as lts
 
--- src/lib.rt:151:9
 returns : tie.Need-returns
 returns c = search needs
 
--- src/lib.rt:153:15
 sub-end : tie.Need-sub-end
 sub-end c = search needs
 
--- src/lib.rt:154:16
 sub-room : tie.Need-sub-room
 sub-room c = search needs
 
--- src/lib.rt:155:78
 sub-through : tie.Need-sub-through
 sub-through c = search needs
 
--- src/lib.rt:155:78
 part-through-start : tie.Need-part-through-start
 part-through-start c = search needs
 
--- src/lib.rt:155:78
 part-through-end : tie.Need-part-through-end
 part-through-end c = search needs
 
--- src/lib.rt:155:100
 slice-relend-prefix-through : tie.Need-slice-relend-prefix-through
 slice-relend-prefix-through c = search needs
 
--- src/lib.rt:155:100
 slice-aggregate-through : tie.Need-slice-aggregate-through
 slice-aggregate-through c = sym (length-take-le _ (c .before .before .before .before .before .before .before .before .before .args .work .now) (search needs))
 
--- src/lib.rt:155:9
 through-requires : tie.Need-through-requires
 through-requires c κs =
     let s = c .before .before .before .before .before .before .before .before .before in
@@ -50,30 +39,24 @@ through-requires c κs =
     let l = lent-length (s .args .output .now) (s .args .at) (c .before .before .if1 .left) in
     ((s .pre .0, p .confirm, p .methods, p .input), (omega (arith, l, p .output), length-take-le _ (s .args .work .now) (search needs) ∙ sym l))
 
--- src/lib.rt:156:20
 enum-known-passed : tie.Need-enum-known-passed
 enum-known-passed c = search needs
 
--- src/lib.rt:157:9
 enum-told : tie.Need-enum-told
 enum-told c = search needs
 
--- src/lib.rt:157:9
 same-length : tie.Need-same-length
 same-length c = search needs
 
--- src/lib.rt:157:9
 same-length-2 : tie.Need-same-length-2
 same-length-2 c = search needs
 
--- src/lib.rt:157:9
 returns-2 : tie.Need-returns-2
 returns-2 c =
     let t = c .before .before .before .before .before .before in
     let s = t .before .before .before .before .before .before .before .before .before .before in
     line-full (s .args .output .now) (s .args .at) (t .before .before .before .if1 .left) _ _ _ _ _ _ _ _ (t .through .ensures) (c .enum-told .given .1)
 
--- src/lib.rt:159:16
 within : (c : tie.After-struct-known) → let s = c .before .before .before .before .before .before .before .before .before .before .before .before .before .before .before .before .before .before in
     c .before .before .passed .given .0 .0 .written ≤ length (s .args .output .now) - 1 - s .args .at
 within c =
@@ -85,7 +68,6 @@ within c =
 add-last : tie.Need-add-last
 add-last c = omega (arith, within c)
 
--- src/lib.rt:160:5
 slice-write-output : tie.Need-slice-write-output
 slice-write-output c =
     let p = c .before .before in
@@ -93,19 +75,15 @@ slice-write-output c =
     let s = t .before .before .before .before .before .before .before .before .before .before in
     line-within (s .args .output .now) (s .args .at) (t .before .before .before .if1 .left) _ _ _ _ _ _ _ _ (t .through .ensures) _ (p .passed .given .1) .1
 
--- src/lib.rt:162:18
 add-t15 : tie.Need-add-t15
 add-t15 c = omega (arith, within (c .before))
 
--- src/lib.rt:136:1
 same-length-3 : tie.Need-same-length-3
 same-length-3 c = search needs
 
--- src/lib.rt:136:1
 same-length-4 : tie.Need-same-length-4
 same-length-4 c = search needs
 
--- src/lib.rt:136:1
 returns-3 : tie.Need-returns-3
 returns-3 c =
     let p = c .before .before .before in

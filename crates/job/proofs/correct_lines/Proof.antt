@@ -1,8 +1,8 @@
 use Prim.Native.Nat.{_+_, _-_, _≤_}
 use native.Mathlib.Omega.{arith}
-use mathlib.Core.Path.{_≡_, refl, sym, _∙_}
+use mathlib.Core.Path.{_≡_, refl, _∙_}
 use borrow.Author.Needs.{needs}
-use lib.ListN.{length, length-take, length-drop}
+use lib.ListN.{length}
 use Rattle.rules.specs.Calls.{Given, maxLines}
 use Rattle.job.specs.Answer.{given}
 use Rattle.job.specs.Reads.{added, Countable}
@@ -10,13 +10,6 @@ use Rattle.job.proofs.Checked.{ends-in-10}
 use Rattle.job.proofs.Batch.{going, begin, line-checked, batch-no-room, batch-next, batch-countable, batch-small, batch-accepted}
 use Rattle.job.proofs.correct_lines.Statement.{statement}
 use Rattle.job.proofs.correct_lines.Tie as tie
-use Rattle.job.proofs.correct_lines.Reads as reads
-use Rattle.job.proofs.correct_lines.Lts as lts
-use Rattle.input.proofs.line_end.Reads as line-end-reads
-use Rattle.job.proofs.accept.Reads as accept-reads
-use Rattle.job.proofs.add.Reads as add-reads
-use Rattle.job.proofs.correct_line.Reads as correct-line-reads
-use Rattle.job.proofs.no_room.Reads as no-room-reads
 
 abbrev Inv-loop : tie.InvT-loop
 Inv-loop set starts head confirm methods batch output₀ work₀ done₀ line₀ from₀ output work done line from =

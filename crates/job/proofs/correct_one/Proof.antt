@@ -1,60 +1,43 @@
-use Prim.Native.Nat.{_≤_}
-use native.Mathlib.Omega.{arith}
-use mathlib.Core.Path.{_≡_, sym}
-use lib.ListN.{length}
-use lib.Seq.{length-take-le, length-front}
+use mathlib.Core.Path.{sym}
+use lib.Seq.{length-take-le}
 use Rattle.job.proofs.Single.{single-no-room, single-small, single-accepted}
 use borrow.Author.Needs.{needs}
 use Rattle.job.proofs.correct_one.Statement.{statement}
 use Rattle.job.proofs.correct_one.Tie as tie
-use Rattle.job.proofs.correct_one.Reads as reads
-use Rattle.job.proofs.correct_one.Lts as lts
-use Rattle.job.proofs.accept.Reads as accept-reads
-use Rattle.job.proofs.no_room.Reads as no-room-reads
 
--- src/lib.rt:128:86
 slice-relend-prefix-through : tie.Need-slice-relend-prefix-through
 slice-relend-prefix-through c = search needs
 
--- src/lib.rt:128:86
 slice-aggregate-through : tie.Need-slice-aggregate-through
 slice-aggregate-through c = sym (length-take-le _ (c .before .before .before .before .before .before .before .before .args .work .now) (search needs))
 
--- src/lib.rt:128:9
 through-requires : tie.Need-through-requires
 through-requires c κs =
     let s = c .before .before .before .before .before .before .before .before in
     let p = s .pre .1 in
     ((s .pre .0, p .confirm, p .methods, p .input), (p .output, length-take-le _ (s .args .work .now) (search needs)))
 
--- src/lib.rt:129:20
 enum-known-passed : tie.Need-enum-known-passed
 enum-known-passed c = search needs
 
--- src/lib.rt:130:27
 enum-told : tie.Need-enum-told
 enum-told c = search needs
 
--- src/lib.rt:130:9
 no-room-requires : tie.Need-no-room-requires
 no-room-requires c κs = search needs
 
--- src/lib.rt:130:9
 same-length : tie.Need-same-length
 same-length c = search needs
 
--- src/lib.rt:130:9
 same-length-2 : tie.Need-same-length-2
 same-length-2 c = search needs
 
--- src/lib.rt:130:9
 returns : tie.Need-returns
 returns c =
     let e = c .before .before .before .before .before .before .before in
     let t = e .before .before .before .before .before .before in
     single-no-room _ _ _ _ _ _ _ _ _ (t .through .ensures) (e .enum-told .given .1) (c .before .before .before .before .no-room .ensures)
 
--- src/lib.rt:132:5
 accept-requires : tie.Need-accept-requires
 accept-requires c κs =
     let e = c .before .before .before in
@@ -62,15 +45,12 @@ accept-requires c κs =
     let s = t .before .before .before .before .before .before .before .before .before in
     single-small _ _ _ _ _ _ (s .args .work .now) _ _ (t .through .ensures) _ (e .passed .given .1) (s .pre .0 .opens) (s .fits .confirm .fits) (s .pre .1)
 
--- src/lib.rt:114:1
 same-length-3 : tie.Need-same-length-3
 same-length-3 c = search needs
 
--- src/lib.rt:114:1
 same-length-4 : tie.Need-same-length-4
 same-length-4 c = search needs
 
--- src/lib.rt:114:1
 returns-2 : tie.Need-returns-2
 returns-2 c =
     let a = c .before .before .before .before in

@@ -12,34 +12,22 @@ use Rattle.job.proofs.Opening.{set-opened, set-checked, read-refused, r
 use borrow.Author.Needs.{needs}
 use Rattle.job.proofs.correct_read.Statement.{statement}
 use Rattle.job.proofs.correct_read.Tie as tie
-use Rattle.job.proofs.correct_read.Reads as reads
-use Rattle.job.proofs.correct_read.Lts as lts
-use Rattle.blocks.proofs.open.Reads as open-reads
-use Rattle.input.proofs.check_input.Reads as check-input-reads
-use Rattle.job.proofs.correct_one.Reads as correct-one-reads
-use Rattle.job.proofs.input_refused.Reads as input-refused-reads
-use Rattle.job.proofs.set_refused.Reads as set-refused-reads
-use Rattle.set.proofs.prepare.Reads as prepare-reads
 
--- src/lib.rt:230:9
 check-input-requires : tie.Need-check-input-requires
 check-input-requires c κs = search needs
 
 enum-told : tie.Need-enum-told
 enum-told c = search needs
 
--- src/lib.rt:232:32
 input-refused-requires : tie.Need-input-refused-requires
 input-refused-requires c κs = search needs
 
--- src/lib.rt:232:9
 returns : tie.Need-returns
 returns c =
     let m = c .before .before in
     let refused = input-refused (m .check-input .result) _ (λ e. not-fine (rw e at (c .before .match .keys2))) (c .input-refused .ensures) in
     (read-refused _ _ (sym (m .check-input .ensures) ∙ refused), tt)
 
--- src/lib.rt:234:9
 -- Checks 1 to 5 let pass.
 fine : (c : tie.After-enum-told) → let a = c .before .before .before .before .before .before .before .before .args in
     inputCheck (length (a .read .now)) (a .methods .now) (a .confirm) (length (a .output .now)) (length (a .work .now)) ≡ none
@@ -48,49 +36,39 @@ fine c = sym (c .before .before .check-input .ensures) ∙ ap checkOf (c .enum-t
 open-requires : tie.Need-open-requires
 open-requires c κs = search needs
 
--- src/lib.rt:235:21
 enum-known-opened : tie.Need-enum-known-opened
 enum-known-opened c = search needs
 
--- src/lib.rt:236:32
 set-refused-requires : tie.Need-set-refused-requires
 set-refused-requires c κs = search needs
 
--- src/lib.rt:236:9
 returns-2 : tie.Need-returns-2
 returns-2 c =
     let o = c .before .before in
     let refused = not-opened _ (o .«open» .result) _ (λ k n e. not-set (rw e at (c .before .match2 .keys2))) (c .set-refused .ensures) (o .«open» .ensures) in
     (read-not-opened _ _ (fine (o .before)) refused, tt)
 
--- src/lib.rt:239:40
 slice-aggregate-prepare : tie.Need-slice-aggregate-prepare
 slice-aggregate-prepare c = search needs
 
--- src/lib.rt:239:9
 prepare-requires : tie.Need-prepare-requires
 prepare-requires c κs =
     let k = c .before .before in
     let t = set-checked _ _ _ _ (k .opened .given .1) (k .before .before .«open» .ensures) in
     (t .0, t .1, t .2, length-replicate {A = ℕ} 65537 0)
 
--- src/lib.rt:240:22
 slice-aggregate-correct-one : tie.Need-slice-aggregate-correct-one
 slice-aggregate-correct-one c = search needs
 
--- src/lib.rt:240:5
 correct-one-requires : tie.Need-correct-one-requires
 correct-one-requires c κs = (c .before .before .before .before .prepare .ensures, checked _ _ _ _ _ (fine (c .before .before .before .before .before .before .before .before .before .before)))
 
--- src/lib.rt:219:1
 same-length : tie.Need-same-length
 same-length c = search needs
 
--- src/lib.rt:219:1
 same-length-2 : tie.Need-same-length-2
 same-length-2 c = search needs
 
--- src/lib.rt:219:1
 returns-3 : tie.Need-returns-3
 returns-3 c =
     let q = c .before .before .before .before in

@@ -1,54 +1,40 @@
 use borrow.Author.Needs.{needs}
 use Rattle.job.proofs.input_refused.Statement.{statement}
 use Rattle.job.proofs.input_refused.Tie as tie
-use Rattle.job.proofs.input_refused.Reads as reads
-use Rattle.job.proofs.input_refused.Lts as lts
 
--- src/lib.rt:55:24
 enum-told : tie.Need-enum-told
 enum-told c = search needs
 
--- src/lib.rt:56:27
 enum-told-2 : tie.Need-enum-told-2
 enum-told-2 c = search needs
 
--- src/lib.rt:57:24
 enum-known-checked : tie.Need-enum-known-checked
 enum-known-checked c = search needs
 
--- src/lib.rt:58:27
 enum-told-3 : tie.Need-enum-told-3
 enum-told-3 c = search needs
 
--- src/lib.rt:59:27
 enum-told-4 : tie.Need-enum-told-4
 enum-told-4 c = search needs
 
--- src/lib.rt:60:24
 enum-told-5 : tie.Need-enum-told-5
 enum-told-5 c = search needs
 
--- src/lib.rt:51:1
 returns : tie.Need-returns
 returns c = rw (c .enum-told .given .1)
 
--- src/lib.rt:51:1
 returns-2 : tie.Need-returns-2
 returns-2 c = rw (c .enum-told2 .given .1)
 
--- src/lib.rt:51:1
 returns-3 : tie.Need-returns-3
 returns-3 c = rw (c .before .checked .given .1)
 
--- src/lib.rt:51:1
 returns-4 : tie.Need-returns-4
 returns-4 c = rw (c .enum-told3 .given .1)
 
--- src/lib.rt:51:1
 returns-5 : tie.Need-returns-5
 returns-5 c = rw (c .enum-told4 .given .1)
 
--- src/lib.rt:51:1
 returns-6 : tie.Need-returns-6
 returns-6 c = rw (c .enum-told5 .given .1) tt
 

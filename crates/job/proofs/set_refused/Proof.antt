@@ -1,46 +1,34 @@
 use borrow.Author.Needs.{needs}
 use Rattle.job.proofs.set_refused.Statement.{statement}
 use Rattle.job.proofs.set_refused.Tie as tie
-use Rattle.job.proofs.set_refused.Reads as reads
-use Rattle.job.proofs.set_refused.Lts as lts
 
--- src/lib.rt:69:27
 enum-told : tie.Need-enum-told
 enum-told c = search needs
 
--- src/lib.rt:70:23
 enum-known-opened : tie.Need-enum-known-opened
 enum-known-opened c = search needs
 
--- src/lib.rt:71:27
 enum-told-2 : tie.Need-enum-told-2
 enum-told-2 c = search needs
 
--- src/lib.rt:72:21
 enum-known-opened-2 : tie.Need-enum-known-opened-2
 enum-known-opened-2 c = search needs
 
--- src/lib.rt:73:30
 enum-told-3 : tie.Need-enum-told-3
 enum-told-3 c = search needs
 
--- src/lib.rt:65:1
 returns : tie.Need-returns
 returns c = rw (c .enum-told .given .1)
 
--- src/lib.rt:65:1
 returns-2 : tie.Need-returns-2
 returns-2 c = rw (c .before .opened .given .1)
 
--- src/lib.rt:65:1
 returns-3 : tie.Need-returns-3
 returns-3 c = rw (c .enum-told2 .given .1)
 
--- src/lib.rt:65:1
 returns-4 : tie.Need-returns-4
 returns-4 c = rw (c .before .opened2 .given .1)
 
--- src/lib.rt:65:1
 returns-5 : tie.Need-returns-5
 returns-5 c = rw (c .enum-told3 .given .1) tt
 

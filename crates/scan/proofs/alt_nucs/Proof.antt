@@ -1,6 +1,6 @@
 use mathlib.Core.Path.{ap, _∙_}
-use Rattle.rules.specs.Scan.{successors}
 use borrow.Author.Needs.{needs}
+use Rattle.rules.specs.Scan.{successors}
 use Rattle.scan.proofs.alt_nucs.Statement.{statement}
 use Rattle.scan.proofs.alt_nucs.Tie as tie
 

@@ -1,12 +1,11 @@
-use Prim.Native.Nat.{ℕ, _≤_, _+_, _-_}
-use native.Mathlib.Omega.{arith}
-use mathlib.Core.Path.{_≡_, refl, sym, ap, _∙_}
+use Prim.Native.Nat.{_≤_, _+_, _-_}
+use mathlib.Core.Path.{_≡_, refl, sym, _∙_}
 use lib.ListN.{length, drop}
+use borrow.Author.Needs.{needs}
 use Rattle.rules.specs.Set.{solid, setOf}
 use Rattle.rules.specs.Scan.{scanFrom, errorLen}
 use Rattle.kmer.specs.Kmer.{IsKmer}
 use Rattle.scan.proofs.Laws.{scan-found, scan-on, scan-end}
-use borrow.Author.Needs.{needs}
 use Rattle.scan.proofs.error_len.Statement.{statement}
 use Rattle.scan.proofs.error_len.Tie as tie
 

@@ -1,5 +1,5 @@
-use Rattle.rules.specs.Scan.{successors}
 use borrow.Author.Needs.{needs}
+use Rattle.rules.specs.Scan.{successors}
 use Rattle.scan.proofs.next_nucs.Statement.{statement}
 use Rattle.scan.proofs.next_nucs.Tie as tie
 

@@ -1,8 +1,8 @@
-use mathlib.Core.Path.{ap, _∙_}
 use Prim.Native.Nat.{ℕ}
+use mathlib.Core.Path.{ap, _∙_}
+use borrow.Author.Needs.{needs}
 use Rattle.rules.specs.Counted.{Try}
 use Rattle.scan.proofs.Laws.{alternative-is, no-next, next-is, nuc-lt}
-use borrow.Author.Needs.{needs}
 use Rattle.scan.proofs.sole_alt.Statement.{statement}
 use Rattle.scan.proofs.sole_alt.Tie as tie
 

@@ -1,8 +1,8 @@
-use mathlib.Core.Path.{sym, ap, _∙_}
 use Prim.Native.Nat.{ℕ}
+use mathlib.Core.Path.{sym, ap, _∙_}
 use mathlib.Core.Option.{Option, some}
-use Rattle.scan.proofs.Laws.{no-next, next-is, nuc-lt}
 use borrow.Author.Needs.{needs}
+use Rattle.scan.proofs.Laws.{no-next, next-is, nuc-lt}
 use Rattle.scan.proofs.sole_next.Statement.{statement}
 use Rattle.scan.proofs.sole_next.Tie as tie
 

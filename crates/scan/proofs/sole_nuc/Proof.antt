@@ -1,6 +1,6 @@
-use Rattle.scan.proofs.Laws.{bit-le, chosen-one, chosen-none}
 use native.Mathlib.Omega.{arith}
 use borrow.Author.Needs.{needs}
+use Rattle.scan.proofs.Laws.{bit-le, chosen-one, chosen-none}
 use Rattle.scan.proofs.sole_nuc.Statement.{statement}
 use Rattle.scan.proofs.sole_nuc.Tie as tie
 

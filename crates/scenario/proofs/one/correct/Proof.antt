@@ -1,11 +1,11 @@
 use native.Mathlib.Omega.{arith}
 use mathlib.Core.Path.{_≡_, refl}
 use lib.Dec.{lit≤}
+use borrow.Author.Needs.{needs}
 use Rattle.rules.specs.Letters.{last}
 use Rattle.rules.specs.Exist.{row, one}
 use Rattle.scenario.specs.Scenario.{nth}
 use Rattle.scenario.proofs.Numbers.{range, gives}
-use borrow.Author.Needs.{needs}
 use Rattle.scenario.proofs.one.correct.Statement.{statement}
 use Rattle.scenario.proofs.one.correct.Tie as tie
 

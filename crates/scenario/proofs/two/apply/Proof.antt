@@ -1,8 +1,9 @@
-use Prim.Native.Nat.{ℕ, _≤_, _<_}
+use Prim.Native.Nat.{ℕ, _≤_}
 use native.Mathlib.Omega.{arith}
 use mathlib.Core.Path.{_≡_, refl}
 use lib.Dec.{lit≤}
 use lib.ListN.{length}
+use borrow.Author.Needs.{needs}
 use Rattle.rules.specs.Set.{solid, setOf}
 use Rattle.rules.specs.Counted.{Try, give, refuse}
 use Rattle.rules.specs.Exist.{Scenario, row, two}
@@ -11,7 +12,6 @@ use Rattle.scenario.specs.declared.Trial.{Trial}
 use Rattle.scenario.specs.Scenario.{nth, trialOf, TrialIs}
 use Rattle.scenario.proofs.Numbers.{past}
 use Rattle.scenario.proofs.Trials.{trial-short, trial-long, trial-is, trial-x, trial-sole, trials}
-use borrow.Author.Needs.{needs}
 use Rattle.scenario.proofs.two.apply.Statement.{statement}
 use Rattle.scenario.proofs.two.apply.Tie as tie
 

@@ -1,9 +1,8 @@
-use mathlib.Core.Path.{refl, sym, ap, _∙_}
+use mathlib.Core.Path.{refl, sym, _∙_}
 use lib.Dec.{lit≤}
-use borrow.Author.Tests.{not-true, not-false}
-use Rattle.scan.specs.declared.Next.the-variants.{Kmer, Refused}
-use Rattle.scenario.proofs.Trials.{trial-is, instead-refused, instead-on}
 use borrow.Author.Needs.{needs}
+use Rattle.scan.specs.declared.Next.the-variants.{Refused}
+use Rattle.scenario.proofs.Trials.{trial-is, instead-refused, instead-on}
 use Rattle.scenario.proofs.two.instead.Statement.{statement}
 use Rattle.scenario.proofs.two.instead.Tie as tie
 

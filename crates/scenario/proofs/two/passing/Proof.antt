@@ -1,13 +1,12 @@
-use mathlib.Core.Path.{refl, sym, ap, _∙_}
-use lib.Dec.{lit≤}
-use borrow.Author.Tests.{not-true, not-false}
-use Rattle.scan.specs.declared.Next.the-variants.{Kmer, Refused}
-use Rattle.scenario.proofs.Trials.{trial-is}
 use Prim.Native.Nat.{ℕ}
+use mathlib.Core.Path.{refl, sym, ap}
 use mathlib.Core.Option.{Option, some}
-use Rattle.rules.specs.Counted.{give}
-use Rattle.scenario.specs.Scenario.{passingOf, TrialIs, plus}
+use lib.Dec.{lit≤}
 use borrow.Author.Needs.{needs}
+use Rattle.rules.specs.Counted.{give}
+use Rattle.scan.specs.declared.Next.the-variants.{Kmer}
+use Rattle.scenario.proofs.Trials.{trial-is}
+use Rattle.scenario.specs.Scenario.{passingOf}
 use Rattle.scenario.proofs.two.passing.Statement.{statement}
 use Rattle.scenario.proofs.two.passing.Tie as tie
 

@@ -1,5 +1,5 @@
-use Rattle.scenario.proofs.Trials.{sole-is}
 use borrow.Author.Needs.{needs}
+use Rattle.scenario.proofs.Trials.{sole-is}
 use Rattle.scenario.proofs.two.sole.Statement.{statement}
 use Rattle.scenario.proofs.two.sole.Tie as tie
 

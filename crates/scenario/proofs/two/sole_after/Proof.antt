@@ -1,5 +1,5 @@
-use Rattle.scenario.specs.Scenario.{soleAfter}
 use borrow.Author.Needs.{needs}
+use Rattle.scenario.specs.Scenario.{soleAfter}
 use Rattle.scenario.proofs.two.sole_after.Statement.{statement}
 use Rattle.scenario.proofs.two.sole_after.Tie as tie
 

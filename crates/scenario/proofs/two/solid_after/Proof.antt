@@ -1,12 +1,11 @@
+use Prim.Native.Nat.{ℕ}
 use mathlib.Core.Path.{refl, sym, ap, _∙_}
+use mathlib.Core.Option.{Option, some}
 use lib.Dec.{lit≤}
-use borrow.Author.Tests.{not-true, not-false}
+use borrow.Author.Needs.{needs}
 use Rattle.scan.specs.declared.Next.the-variants.{Kmer, Refused}
 use Rattle.scenario.proofs.Trials.{trial-is, solid-yes, solid-no}
-use Prim.Native.Nat.{ℕ}
-use mathlib.Core.Option.{Option, some}
 use Rattle.scenario.specs.Scenario.{solidAfter}
-use borrow.Author.Needs.{needs}
 use Rattle.scenario.proofs.two.solid_after.Statement.{statement}
 use Rattle.scenario.proofs.two.solid_after.Tie as tie
 

@@ -1,0 +1,51 @@
+-- An attempt under each method byte, told of the header's k and n.
+use Prim.Native.Nat.{ℕ}
+use mathlib.Core.Path.{_≡_, sym, ap, ap₂, _∙_}
+use mathlib.Core.Bool.{Bool}
+use mathlib.Core.List.{List}
+use borrow.Author.Tests.{ne-eqb}
+use lib.ListN.{length}
+use Rattle.rules.specs.Set.{setOf, solid, headerN}
+use Rattle.rules.specs.Exist.{exist, one, two}
+use Rattle.rules.specs.Graph.{graph}
+use Rattle.rules.specs.GapSize.{gapSize}
+use Rattle.rules.specs.Job.{Method, One, Two, Graph, GapSize, methodOf, correctError}
+use Rattle.kmer.specs.declared.Header.{Header}
+use Rattle.set.specs.Ready.{Ready}
+use Rattle.gap_size.proofs.Laws.{keys-count}
+use Rattle.turn.specs.Turn.{attemptOf}
+use Rattle.turn.proofs.Turns.{set-k}
+
+-- n is the number of keys
+pub keys-are : (bytes : List ℕ) → length (setOf bytes .keys) ≡ headerN bytes
+unfolding setOf
+keys-are bytes = keys-count bytes 0 (headerN bytes)
+
+module _ (bytes starts : List ℕ) (head : Header) (ready : Ready bytes starts head) (method c : ℕ) (s : List ℕ) (y : ℕ) where
+  abbrev sol : ℕ → Bool
+  sol = solid (setOf bytes)
+
+  n-is : length (setOf bytes .keys) ≡ head .n
+  n-is = keys-are bytes ∙ sym (ready .n-is)
+
+  under : (m : Method) → methodOf method ≡ m → attemptOf bytes method c s y ≡ correctError (setOf bytes) c m s y
+  under m e = ap (λ (x : Method). correctError (setOf bytes) c x s y) e
+
+  pub by-one : method ≡ 1 → attemptOf bytes method c s y ≡ exist (head .k) sol c s (one (head .k) sol) y
+  unfolding methodOf correctError
+  by-one e = under One (rw e) ∙ ap (λ (k : ℕ). exist k sol c s (one k sol) y) (set-k ready)
+
+  pub by-two : method ≡ 2 → attemptOf bytes method c s y ≡ exist (head .k) sol c s (two (head .k) sol) y
+  unfolding methodOf correctError
+  by-two e = under Two (rw e) ∙ ap (λ (k : ℕ). exist k sol c s (two k sol) y) (set-k ready)
+
+  pub by-graph : method ≡ 3 → attemptOf bytes method c s y ≡ graph (head .k) (head .n) sol s y
+  unfolding methodOf correctError
+  by-graph e = under Graph (rw e) ∙ ap₂ (λ (k n : ℕ). graph k n sol s y) (set-k ready) n-is
+
+  pub by-gap-size : (method ≡ 1 → ⊥) → (method ≡ 2 → ⊥) → (method ≡ 3 → ⊥)
+      → attemptOf bytes method c s y ≡ gapSize (head .k) (head .n) sol c s y
+  unfolding methodOf correctError
+  by-gap-size a b d =
+      under GapSize (rw (ne-eqb method 1 a, methodOf, ne-eqb method 2 b, ne-eqb method 3 d))
+      ∙ ap₂ (λ (k n : ℕ). gapSize k n sol c s y) (set-k ready) n-is

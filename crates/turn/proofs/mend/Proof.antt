@@ -1,0 +1,46 @@
+use Prim.Native.Nat.{ℕ, _+_, min}
+use native.Mathlib.Omega.{arith}
+use mathlib.Core.Path.{_≡_, ap, _∙_}
+use mathlib.Core.Bool.{true}
+use mathlib.Core.Logic.{⊎-elim}
+use lib.ListN.{length}
+use Rattle.rules.specs.Letters.{addAll, inPlace}
+use Rattle.turn.specs.Turn.{placeOf}
+use borrow.Author.Needs.{needs}
+use Rattle.turn.proofs.mend.Statement.{statement}
+use Rattle.turn.proofs.mend.Tie as tie
+
+sub-if1 : tie.Need-sub-if1
+sub-if1 c = search needs
+
+add-at : tie.Need-add-at
+add-at c = search needs
+
+drop-last-requires : tie.Need-drop-last-requires
+drop-last-requires c κs = search needs
+
+add-letters-requires : tie.Need-add-letters-requires
+add-letters-requires c κs = search needs
+
+moved-requires : tie.Need-moved-requires
+moved-requires c κs = search needs
+
+returns : tie.Need-returns
+unfolding inPlace
+returns c =
+    let l = c .before in
+    let d = l .before in
+    let join = d .before in
+    let a = join .before .before .before .args in
+    let e = l .add-letters .ensures in
+    let stop : join .if1 .at ≡ min (a .p .at + a .resume) (a .len) = ⊎-elim (λ w. omega arith) (λ w. omega arith) (join .if1 .came) in
+    record {
+      kmer = l .add-letters .result;
+      placed = record { is = e .is ∙ ap (λ (y : ℕ). addAll (a .head .k) y (a .letters .now)) (d .drop-last .ensures .is); kmer = e .kmer };
+      is = c .moved .ensures ∙ ap (λ (at : ℕ). placeOf (a .p) (l .add-letters .result) true at (length (a .letters .now)) (a .lookups) 1 1) stop;
+    }
+
+pub mend-spec : {M : Type 1} → statement M
+mend-spec =
+    tie.close
+    (tie.spec sub-if1 add-at drop-last-requires add-letters-requires moved-requires returns)

@@ -1,0 +1,92 @@
+use native.Mathlib.Omega.{arith}
+use borrow.Author.Needs.{needs}
+use borrow.Author.Tests.{not-true, not-false}
+use mathlib.Core.Path.{_≡_, refl, sym, _∙_}
+use mathlib.Core.Bool.{true, false}
+use lib.ListN.{getD}
+use Rattle.rules.specs.Letters.{addBase}
+use Rattle.rules.specs.Set.{setOf, solid}
+use Rattle.turn.proofs.Turns.{solid-turn, quiet-turn, keep-fits, kept-is}
+use Rattle.turn.proofs.turn.Statement.{statement}
+use Rattle.turn.proofs.turn.Tie as tie
+
+shared-slice-read-base : tie.Need-shared-slice-read-base
+shared-slice-read-base c = search needs
+
+add-base-requires : tie.Need-add-base-requires
+add-base-requires c κs = search needs
+
+get-requires : tie.Need-get-requires
+get-requires c κs = search needs
+
+-- The next k-mer's lookup.
+answer : (c : tie.After-get)
+    → let a = c .before .before .before .before .before .before .before .args in
+    solid (setOf (a .set .now)) (addBase (a .head .k) (a .p .kmer .code) (getD (a .read .now) (a .p .at) 0)) ≡ c .get .result
+answer c = rw (← (c .before .add-base .ensures .is)) (sym (c .get .ensures))
+
+keep-requires : tie.Need-keep-requires
+keep-requires c κs =
+    let g = c .before .before in
+    let s = g .before .before .before .before .before .before .before in
+    let f = keep-fits _ _ _ _ _ _ _ _ (s .pre) (omega (arith, s .good)) true 0 0 (solid-turn _ _ _ _ _ _ _ _ (s .pre) (answer g ∙ c .before .if1 .taken)) in
+    (omega (arith, s .good, s .pre .more), f)
+
+same-length : tie.Need-same-length
+same-length c = search needs
+
+returns : tie.Need-returns
+returns c =
+    let q = c .before .before in
+    let g = q .before .before .before in
+    let s = g .before .before .before .before .before .before .before in
+    kept-is _ _ _ _ _ _ _ _ (s .pre) (g .before .add-base .result) true 0 0 (s .args .out .now) _ (q .keep .result) (g .before .add-base .ensures) refl refl
+    (solid-turn _ _ _ _ _ _ _ _ (s .pre) (answer g ∙ q .before .before .if1 .taken)) (q .keep .ensures)
+
+keep-requires-2 : tie.Need-keep-requires-2
+keep-requires-2 c κs =
+    let g = c .before .before .before in
+    let s = g .before .before .before .before .before .before .before in
+    let f = keep-fits _ _ _ _ _ _ _ _ (s .pre) (omega (arith, s .good)) false 0 0
+    (quiet-turn _ _ _ _ _ _ _ _ (s .pre) (answer g ∙ c .before .before .if1 .left) (not-true _ (c .before .if2 .taken))) in
+    (omega (arith, s .good, s .pre .more), f)
+
+same-length-2 : tie.Need-same-length-2
+same-length-2 c = search needs
+
+returns-2 : tie.Need-returns-2
+returns-2 c =
+    let q = c .before .before in
+    let g = q .before .before .before .before in
+    let s = g .before .before .before .before .before .before .before in
+    kept-is _ _ _ _ _ _ _ _ (s .pre) (g .before .add-base .result) false 0 0 (s .args .out .now) _ (q .keep2 .result) (g .before .add-base .ensures) refl refl
+    (quiet-turn _ _ _ _ _ _ _ _ (s .pre) (answer g ∙ q .before .before .before .if1 .left) (not-true _ (q .before .before .if2 .taken))) (q .keep2 .ensures)
+
+bad-base-requires : tie.Need-bad-base-requires
+bad-base-requires c κs =
+    let g = c .before .before .before in
+    let s = g .before .before .before .before .before .before .before in
+    (s .pre, record { kmer = g .before .add-base .ensures; weak = sym (g .get .ensures) ∙ c .before .before .if1 .left; previous = not-false _ (c .before .if2 .left) })
+
+same-length-3 : tie.Need-same-length-3
+same-length-3 c = search needs
+
+returns-3 : tie.Need-returns-3
+returns-3 c = search needs
+
+pub turn-spec : {M : Type 1} → statement M
+turn-spec =
+    tie.close
+    (tie.spec
+    shared-slice-read-base
+    add-base-requires
+    get-requires
+    keep-requires
+    same-length
+    returns
+    keep-requires-2
+    same-length-2
+    returns-2
+    bad-base-requires
+    same-length-3
+    returns-3)

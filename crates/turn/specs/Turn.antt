@@ -1,0 +1,107 @@
+-- One turn, and what the functions that make it ask and give.
+use Prim.Native.Nat.{ℕ, _+_, _≤_, _<_, _^_, min}
+use mathlib.Core.Path.{_≡_}
+use mathlib.Core.Bool.{Bool, true, false}
+use mathlib.Core.List.{List}
+use lib.ListN.{length, getD, take, drop, set}
+use Rattle.rules.specs.Letters.{addBase, inPlace}
+use Rattle.rules.specs.Set.{setOf, solid}
+use Rattle.rules.specs.Counted.{Try}
+use Rattle.rules.specs.Exist.{Mend}
+use Rattle.rules.specs.Driver as rules
+use Rattle.rules.specs.Driver.{State}
+use Rattle.rules.specs.Job.{methodOf, correctError}
+use Rattle.rules.proofs.Driver.{finish}
+use Rattle.kmer.specs.declared.Header.{Header}
+use Rattle.kmer.specs.declared.Kmer.{Kmer}
+use Rattle.kmer.specs.Kmer.{IsKmer, HasCode}
+use Rattle.set.specs.Ready.{Ready}
+use Rattle.turn.specs.declared.Place.{Place}
+use Rattle.turn.specs.declared.Turned.{Turned}
+use Rattle.turn.specs.declared.Turned.the-variants.{To, Full}
+
+-- What is done at a place, as the rules' pass so far.
+abbrev pub doneOf : Place → List ℕ → rules.Pass
+doneOf p out = record { bytes = take (p .written) out; turns = p .turns; lookups = p .lookups; attempts = p .attempts; accepted = p .accepted }
+
+-- A place as the rules' state.
+unfoldable pub stateOf : Place → List ℕ → List ℕ → State
+stateOf p read out = record { kmer = p .kmer .code; previous = p .previous; rest = drop (p .at) read; done = doneOf p out }
+
+-- A place has a k-mer, and is inside the read and the output.
+pub record Stands (k : ℕ) (p : Place) (read out : List ℕ) : Type 0 where
+  pub kmer : IsKmer k (p .kmer)
+  pub at : p .at ≤ length read
+  pub written : p .written ≤ length out
+
+-- Counts that fit a u64, with room for a sum.
+pub record Countable (n : rules.Pass) : Type 0 where
+  pub turns : n .turns < 2 ^ 63
+  pub lookups : n .lookups < 2 ^ 63
+  pub attempts : n .attempts < 2 ^ 63
+  pub accepted : n .accepted < 2 ^ 63
+
+-- The rules' attempt, turn and end of a pass, under a set's bytes, a method byte and a confirm.
+abbrev pub attemptOf : List ℕ → ℕ → ℕ → List ℕ → ℕ → Try Mend
+attemptOf bytes method c = correctError (setOf bytes) c (methodOf method)
+
+abbrev pub turnOf : List ℕ → Header → ℕ → ℕ → State → ℕ → List ℕ → State
+turnOf bytes head method c = rules.turn (head .k) (solid (setOf bytes)) (attemptOf bytes method c)
+
+abbrev pub endOf : List ℕ → Header → ℕ → ℕ → State → rules.Pass
+endOf bytes head method c st = finish (head .k) (solid (setOf bytes)) (attemptOf bytes method c) st .done
+
+-- One turn more: where it leads, and what it adds: w bytes written, l lookups beside the turn's own, a attempts made and b accepted.
+abbrev pub placeOf : Place → Kmer → Bool → ℕ → ℕ → ℕ → ℕ → ℕ → Place
+placeOf p kmer previous at w l a b =
+    record {
+      kmer = kmer;
+      previous = previous;
+      at = at;
+      written = p .written + w;
+      turns = p .turns + 1;
+      lookups = p .lookups + (1 + l);
+      attempts = p .attempts + a;
+      accepted = p .accepted + b;
+    }
+
+-- What it adds fits.
+pub record Fits (p : Place) (w l a b : ℕ) : Type 0 where
+  pub written : p .written + w < 2 ^ 64
+  pub turns : p .turns < 2 ^ 63
+  pub lookups : p .lookups + (1 + l) < 2 ^ 64
+  pub attempts : p .attempts + a < 2 ^ 64
+  pub accepted : p .accepted + b < 2 ^ 64
+
+-- A base kept, as `keepBase` of the rules has it; Full where the output has no room for it.
+abbrev pub Kept : Place → ℕ → Kmer → Bool → ℕ → ℕ → List ℕ → List ℕ → Turned → Type 0
+Kept p base kmer solid a l out out′ (To r) =
+    (r ≡ placeOf p kmer solid (p .at + 1) 1 l a 0) × (out′ ≡ set out (p .written) base) × (p .written < length out)
+Kept p base kmer solid a l out out′ Full = length out ≤ p .written
+
+-- An accepted attempt at the bad k-mer y, as `mendBase` of the rules has it, in a read of length n.
+pub record Mended (k : ℕ) (p : Place) (y : ℕ) (letters : List ℕ) (resume l n : ℕ) (r : Place) : Type 0 where
+  pub kmer : Kmer
+  pub placed : HasCode k (inPlace k y letters) kmer
+  pub is : r ≡ placeOf p kmer true (min (p .at + resume) n) (length letters) l 1 1
+
+-- What a turn asks: a base is left, and the counts of the whole pass fit.
+pub record Turning (bytes starts : List ℕ) (head : Header) (method c : ℕ) (p : Place) (read out : List ℕ) : Type 0 where
+  pub ready : Ready bytes starts head
+  pub confirm : 1 ≤ c
+  pub stands : Stands (head .k) p read out
+  pub more : p .at < length read
+  pub counts : Countable (endOf bytes head method c (stateOf p read out))
+
+-- The next base gives the k-mer `bad`, which is not solid, while the previous one counts as solid.
+pub record BadAt (bytes : List ℕ) (head : Header) (p : Place) (bad : Kmer) (read : List ℕ) : Type 0 where
+  pub kmer : HasCode (head .k) (addBase (head .k) (p .kmer .code) (getD read (p .at) 0)) bad
+  pub weak : solid (setOf bytes) (bad .code) ≡ false
+  pub previous : p .previous ≡ true
+
+-- A turn of the code is one of the rules; Full where the pass's result is longer than the output.
+abbrev pub TurnIs : List ℕ → Header → ℕ → ℕ → Place → List ℕ → List ℕ → List ℕ → Turned → Type 0
+TurnIs bytes head method c p read out out′ (To r) =
+    (stateOf r read out′ ≡ turnOf bytes head method c (stateOf p read out) (getD read (p .at) 0) (drop (p .at + 1) read))
+    × Stands (head .k) r read out′
+TurnIs bytes head method c p read out out′ Full = length out < length (endOf bytes head method c (stateOf p read out) .bytes)

@@ -1,0 +1,203 @@
+// One turn of the driver, `Corrector::correct` of src/correct/mod.rs: a base is taken, its k-mer looked up and, where that is not solid
+// while the previous was, an attempt made. Document 01, "Driver".
+use kmer::Header;
+use kmer::Kmer;
+use scan::Attempt;
+ghost use mathlib.Core.Path.{_≡_};
+ghost use Prim.Native.Nat.{_+_, _≤_, _<_, _^_};
+ghost use lib.ListN.{length};
+ghost use Rattle.rules.specs.Letters.{addAll};
+ghost use Rattle.rules.specs.Set.{setOf, solid};
+ghost use Rattle.rules.specs.Scan.{errorLen};
+ghost use Rattle.kmer.specs.Kmer.{Shifts, IsKmer, HasCode};
+ghost use Rattle.set.specs.Ready.{Ready};
+ghost use Rattle.scan.specs.Attempt.{Attempted};
+ghost use Rattle.turn.specs.Turn.{attemptOf, Fits, placeOf, Kept, Mended, Turning, BadAt, TurnIs};
+
+// Where a pass stands: the k-mer, whether the previous one counts as solid, the index of the next base, and what is done.
+pub struct Place {
+    pub kmer: Kmer,
+    pub previous: bool,
+    pub at: usize,
+    pub written: usize,
+    pub turns: u64,
+    pub lookups: u64,
+    pub attempts: u64,
+    pub accepted: u64,
+}
+
+// Full: what the turn has to write, or what is certain to come after it, does not fit.
+pub enum Turned {
+    To(Place),
+    Full,
+}
+
+// An attempt under a method, kmer being the bad k-mer and s the rest of the read at its bad base.
+fn correct_error(
+    set: &[u8],
+    starts: &[u32],
+    head: Header,
+    method: u8,
+    c: u8,
+    kmer: Kmer,
+    s: &[u8],
+    out: &mut [u8],
+) -> Attempt
+    requires { ⌜ Ready (now set) (now starts) head × IsKmer (head .k) kmer × (1 ≤ length (now s)) × (1 ≤ c) ⌝ }
+    ensures { λ r. ⌜
+        Attempted (errorLen (head .k) (solid (setOf (now (set .entry)))) (kmer .code) (now (s .entry)) .index) (now (out .entry)) (now (out .exit))
+        (attemptOf (now (set .entry)) method c (now (s .entry)) (kmer .code))
+        r ⌝ }
+{
+    match method {
+        1 => exist::correct_error(set, starts, head, false, c, kmer, s, out),
+        2 => exist::correct_error(set, starts, head, true, c, kmer, s, out),
+        3 => graph::correct_error(set, starts, head, kmer, s, out),
+        _ => gap_size::correct_error(set, starts, head, c, kmer, s, out),
+    }
+}
+
+fn add_letters(kmer: Kmer, letters: &[u8], head: Header) -> Kmer
+    requires { ⌜ Shifts head × IsKmer (head .k) kmer ⌝ }
+    ensures { λ r. ⌜ HasCode (head .k) (addAll (head .k) (kmer .code) (now (letters .entry))) r ⌝ }
+{
+    let mut y = kmer;
+    for i in 0..letters.len() {
+        y = scan::add_base(y, letters[i], head);
+    }
+    y
+}
+
+// One turn more: where it leads, and what it adds: bytes written, lookups beside the turn's own, attempts made and accepted.
+fn moved(
+    p: Place,
+    kmer: Kmer,
+    previous: bool,
+    at: usize,
+    written: usize,
+    lookups: u64,
+    attempts: u64,
+    accepted: u64,
+) -> Place
+    requires { ⌜ Fits p written lookups attempts accepted ⌝ }
+    ensures { λ r. ⌜ r ≡ placeOf p kmer previous at written lookups attempts accepted ⌝ }
+{
+    Place {
+        kmer,
+        previous,
+        at,
+        written: p.written + written,
+        turns: p.turns + 1,
+        lookups: p.lookups + (1 + lookups),
+        attempts: p.attempts + attempts,
+        accepted: p.accepted + accepted,
+    }
+}
+
+// The base is kept: its k-mer becomes the pass's, and solid says what its lookup answered.
+fn keep(
+    p: Place,
+    base: u8,
+    kmer: Kmer,
+    solid: bool,
+    attempts: u64,
+    lookups: u64,
+    out: &mut [u8],
+) -> Turned
+    requires { ⌜ (p .at < 2 ^ 63) × Fits p 1 lookups attempts 0 ⌝ }
+    ensures { λ r. ⌜ Kept p base kmer solid attempts lookups (now (out .entry)) (now (out .exit)) r ⌝ }
+{
+    let w = p.written;
+    if out.len() <= w {
+        return Turned::Full;
+    }
+    out[w] = base;
+    Turned::To(moved(p, kmer, solid, p.at + 1, 1, lookups, attempts, 0))
+}
+
+// The letters of an accepted attempt stand in the output already. The bad k-mer takes them in place of its last letter, and the pass
+// goes on `resume` bases further, or stops at the read's end, `len`.
+fn mend(
+    p: Place,
+    bad: Kmer,
+    letters: &[u8],
+    resume: usize,
+    lookups: u64,
+    len: usize,
+    head: Header,
+) -> Place
+    requires { ⌜ Shifts head × IsKmer (head .k) bad × (p .at ≤ len) × Fits p (length (now letters)) lookups 1 1 ⌝ }
+    ensures { λ r. ⌜ Mended (head .k) p (bad .code) (now (letters .entry)) resume lookups len r ⌝ }
+{
+    let mut at = len;
+    if resume < len - p.at {
+        at = p.at + resume;
+    }
+    let shifted = kmer::drop_last(bad, head);
+    let kmer = add_letters(shifted, letters, head);
+    moved(p, kmer, true, at, letters.len(), lookups, 1, 1)
+}
+
+// A turn at a base whose k-mer is not solid while the previous was.
+fn bad_base(
+    set: &[u8],
+    starts: &[u32],
+    head: Header,
+    method: u8,
+    c: u8,
+    p: Place,
+    bad: Kmer,
+    read: &[u8],
+    out: &mut [u8],
+) -> Turned
+    requires { ⌜ Turning (now set) (now starts) head method c p (now read) (now out) ⌝ }
+    requires { ⌜ BadAt (now set) head p bad (now read) ⌝ }
+    ensures { λ r. ⌜ TurnIs (now (set .entry)) head method c p (now (read .entry)) (now (out .entry)) (now (out .exit)) r ⌝ }
+{
+    let at = p.at;
+    let w = p.written;
+    let tried = correct_error(
+        set,
+        starts,
+        head,
+        method,
+        c,
+        bad,
+        &read[at..],
+        &mut out[w..],
+    );
+    match tried {
+        Attempt::Mend(n, resume, lookups) => {
+            let end = w + n;
+            Turned::To(mend(p, bad, &out[w..end], resume, lookups, read.len(), head))
+        }
+        Attempt::Refused(lookups) => keep(p, read[at], bad, false, 1, lookups, out),
+        Attempt::Full => Turned::Full,
+    }
+}
+
+pub fn turn(
+    set: &[u8],
+    starts: &[u32],
+    head: Header,
+    method: u8,
+    c: u8,
+    p: Place,
+    read: &[u8],
+    out: &mut [u8],
+) -> Turned
+    requires { ⌜ Turning (now set) (now starts) head method c p (now read) (now out) ⌝ }
+    ensures { λ r. ⌜ TurnIs (now (set .entry)) head method c p (now (read .entry)) (now (out .entry)) (now (out .exit)) r ⌝ }
+{
+    let at = p.at;
+    let base = read[at];
+    let next = scan::add_base(p.kmer, base, head);
+    if set::get(set, starts, head, next) {
+        return keep(p, base, next, true, 0, 0, out);
+    }
+    let previous = p.previous;
+    if !previous {
+        return keep(p, base, next, false, 0, 0, out);
+    }
+    bad_base(set, starts, head, method, c, p, next, read, out)
+}
