@@ -14,8 +14,7 @@ use Rattle.rules.specs.Counts.{F}
 use Rattle.rules.proofs.Driver.{drive-turns}
 use Rattle.rules.proofs.Lookups.{drive-lookups, drive-short}
 use Rattle.rules.proofs.Demands.{fair, steady}
-use Rattle.turn.proofs.Methods.{keys-are}
-use Rattle.set.proofs.Opened.{opened-k-low, opened-k-high, opened-n-le}
+use Rattle.set.proofs.Opened.{opened-k-low, opened-k-high, opened-n-le, set-count}
 use Rattle.rules.specs.Calls.{maxRead}
 use Rattle.correct.proofs.Drives.{drive-fewer}
 use Rattle.correct.proofs.InTurn.{both}
@@ -36,8 +35,8 @@ module _ (bytes : List ℕ) (opens : setCheck bytes ≡ none) (c : ℕ) (c-low :
   unfolding F setOf
   F-le One = omega arith
   F-le Two = omega arith
-  F-le Graph = omega (arith, keys-are bytes, opened-n-le bytes opens)
-  F-le GapSize = omega (arith, keys-are bytes, opened-n-le bytes opens, opened-k-high bytes opens)
+  F-le Graph = omega (arith, set-count bytes, opened-n-le bytes opens)
+  F-le GapSize = omega (arith, set-count bytes, opened-n-le bytes opens, opened-k-high bytes opens)
 
   k-low : 1 ≤ setOf bytes .k
   unfolding setOf

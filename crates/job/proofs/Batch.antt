@@ -52,7 +52,7 @@ behind-assoc p q r = λ i. record {
   accepted = add-assoc (p .accepted) (q .accepted) (r .accepted) i;
 }
 
-abbrev pub nothing : Counts
+abbrev nothing : Counts
 nothing = record { written = 0; turns = 0; lookups = 0; attempts = 0; accepted = 0 }
 
 module _ (set : KmerSet) (c : ℕ) (ms : List Method) where
@@ -110,7 +110,7 @@ module _ (set : KmerSet) (c : ℕ) (ms : List Method) where
 
   module _ (room : ℕ) (reads : List (List ℕ)) (read : List ℕ) (rest : List (List ℕ)) (line : ℕ) (done : Counts) (o o′ : List ℕ)
       (g : Going room reads (read ∷ rest) line done o) where
-    pub line-full : LineIs set c ms read (done .written) o o′ Full → tooLong set c ms ending 0 room reads ≡ some line
+    line-full : LineIs set c ms read (done .written) o o′ Full → tooLong set c ms ending 0 room reads ≡ some line
     line-full h = g .left ∙ too-long-here set c ms ending line (room - done .written) read rest (omega (arith, g .length-is))
 
     -- A line more.
@@ -126,7 +126,7 @@ module _ (set : KmerSet) (c : ℕ) (ms : List Method) where
           accepted = done .accepted + e i .accepted;
         }
 
-    pub line-done : (limits : (m : Method) (fed : List ℕ) → Limited (length fed) (pass set c m fed)) (r : Counts)
+    line-done : (limits : (m : Method) (fed : List ℕ) → Limited (length fed) (pass set c m fed)) (r : Counts)
         → length ms ≤ maxMethods → length read ≤ maxRead → room ≤ maxRead
         → LineIs set c ms read (done .written) o o′ (Done r) → length o′ ≡ length o
         → Going room reads rest (line + 1) (added done r) o′
@@ -159,11 +159,11 @@ module _ (set : KmerSet) (c : ℕ) (ms : List Method) where
         }
 
   module _ (room : ℕ) (reads : List (List ℕ)) (line : ℕ) (done : Counts) (o : List ℕ) (g : Going room reads [] line done o) where
-    pub all-fit : tooLong set c ms ending 0 room reads ≡ none
+    all-fit : tooLong set c ms ending 0 room reads ≡ none
     unfolding tooLong
     all-fit = g .left
 
-    pub all-done : passOf done o ≡ all reads
+    all-done : passOf done o ≡ all reads
     all-done = sym (all-none (passOf done o)) ∙ g .whole
 
 -- ---- the code's batch: from is where the next line begins
@@ -240,7 +240,8 @@ module _ (g : Given) where
     batch-small = (i .written, omega (arith, i .small .accepted, batch-countable .1))
 
   pub batch-accepted : (from line : ℕ) (done : Counts) (o w : List ℕ) {r : Answer} {o′ w′ : List ℕ} → going from line done o
-      → length (g .input) ≤ from → length w ≡ length (g .work) → (r ≡ Reported (reportOn done)) × Cleared (done .written) o (length w) o′ w′ → exactly r o′ w′
+      → length (g .input) ≤ from → length w ≡ length (g .work) → (r ≡ Reported (reportOn done)) × Cleared (done .written) o (length w) o′ w′
+      → exactly r o′ w′
   unfolding lines linesFrom
   batch-accepted from line done o w i end same a =
       let over : lines (drop from (g .input)) ≡ [] = ap lines (drop-of-length-le (g .input) end) in

@@ -14,7 +14,7 @@ use Rattle.rules.specs.Calls.{Given, unchanged, noRoom, longest, tooLong, resul
 
 -- ---- sums over passes
 
-pub sum-append : (f : Fed → ℕ) (ps qs : List Fed) → sum f (ps ++ qs) ≡ sum f ps + sum f qs
+sum-append : (f : Fed → ℕ) (ps qs : List Fed) → sum f (ps ++ qs) ≡ sum f ps + sum f qs
 unfolding sum
 sum-append f [] qs = omega arith
 sum-append f (p ∷ ps) qs = omega (arith, sum-append f ps qs)

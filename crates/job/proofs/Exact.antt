@@ -109,7 +109,8 @@ module _ (set : KmerSet) (c : ℕ) (ms : List Method) (ending : List ℕ) (g : G
           cc
 
   -- Demand 3's ceilings, of an exact answer.
-  pub under-ceiling : (bytes : List ℕ) → opened bytes ≡ accepted set → 1 ≤ c → (r : Answer) {o w : List ℕ} → Exact after r o w → Ceiling set c ms reads r
+  pub under-ceiling : (bytes : List ℕ) → opened bytes ≡ accepted set → 1 ≤ c → (r : Answer) {o w : List ℕ} → Exact after r o w
+      → Ceiling set c ms reads r
   unfolding report
   under-ceiling bytes h l (Refused r) e = tt
   under-ceiling bytes h l (Reported r) e =

@@ -11,12 +11,12 @@ use Rattle.rules.specs.Refusal.{Refusal, Outcome, accepted, refused, Che
 use Rattle.rules.specs.Set.{KmerSet, blocks, headerK, lengthRight, checkRight, headerRight, keyRight, setCheck, setOf, opened}
 
 -- no check refused: neither the first nor the later ones
-passed : (a b : Check) → a orElse b ≡ none → (a ≡ none) × (b ≡ none)
+pub passed : (a b : Check) → a orElse b ≡ none → (a ≡ none) × (b ≡ none)
 unfolding _orElse_
 passed none b h = (refl, h)
 passed (some r) b h = absurd (let z : _≡_ {A = ℕ} 0 1 = cc in omega arith)
 
-unless-passed : (t : Bool) (r : ℕ) → unless t r ≡ none → t ≡ true
+pub unless-passed : (t : Bool) (r : ℕ) → unless t r ≡ none → t ≡ true
 unfolding unless
 unless-passed true r h = refl
 unless-passed false r h = absurd (let z : _≡_ {A = ℕ} 0 1 = cc in omega arith)

@@ -12,21 +12,16 @@ use Rattle.rules.specs.GapSize.{gapSize}
 use Rattle.rules.specs.Job.{Method, One, Two, Graph, GapSize, methodOf, correctError}
 use Rattle.kmer.specs.declared.Header.{Header}
 use Rattle.set.specs.Ready.{Ready}
-use Rattle.gap_size.proofs.Laws.{keys-count}
+use Rattle.set.proofs.Opened.{set-count}
 use Rattle.turn.specs.Turn.{attemptOf}
 use Rattle.turn.proofs.Turns.{set-k}
-
--- n is the number of keys
-pub keys-are : (bytes : List ℕ) → length (setOf bytes .keys) ≡ headerN bytes
-unfolding setOf
-keys-are bytes = keys-count bytes 0 (headerN bytes)
 
 module _ (bytes starts : List ℕ) (head : Header) (ready : Ready bytes starts head) (method c : ℕ) (s : List ℕ) (y : ℕ) where
   abbrev sol : ℕ → Bool
   sol = solid (setOf bytes)
 
   n-is : length (setOf bytes .keys) ≡ head .n
-  n-is = keys-are bytes ∙ sym (ready .n-is)
+  n-is = set-count bytes ∙ sym (ready .n-is)
 
   under : (m : Method) → methodOf method ≡ m → attemptOf bytes method c s y ≡ correctError (setOf bytes) c m s y
   under m e = ap (λ (x : Method). correctError (setOf bytes) c x s y) e

@@ -5,9 +5,12 @@ use mathlib.Core.Option.{none}
 use borrow.Author.Tests.{not-true, not-false}
 use lib.ListN.{length, length-replicate}
 use Rattle.rules.specs.Calls.{inputCheck, batchRight}
+use Rattle.input.specs.declared.Input.the-variants.{Fine}
+use Rattle.blocks.specs.declared.Opened.the-variants.{Set}
 use Rattle.input.specs.Input.{checkOf}
 use Rattle.input.proofs.Checks.{not-fine}
 use Rattle.blocks.proofs.Opening.{not-set}
+use Rattle.set.specs.Ready.{tableLength}
 use Rattle.job.proofs.Checked.{checked}
 use Rattle.job.proofs.Refused.{input-refused, set-refused as not-opened}
 use Rattle.job.proofs.Opening.{set-opened, set-checked, batch-refused, batch-not-right, batch-not-opened, batch-corrected}
@@ -27,7 +30,8 @@ input-refused-requires c κs = search needs
 returns : tie.Need-returns
 returns c =
     let m = c .before .before in
-    let refused = input-refused (m .check-input .result) _ (λ e. not-fine (rw e at (c .before .match .keys2))) (c .input-refused .ensures) in
+    let not : m .check-input .result ≡ Fine → ⊥ = λ e. not-fine (rw e at (c .before .match .keys2)) in
+    let refused = input-refused (m .check-input .result) _ not (c .input-refused .ensures) in
     (batch-refused _ _ (sym (m .check-input .ensures) ∙ refused), tt)
 
 -- Checks 1 to 5 let pass.
@@ -59,7 +63,8 @@ returns-3 : tie.Need-returns-3
 returns-3 c =
     let o = c .before .before in
     let b = o .before in
-    let refused = not-opened _ (o .«open» .result) _ (λ k n e. not-set (rw e at (c .before .match2 .keys2))) (c .set-refused .ensures) (o .«open» .ensures) in
+    let not : (k n : ℕ) → o .«open» .result ≡ Set k n → ⊥ = λ k n e. not-set (rw e at (c .before .match2 .keys2)) in
+    let refused = not-opened _ (o .«open» .result) _ not (c .set-refused .ensures) (o .«open» .ensures) in
     (batch-not-opened _ (fine (b .before .before)) (right b) _ refused, tt)
 
 slice-aggregate-prepare : tie.Need-slice-aggregate-prepare
@@ -69,7 +74,7 @@ prepare-requires : tie.Need-prepare-requires
 prepare-requires c κs =
     let k = c .before .before in
     let t = set-checked _ _ _ _ (k .opened .given .1) (k .before .before .«open» .ensures) in
-    (t .0, t .1, t .2, length-replicate {A = ℕ} 65537 0)
+    (t .0, t .1, t .2, length-replicate {A = ℕ} tableLength 0)
 
 slice-aggregate-correct-lines : tie.Need-slice-aggregate-correct-lines
 slice-aggregate-correct-lines c = search needs
@@ -91,7 +96,8 @@ returns-4 c =
     let k = q .before .before .before .before .before .before .before .before in
     let b = k .before .before .before in
     let f = fine (b .before .before) in
-    batch-corrected _ f (right b) _ (set-opened _ _ _ _ (k .opened .given .1) (k .before .before .«open» .ensures)) (checked _ _ _ _ _ f .confirm) (q .correct-lines .ensures)
+    let opens = set-opened _ _ _ _ (k .opened .given .1) (k .before .before .«open» .ensures) in
+    batch-corrected _ f (right b) _ opens (checked _ _ _ _ _ f .confirm) (q .correct-lines .ensures)
 
 pub correct-batch-spec : {M : Type 1} → statement M
 correct-batch-spec =

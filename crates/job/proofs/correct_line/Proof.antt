@@ -30,14 +30,17 @@ slice-relend-prefix-through : tie.Need-slice-relend-prefix-through
 slice-relend-prefix-through c = search needs
 
 slice-aggregate-through : tie.Need-slice-aggregate-through
-slice-aggregate-through c = sym (length-take-le _ (c .before .before .before .before .before .before .before .before .before .args .work .now) (search needs))
+slice-aggregate-through c =
+    let s = c .before .before .before .before .before .before .before .before .before in
+    sym (length-take-le _ (s .args .work .now) (search needs))
 
 through-requires : tie.Need-through-requires
 through-requires c κs =
     let s = c .before .before .before .before .before .before .before .before .before in
     let p = s .pre .1 in
     let l = lent-length (s .args .output .now) (s .args .at) (c .before .before .if1 .left) in
-    ((s .pre .0, p .confirm, p .methods, p .input), (omega (arith, l, p .output), length-take-le _ (s .args .work .now) (search needs) ∙ sym l))
+    let rooms = length-take-le _ (s .args .work .now) (search needs) ∙ sym l in
+    ((s .pre .0, p .confirm, p .methods, p .input), (omega (arith, l, p .output), rooms))
 
 enum-known-passed : tie.Need-enum-known-passed
 enum-known-passed c = search needs
@@ -51,19 +54,23 @@ same-length c = search needs
 same-length-2 : tie.Need-same-length-2
 same-length-2 c = search needs
 
+abbrev start : tie.After-through → tie.Start
+start t = t .before .before .before .before .before .before .before .before .before .before
+
 returns-2 : tie.Need-returns-2
 returns-2 c =
     let t = c .before .before .before .before .before .before in
-    let s = t .before .before .before .before .before .before .before .before .before .before in
-    line-full (s .args .output .now) (s .args .at) (t .before .before .before .if1 .left) _ _ _ _ _ _ _ _ (t .through .ensures) (c .enum-told .given .1)
+    let a = start t .args in
+    line-full (a .output .now) (a .at) (t .before .before .before .if1 .left) _ _ _ _ _ _ _ _ (t .through .ensures) (c .enum-told .given .1)
 
-within : (c : tie.After-struct-known) → let s = c .before .before .before .before .before .before .before .before .before .before .before .before .before .before .before .before .before .before in
-    c .before .before .passed .given .0 .0 .written ≤ length (s .args .output .now) - 1 - s .args .at
+within : (c : tie.After-struct-known) →
+    let a = start (c .before .before .before .before .before .before .before .before) .args in
+    c .before .before .passed .given .0 .0 .written ≤ length (a .output .now) - 1 - a .at
 within c =
     let p = c .before .before in
     let t = p .before .before .before .before .before .before in
-    let s = t .before .before .before .before .before .before .before .before .before .before in
-    line-within (s .args .output .now) (s .args .at) (t .before .before .before .if1 .left) _ _ _ _ _ _ _ _ (t .through .ensures) _ (p .passed .given .1) .0
+    let a = start t .args in
+    line-within (a .output .now) (a .at) (t .before .before .before .if1 .left) _ _ _ _ _ _ _ _ (t .through .ensures) _ (p .passed .given .1) .0
 
 add-last : tie.Need-add-last
 add-last c = omega (arith, within c)
@@ -72,8 +79,8 @@ slice-write-output : tie.Need-slice-write-output
 slice-write-output c =
     let p = c .before .before in
     let t = p .before .before .before .before .before .before in
-    let s = t .before .before .before .before .before .before .before .before .before .before in
-    line-within (s .args .output .now) (s .args .at) (t .before .before .before .if1 .left) _ _ _ _ _ _ _ _ (t .through .ensures) _ (p .passed .given .1) .1
+    let a = start t .args in
+    line-within (a .output .now) (a .at) (t .before .before .before .if1 .left) _ _ _ _ _ _ _ _ (t .through .ensures) _ (p .passed .given .1) .1
 
 add-t15 : tie.Need-add-t15
 add-t15 c = omega (arith, within (c .before))

@@ -9,7 +9,9 @@ slice-relend-prefix-through : tie.Need-slice-relend-prefix-through
 slice-relend-prefix-through c = search needs
 
 slice-aggregate-through : tie.Need-slice-aggregate-through
-slice-aggregate-through c = sym (length-take-le _ (c .before .before .before .before .before .before .before .before .args .work .now) (search needs))
+slice-aggregate-through c =
+    let s = c .before .before .before .before .before .before .before .before in
+    sym (length-take-le _ (s .args .work .now) (search needs))
 
 through-requires : tie.Need-through-requires
 through-requires c κs =
@@ -43,7 +45,8 @@ accept-requires c κs =
     let e = c .before .before .before in
     let t = e .before .before .before .before .before .before in
     let s = t .before .before .before .before .before .before .before .before .before in
-    single-small _ _ _ _ _ _ (s .args .work .now) _ _ (t .through .ensures) _ (e .passed .given .1) (s .pre .0 .opens) (s .fits .confirm .fits) (s .pre .1)
+    single-small _ _ _ _ _ _ (s .args .work .now) _ _ (t .through .ensures) _ (e .passed .given .1)
+    (s .pre .0 .opens) (s .fits .confirm .fits) (s .pre .1)
 
 same-length-3 : tie.Need-same-length-3
 same-length-3 c = search needs
