@@ -14,7 +14,7 @@ ghost use Rattle.rules.specs.Set.{setOf};
 ghost use Rattle.rules.specs.Job.{methodsOf, lines};
 ghost use Rattle.rules.specs.Calls.{batchRight, corrected, correctRead, correctBatch};
 ghost use Rattle.set.specs.Ready.{Ready};
-ghost use Rattle.job.specs.Answer.{Exact, Ceiling, given, InputRefused, SetRefused};
+ghost use Rattle.job.specs.Answer.{Exact, Ceiling, given, InputRefused, SetRefused, refusalOf};
 ghost use Rattle.job.specs.Reads.{Checked, Cleared, reportOn, LineIs, Countable, added};
 
 // The entries of the table that set::prepare fills.
@@ -48,6 +48,44 @@ pub enum Refusal {
 pub enum Answer {
     Report(Report),
     Refused(Refusal),
+}
+
+// Document 01's number of a refusal.
+pub fn number_of(refusal: Refusal) -> u64
+    ensures { λ r. ⌜ r ≡ refusalOf refusal .number ⌝ }
+{
+    match refusal {
+        Refusal::Long => 1,
+        Refusal::Methods => 2,
+        Refusal::Method(_) => 3,
+        Refusal::Confirm => 4,
+        Refusal::Buffers => 5,
+        Refusal::Batch => 6,
+        Refusal::Length => 7,
+        Refusal::Check(_) => 8,
+        Refusal::Header => 9,
+        Refusal::Key(_) => 10,
+        Refusal::NoRoom(_) => 11,
+    }
+}
+
+// Document 01's place of a refusal.
+pub fn place_of(refusal: Refusal) -> u64
+    ensures { λ r. ⌜ r ≡ refusalOf refusal .place ⌝ }
+{
+    match refusal {
+        Refusal::Long => 0,
+        Refusal::Methods => 0,
+        Refusal::Method(i) => i as u64,
+        Refusal::Confirm => 0,
+        Refusal::Buffers => 0,
+        Refusal::Batch => 0,
+        Refusal::Length => 0,
+        Refusal::Check(block) => block as u64,
+        Refusal::Header => 0,
+        Refusal::Key(word) => word as u64,
+        Refusal::NoRoom(line) => line as u64,
+    }
 }
 
 // Refusals 1 to 5. What is fine is not asked.

@@ -1,0 +1,7 @@
+//! The benchmark: both sides in one process, on the same inputs.
+
+pub mod chart;
+pub mod inputs;
+pub mod measure;
+pub mod memory;
+pub mod page;

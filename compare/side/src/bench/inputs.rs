@@ -1,0 +1,86 @@
+//! Genomes, their sets and reads.
+use crate::oracle::Keys;
+use crate::rng::Rng;
+use crate::set_file;
+use cocktail::kmer::nuc2bit;
+
+pub const READ: usize = 10_000;
+
+/// A random genome of about n k-mers and its set, as each side has it.
+pub struct World {
+    pub k: u8,
+    pub keys: usize,
+    pub genome: Vec<u8>,
+    pub set: Vec<u8>,
+    pub rust: Keys,
+    circle: bool,
+}
+
+impl World {
+    /// A genome that is shorter than two reads is a circle, so that reads of full length can be had from it.
+    pub fn new(rng: &mut Rng, k: u8, n: usize) -> Self {
+        let circle = n < 2 * READ;
+        let length = if circle { n } else { n + k as usize - 1 };
+        let genome: Vec<u8> = (0..length).map(|_| rng.letter()).collect();
+        let closing = if circle { &genome[..k as usize - 1] } else { &[] };
+        let mask = (1 << (2 * k)) - 1;
+        let mut kmer = 0;
+        let kmers = genome.iter().chain(closing).map(|byte| {
+            kmer = (kmer << 2) & mask | nuc2bit(*byte);
+            kmer
+        });
+        let keys = set_file::keys_of(k, kmers.skip(k as usize - 1));
+        World { k, keys: keys.len(), set: set_file::make(k as u64, &keys), rust: Keys::new(k, &keys), genome, circle }
+    }
+
+    /// The genome from a place, round and round if it is a circle.
+    fn from(&self, start: usize) -> impl Iterator<Item = u8> + '_ {
+        let rounds = if self.circle { usize::MAX } else { 1 };
+        let rest = self.genome[start..].iter();
+        rest.chain(std::iter::repeat_n(&self.genome, rounds - 1).flatten()).copied()
+    }
+
+    /// A read with that many errors in a hundred bases, a third each insertions, substitutions and deletions.
+    pub fn read(&self, rng: &mut Rng, errors: usize) -> Vec<u8> {
+        let latest = if self.circle { self.genome.len() } else { self.genome.len() - 3 * READ / 2 };
+        let mut bases = self.from(rng.below(latest));
+        let mut read = Vec::with_capacity(READ);
+        while read.len() < READ {
+            let error = if rng.percent(errors) { rng.below(3) } else { 3 };
+            if error == 0 {
+                read.push(rng.letter());
+                continue;
+            }
+            let base = bases.next().expect("a genome longer than its reads");
+            match error {
+                1 => read.push(other_than(rng, base)),
+                2 => {}
+                _ => read.push(base),
+            }
+        }
+        read
+    }
+
+    /// A read whose one attempt under GapSize makes that many moves: so many letters and one of no use in the middle of the genome.
+    pub fn gap_read(&self, rng: &mut Rng, moves: usize) -> Vec<u8> {
+        let before = 2 * self.k as usize;
+        let start = rng.below(self.genome.len() - 2 * moves - 4 * before);
+        let mut read = self.genome[start..start + before].to_vec();
+        for base in &self.genome[start + before..start + before + moves + 1] {
+            read.push(other_than(rng, *base));
+        }
+        read.extend_from_slice(&self.genome[start + before + moves + 1..][..before]);
+        read
+    }
+
+    /// The k-mers of reads in turn.
+    pub fn kmers(&self, reads: &[Vec<u8>]) -> Vec<u64> {
+        let kmer = |window: &[u8]| window.iter().fold(0, |kmer, byte| kmer << 2 | nuc2bit(*byte));
+        reads.iter().flat_map(|read| read.windows(self.k as usize).map(kmer)).collect()
+    }
+}
+
+fn other_than(rng: &mut Rng, base: u8) -> u8 {
+    let others: Vec<u8> = b"ACGT".iter().filter(|letter| **letter != base).copied().collect();
+    *rng.pick(&others)
+}

@@ -1,0 +1,211 @@
+//! One case on all sides.
+use crate::library::Library;
+use crate::oracle::{self, Keys};
+use crate::referee::calls::{self, Job};
+use crate::referee::correctors::{Method, ALL_BY, ALL_EVENTS, BY, METHODS};
+use crate::referee::driver::Pass;
+use crate::referee::set::{open, Refusal, Set};
+use std::fmt::Debug;
+
+/// What every lent byte holds before a call.
+pub const LENT: u8 = 0xaa;
+
+/// A set file, as each side reads it.
+pub struct Site {
+    pub bytes: Vec<u8>,
+    pub opened: Result<Set, Refusal>,
+    keys: Option<Keys>,
+}
+
+impl Site {
+    pub fn new(bytes: Vec<u8>) -> Self {
+        let opened = open(&bytes);
+        let keys = opened.as_ref().ok().map(|set| Keys::new(set.k as u8, &set.keys));
+        Site { bytes, opened, keys }
+    }
+}
+
+/// What agreed.
+#[derive(Clone)]
+pub struct Tally {
+    pub passes: u64,
+    pub calls: u64,
+    pub refusals: [u64; 12],
+    pub attempts: u64,
+    pub accepted: u64,
+    pub lookups: u64,
+    /// Corrections by method and scenario, by k, and by confirm.
+    pub by: [[u64; BY]; 4],
+    pub by_k: [u64; 32],
+    pub by_confirm: [u64; 256],
+    pub events: [u64; ALL_EVENTS.len()],
+}
+
+impl Default for Tally {
+    fn default() -> Self {
+        Tally {
+            passes: 0,
+            calls: 0,
+            refusals: [0; 12],
+            attempts: 0,
+            accepted: 0,
+            lookups: 0,
+            by: [[0; BY]; 4],
+            by_k: [0; 32],
+            by_confirm: [0; 256],
+            events: [0; ALL_EVENTS.len()],
+        }
+    }
+}
+
+fn add_each<'a>(mine: &mut [u64], others: impl IntoIterator<Item = &'a u64>) {
+    for (mine, others) in mine.iter_mut().zip(others) {
+        *mine += others;
+    }
+}
+
+impl Tally {
+    pub fn add(&mut self, other: &Tally) {
+        self.passes += other.passes;
+        self.calls += other.calls;
+        self.attempts += other.attempts;
+        self.accepted += other.accepted;
+        self.lookups += other.lookups;
+        add_each(&mut self.refusals, &other.refusals);
+        add_each(self.by.as_flattened_mut(), other.by.as_flattened());
+        add_each(&mut self.by_k, &other.by_k);
+        add_each(&mut self.by_confirm, &other.by_confirm);
+        add_each(&mut self.events, &other.events);
+    }
+
+    /// What a run met, a line for each kind.
+    pub fn print(&self) {
+        println!(
+            "{} passes in {} calls: {} attempts, {} corrections, {} lookups",
+            self.passes, self.calls, self.attempts, self.accepted, self.lookups
+        );
+        for (method, by) in METHODS.iter().zip(self.by) {
+            println!("corrections by {method:?}: {}", counts(ALL_BY.iter().map(|by| format!("{by:?}")), &by));
+        }
+        println!("corrections by k: {}", counts((0..).map(|k: u32| k.to_string()), &self.by_k));
+        println!("corrections at {} of 255 confirms", self.by_confirm.iter().filter(|count| **count > 0).count());
+        println!("met: {}", counts(ALL_EVENTS.iter().map(|event| format!("{event:?}")), &self.events));
+        println!("refusals: {}", counts((0..).map(|number: u32| number.to_string()), &self.refusals));
+    }
+
+    fn add_pass(&mut self, k: usize, confirm: u8, method: Method, pass: &Pass) {
+        self.passes += 1;
+        self.attempts += pass.attempts;
+        self.accepted += pass.accepted;
+        self.lookups += pass.lookups;
+        self.by_k[k] += pass.accepted;
+        if method != Method::Graph {
+            self.by_confirm[confirm as usize] += pass.accepted;
+        }
+        add_each(&mut self.by[method as usize], &pass.by.map(u64::from));
+        add_each(&mut self.events, &pass.events.map(u64::from));
+    }
+}
+
+fn counts(names: impl Iterator<Item = String>, counts: &[u64]) -> String {
+    names.zip(counts).filter(|(_, count)| **count > 0).map(|(name, count)| format!("{name} {count}")).collect::<Vec<_>>().join(", ")
+}
+
+/// What two sides say differently.
+#[derive(Debug)]
+pub struct Disagreement {
+    pub of: String,
+    pub expected: String,
+    pub found: String,
+}
+
+fn same<T: PartialEq + Debug>(of: &str, expected: T, found: T) -> Result<(), Disagreement> {
+    if expected == found {
+        return Ok(());
+    }
+    Err(Disagreement { of: of.to_string(), expected: format!("{expected:?}"), found: format!("{found:?}") })
+}
+
+fn same_bytes(of: &str, expected: &[u8], found: &[u8]) -> Result<(), Disagreement> {
+    if expected == found {
+        return Ok(());
+    }
+    Err(Disagreement { of: of.to_string(), expected: show(expected), found: show(found) })
+}
+
+fn same_everywhere(of: &str, expected: u8, found: &[u8]) -> Result<(), Disagreement> {
+    match found.iter().position(|byte| *byte != expected) {
+        None => Ok(()),
+        Some(place) => Err(Disagreement { of: format!("{of}, byte {place}"), expected: expected.to_string(), found: found[place].to_string() }),
+    }
+}
+
+/// Bytes as they are printed: letters, and others as \xNN.
+pub fn show(bytes: &[u8]) -> String {
+    bytes.escape_ascii().to_string()
+}
+
+/// The buffers that calls are lent, kept from case to case.
+#[derive(Default)]
+pub struct Buffers {
+    output: Vec<u8>,
+    work: Vec<u8>,
+}
+
+/// Opening a set: the library against the referee.
+pub fn check_open(library: &dyn Library, site: &Site, tally: &mut Tally) -> Result<(), Disagreement> {
+    let expected = site.opened.as_ref().map(|set| (set.k as u64, set.keys.len() as u64)).map_err(|refusal| *refusal);
+    same("opening the set", expected, library.open(&site.bytes))?;
+    tally.calls += 1;
+    if let Err(refusal) = expected {
+        tally.refusals[refusal.number as usize] += 1;
+    }
+    Ok(())
+}
+
+/// A call on all sides: every byte and count of every pass, the answer, and every lent byte afterwards.
+pub fn check_call(library: &dyn Library, site: &Site, job: &Job, buffers: &mut Buffers, tally: &mut Tally) -> Result<(), Disagreement> {
+    let outcome = calls::call(&site.opened, job);
+    if let Some(keys) = &site.keys {
+        for (read, passes) in calls::reads(job).into_iter().zip(&outcome.passes) {
+            check_passes(keys, job, read, passes, tally)?;
+        }
+    }
+    buffers.output.clear();
+    buffers.output.resize(job.output, LENT);
+    buffers.work.clear();
+    buffers.work.resize(job.work, LENT);
+    let answer = library.correct(&site.bytes, job, &mut buffers.output, &mut buffers.work);
+    same("the answer", outcome.answer, answer)?;
+    let rest = match answer {
+        Err(refusal) if refusal.number != 11 => LENT,
+        _ => 0,
+    };
+    let (written, spare) = buffers.output.split_at(outcome.bytes.len());
+    same_bytes("the output", &outcome.bytes, written)?;
+    same_everywhere("the rest of the output", rest, spare)?;
+    same_everywhere("the work buffer", rest, &buffers.work)?;
+    tally.calls += 1;
+    if let Err(refusal) = answer {
+        tally.refusals[refusal.number as usize] += 1;
+    }
+    Ok(())
+}
+
+/// A read through the job's methods: natir/br, fed its own results, against the referee.
+fn check_passes(keys: &Keys, job: &Job, read: &[u8], passes: &[Pass], tally: &mut Tally) -> Result<(), Disagreement> {
+    let mut fed = read.to_vec();
+    for (byte, expected) in job.methods.iter().zip(passes) {
+        let Some(method) = Method::of(*byte) else { break };
+        let found = oracle::pass(keys, method, job.confirm, &fed);
+        same_bytes("a pass of natir/br (expected: the referee)", &expected.bytes, &found.bytes)?;
+        same(
+            "natir/br's turns, attempts, corrections, lookups (expected: the referee, with what the Rust asks again)",
+            (expected.turns, expected.attempts, expected.accepted, expected.lookups as i64 + expected.again),
+            (found.turns, found.attempts, found.accepted, found.lookups as i64),
+        )?;
+        tally.add_pass(keys.k(), job.confirm, method, expected);
+        fed = found.bytes;
+    }
+    Ok(())
+}

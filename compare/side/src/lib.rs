@@ -1,0 +1,25 @@
+//! natir/br and the corrector side by side.
+//!
+//! Three sides see the same sets and reads:
+//! - `oracle`: natir/br's unchanged source, over a set of the same keys that counts what it is asked;
+//! - `referee`: document 01 written down once more in plain Rust, from the document alone, with its counts;
+//! - `library`: the corrector itself, linked through `boundary`, or the referee in its place.
+//!
+//! Bytes are compared on all three; turns, attempts and corrections too; lookups of the corrector with the referee's, and the Rust's
+//! with the referee's plus what the referee says the Rust asks again.
+
+#![deny(unsafe_code)]
+
+pub mod bench;
+#[cfg(feature = "linked")]
+pub mod boundary;
+pub mod cases;
+pub mod check;
+pub mod library;
+pub mod list;
+pub mod oracle;
+pub mod referee;
+pub mod rng;
+pub mod samples;
+pub mod set_file;
+pub mod shrink;

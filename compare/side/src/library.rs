@@ -1,0 +1,60 @@
+//! The corrector as the comparison sees it: the linked library, or the referee in its place.
+use crate::referee::calls::{call, Answer, Call, Job};
+use crate::referee::set::{open, Refusal};
+
+pub trait Library: Sync {
+    fn name(&self) -> &'static str;
+
+    /// k and n, or refusal 7 to 10.
+    fn open(&self, set: &[u8]) -> Result<(u64, u64), Refusal>;
+
+    /// The call that the job names, over lent buffers of the lengths that it gives.
+    fn correct(&self, set: &[u8], job: &Job, output: &mut [u8], work: &mut [u8]) -> Answer;
+
+    /// How many of these k-mers are solid, asked one after the other: the floor of the benchmark, where there is an entry for it.
+    fn count_solid(&self, _set: &[u8], _kmers: &[u64]) -> Option<u64> {
+        None
+    }
+}
+
+/// The referee in the library's place.
+pub struct StandIn;
+
+impl Library for StandIn {
+    fn name(&self) -> &'static str {
+        "the referee, in the corrector's place"
+    }
+
+    fn open(&self, set: &[u8]) -> Result<(u64, u64), Refusal> {
+        open(set).map(|set| (set.k as u64, set.keys.len() as u64))
+    }
+
+    fn correct(&self, set: &[u8], job: &Job, output: &mut [u8], work: &mut [u8]) -> Answer {
+        let outcome = call(&open(set), job);
+        match outcome.answer {
+            Err(refusal) if refusal.number != 11 => {}
+            _ => {
+                output.fill(0);
+                output[..outcome.bytes.len()].copy_from_slice(&outcome.bytes);
+                work.fill(0);
+            }
+        }
+        outcome.answer
+    }
+}
+
+/// The library that this build was made with.
+pub fn library() -> &'static dyn Library {
+    #[cfg(feature = "linked")]
+    return &crate::boundary::Linked;
+    #[cfg(not(feature = "linked"))]
+    return &StandIn;
+}
+
+/// A name for a call in what is printed.
+pub fn call_name(call: Call) -> &'static str {
+    match call {
+        Call::Read => "read",
+        Call::Batch => "batch",
+    }
+}

@@ -1,0 +1,362 @@
+//! The fixed list of cases, for a replay with no Rust at hand. Its format is in compare/README.md.
+use crate::cases::{batch_of, damage, job, reads, sets};
+use crate::check::{check_call, Buffers, Site, Tally, LENT};
+use crate::library::{Library, StandIn};
+use crate::referee::calls::{call, Answer, Call, Job, Report};
+use crate::referee::correctors::METHODS;
+use crate::referee::set::Refusal;
+use crate::rng::Rng;
+
+/// The seed of the list that is kept.
+pub const SEED: u64 = 1;
+
+const END: u32 = 0;
+const SET: u32 = 1;
+const OPEN: u32 = 2;
+const READ: u32 = 3;
+const BATCH: u32 = 4;
+
+/// Words of a record, and of the list's head.
+const RECORD: usize = 16;
+const HEAD: usize = 8;
+
+/// What a replay has room for.
+const MOST_SET: usize = 8192;
+const MOST_INPUT: usize = 2048;
+const MOST_OUTPUT: usize = 4096;
+const MOST_WORK: usize = 8192;
+
+/// Each of these is seen so often, and then only by chance.
+const QUOTA: u32 = 24;
+
+#[derive(Default)]
+struct List {
+    bytes: Vec<u8>,
+    set: Vec<u8>,
+    cases: u32,
+    tally: Tally,
+    confirms: Vec<u8>,
+    buffers: Buffers,
+}
+
+fn push(bytes: &mut Vec<u8>, words: &[u32]) {
+    for word in words {
+        bytes.extend_from_slice(&word.to_le_bytes());
+    }
+}
+
+fn small(number: u64) -> u32 {
+    u32::try_from(number).expect("a small number")
+}
+
+impl List {
+    fn record(&mut self, words: [u32; RECORD]) {
+        push(&mut self.bytes, &words);
+    }
+
+    /// The set of the cases that follow.
+    fn use_set(&mut self, site: &Site) {
+        if self.set == site.bytes {
+            return;
+        }
+        let mut words = [0; RECORD];
+        (words[0], words[1]) = (SET, site.bytes.len() as u32);
+        self.record(words);
+        self.bytes.extend_from_slice(&site.bytes);
+        self.set = site.bytes.clone();
+    }
+
+    fn open(&mut self, site: &Site) {
+        self.use_set(site);
+        let mut words = [0; RECORD];
+        words[0] = OPEN;
+        match &site.opened {
+            Ok(set) => (words[10], words[11]) = (set.k as u32, set.keys.len() as u32),
+            Err(refusal) => (words[8], words[9]) = (small(refusal.number), small(refusal.place)),
+        }
+        self.record(words);
+        self.cases += 1;
+    }
+
+    /// A call, after natir/br and the referee have agreed on it.
+    fn call(&mut self, site: &Site, job: &Job) {
+        assert!(site.bytes.len() <= MOST_SET && job.input.len() <= MOST_INPUT && job.output <= MOST_OUTPUT && job.work <= MOST_WORK);
+        check_call(&StandIn, site, job, &mut self.buffers, &mut self.tally).expect("all sides agree");
+        self.use_set(site);
+        let outcome = call(&site.opened, job);
+        let kind = if job.call == Call::Read { READ } else { BATCH };
+        let lengths = [job.methods.len(), job.input.len(), job.output, job.work, outcome.bytes.len()].map(|length| length as u32);
+        let [methods, input, output, work, result] = lengths;
+        let answer = match outcome.answer {
+            Ok(report) => [0, 0, report.written, report.turns, report.lookups, report.attempts, report.accepted, report.yields],
+            Err(refusal) => [refusal.number, refusal.place, 0, 0, 0, 0, 0, 0],
+        };
+        let [number, place, written, turns, lookups, attempts, accepted, yields] = answer.map(small);
+        self.record([
+            kind,
+            job.confirm as u32,
+            methods,
+            input,
+            output,
+            work,
+            result,
+            0,
+            number,
+            place,
+            written,
+            turns,
+            lookups,
+            attempts,
+            accepted,
+            yields,
+        ]);
+        for part in [&job.methods, &job.input, &outcome.bytes] {
+            self.bytes.extend_from_slice(part);
+        }
+        self.cases += 1;
+    }
+
+    /// A call that shows a scenario or a confirm not seen often, or any by chance.
+    fn call_if_wanted(&mut self, rng: &mut Rng, site: &Site, job: &Job, chance: usize) {
+        let outcome = call(&site.opened, job);
+        let new_confirm = outcome.answer.is_ok_and(|report| report.accepted > 0) && !self.confirms.contains(&job.confirm);
+        let rare = outcome.passes.iter().flatten().zip(job.methods.iter().cycle()).any(|(pass, method)| {
+            let seen = self.tally.by[*method as usize - 1];
+            pass.by.iter().zip(seen).any(|(now, seen)| *now > 0 && seen < QUOTA as u64)
+        });
+        if new_confirm || rare || rng.percent(chance) {
+            self.call(site, job);
+            if new_confirm {
+                self.confirms.push(job.confirm);
+            }
+        }
+    }
+
+    fn finish(mut self) -> Vec<u8> {
+        self.record([END; RECORD]);
+        let mut list = Vec::with_capacity(self.bytes.len() + 4 * HEAD);
+        let most = [MOST_SET, MOST_INPUT, MOST_OUTPUT, MOST_WORK].map(|length| length as u32);
+        push(&mut list, &[1, self.cases, most[0], most[1], most[2], most[3], LENT as u32, 0]);
+        list.extend_from_slice(&self.bytes);
+        list
+    }
+}
+
+/// Document 01's sample reads, at their set.
+fn samples(list: &mut List) {
+    let site = Site::new(crate::samples::set());
+    list.open(&site);
+    for method in METHODS {
+        for confirm in [1, 2] {
+            for read in ["AACGC", "AACC", "AACGTC", "AACG", "AACGCCG", "AACCG", "AAC", "AA", ""] {
+                list.call(&site, &job(Call::Read, confirm, &[method.byte()], read.as_bytes()));
+            }
+        }
+    }
+    list.call(&site, &job(Call::Batch, 1, &[3], b"AACGCCG\nAA\n"));
+    list.call(&site, &job(Call::Batch, 1, &[], b""));
+    // 11 compares pass results: One's fits into 5 bytes, the read that Graph leaves does not.
+    for methods in [&[1][..], &[3, 1], &[]] {
+        list.call(&site, &Job { output: 5, work: 12, ..job(Call::Read, 1, methods, b"AACGTC") });
+    }
+    list.call(&site, &Job { output: 0, work: 2, ..job(Call::Batch, 1, &[], b"\n") });
+}
+
+/// For every k: sets of genomes, of cycles, dense ones; reads with errors, of arbitrary bytes, at every limit.
+fn correct(list: &mut List, rng: &mut Rng) {
+    for round in 0..6 {
+        for k in (1..=31).step_by(2) {
+            let (site, genome) = match round {
+                0..=2 => small_genome(rng, k),
+                3 | 4 => sets::periodic(rng, k),
+                _ => (sets::dense(rng, k.min(5)), reads::letters(rng, 60)),
+            };
+            if site.bytes.len() > MOST_SET {
+                continue;
+            }
+            list.open(&site);
+            for _ in 0..40 {
+                let read = match (round, rng.below(6)) {
+                    (5, _) => reads::in_set(rng, &site),
+                    (_, 0) => reads::bytes(rng, &genome),
+                    (_, 1) => {
+                        let length = (k as usize + rng.below(8)).saturating_sub(2);
+                        reads::noisy_of_length(rng, &genome, length)
+                    }
+                    (_, 2) => reads::noisy(rng, &genome, 90),
+                    _ => reads::spaced(rng, &genome, k as usize + 6),
+                };
+                let (method, confirm) = (rng.pick(&METHODS).byte(), rng.within(1, 6) as u8);
+                list.call_if_wanted(rng, &site, &job(Call::Read, confirm, &[method], &read), 50);
+            }
+            for _ in 0..4 {
+                let methods: Vec<u8> = (0..rng.below(9)).map(|_| rng.pick(&METHODS).byte()).collect();
+                let lines: Vec<_> = (0..rng.below(5)).map(|_| reads::noisy(rng, &genome, 60)).collect();
+                let mut batch = job(Call::Batch, rng.within(1, 6) as u8, &methods, &batch_of(&lines));
+                if rng.percent(40) {
+                    batch.output = rng.within(batch.input.len().saturating_sub(6), batch.input.len() + 4);
+                }
+                list.call(&site, &batch);
+            }
+        }
+    }
+}
+
+fn small_genome(rng: &mut Rng, k: u8) -> (Site, Vec<u8>) {
+    let length = k as usize + rng.within(20, 120);
+    let genome = reads::letters(rng, length);
+    (sets::of_genomes(k, [genome.as_slice()]), genome)
+}
+
+/// Reads that are corrected at every confirm from 1 to 255.
+fn confirms(list: &mut List, rng: &mut Rng) {
+    for (part, k) in [9, 15, 21, 31].into_iter().enumerate() {
+        let genome = reads::letters(rng, 560);
+        let site = sets::of_genomes(k, [genome.as_slice()]);
+        for confirm in (1..=255).filter(|confirm| confirm % 4 == part) {
+            for method in [1, 2, 4] {
+                let start = rng.below(200);
+                let mut read = genome[start..start + k as usize + 3 + confirm + 8].to_vec();
+                let place = k as usize + 1 + rng.below(2);
+                let others: Vec<u8> = b"ACGT".iter().filter(|letter| **letter != read[place]).copied().collect();
+                read[place] = *rng.pick(&others);
+                list.call_if_wanted(rng, &site, &job(Call::Read, confirm as u8, &[method], &read), if confirm % 16 == 0 { 100 } else { 0 });
+            }
+        }
+    }
+}
+
+/// Scenarios that are rare, sought in small sets until each is met often enough.
+fn rare(list: &mut List, rng: &mut Rng) {
+    for _ in 0..40_000 {
+        let k = *rng.pick(&[3, 5, 7, 9, 11]);
+        let (site, genome) = match rng.below(3) {
+            0 if k < 7 => (sets::dense(rng, k), Vec::new()),
+            1 => sets::periodic(rng, k),
+            _ => small_genome(rng, k),
+        };
+        if site.bytes.len() > 1536 {
+            continue;
+        }
+        let read = if genome.is_empty() { reads::in_set(rng, &site) } else { reads::spaced(rng, &genome, k as usize + 5) };
+        let (method, confirm) = (rng.pick(&[2, 2, 4]), rng.within(1, 5) as u8);
+        list.call_if_wanted(rng, &site, &job(Call::Read, confirm, &[*method], &read), 0);
+    }
+}
+
+/// Damaged sets, opened and offered to a call; and inputs that are refused.
+fn refused(list: &mut List, rng: &mut Rng) {
+    for _ in 0..400 {
+        let site = Site::new(damage::set(rng));
+        if site.bytes.len() > 2048 {
+            continue;
+        }
+        list.open(&site);
+        if rng.percent(40) {
+            let read = reads::letters(rng, 20);
+            list.call(&site, &job(Call::Read, 1, &[rng.pick(&METHODS).byte()], &read));
+        }
+    }
+    let (site, genome) = small_genome(rng, 11);
+    for _ in 0..300 {
+        damage::input(rng, &genome, false, &mut |job| {
+            if job.input.len() <= MOST_INPUT && job.output <= MOST_OUTPUT && job.work <= MOST_WORK {
+                list.call(&site, job);
+            }
+        });
+    }
+}
+
+pub fn write(file: &str, seed: u64) -> Result<(), String> {
+    let mut list = List::default();
+    let rng = &mut Rng::of_unit(seed, u64::MAX);
+    samples(&mut list);
+    correct(&mut list, rng);
+    confirms(&mut list, rng);
+    rare(&mut list, rng);
+    refused(&mut list, rng);
+    list.tally.print();
+    println!("{} cases, seed {seed}", list.cases);
+    let bytes = list.finish();
+    println!("{} bytes", bytes.len());
+    std::fs::write(file, bytes).map_err(|error| format!("{file}: {error}"))
+}
+
+// ---- replay
+
+struct Reader<'a>(&'a [u8]);
+
+impl<'a> Reader<'a> {
+    fn take(&mut self, length: usize) -> Result<&'a [u8], String> {
+        let (taken, rest) = self.0.split_at_checked(length).ok_or("the list ends early")?;
+        self.0 = rest;
+        Ok(taken)
+    }
+
+    fn words<const N: usize>(&mut self) -> Result<[u32; N], String> {
+        let bytes = self.take(4 * N)?;
+        Ok(std::array::from_fn(|at| u32::from_le_bytes(bytes[4 * at..4 * at + 4].try_into().expect("4 bytes"))))
+    }
+}
+
+/// Replays a list: true if every case is as written.
+pub fn replay(file: &str, library: &dyn Library) -> Result<bool, String> {
+    let bytes = std::fs::read(file).map_err(|error| format!("{file}: {error}"))?;
+    let mut reader = Reader(&bytes);
+    let head: [u32; HEAD] = reader.words()?;
+    let mut set: &[u8] = &[];
+    let (mut passed, mut failed) = (0, 0);
+    loop {
+        let record: [u32; RECORD] = reader.words()?;
+        let right = match record[0] {
+            END => break,
+            SET => {
+                set = reader.take(record[1] as usize)?;
+                continue;
+            }
+            OPEN => library.open(set) == expected_open(&record),
+            READ | BATCH => replay_call(&mut reader, &record, set, head[6] as u8, library)?,
+            kind => return Err(format!("no record of kind {kind}")),
+        };
+        passed += right as u32;
+        failed += !right as u32;
+    }
+    if passed + failed != head[1] {
+        return Err(format!("{} cases, not {}", passed + failed, head[1]));
+    }
+    println!("{passed} passed, {failed} failed");
+    Ok(failed == 0)
+}
+
+fn expected_open(record: &[u32; RECORD]) -> Result<(u64, u64), Refusal> {
+    match record[8] {
+        0 => Ok((record[10] as u64, record[11] as u64)),
+        number => Err(Refusal { number: number as u64, place: record[9] as u64 }),
+    }
+}
+
+fn replay_call(reader: &mut Reader, record: &[u32; RECORD], set: &[u8], lent: u8, library: &dyn Library) -> Result<bool, String> {
+    let [methods, input, output, work, result] = [2, 3, 4, 5, 6].map(|at| record[at] as usize);
+    let job = Job {
+        call: if record[0] == READ { Call::Read } else { Call::Batch },
+        confirm: record[1] as u8,
+        methods: reader.take(methods)?.to_vec(),
+        input: reader.take(input)?.to_vec(),
+        output,
+        work,
+    };
+    let bytes = reader.take(result)?;
+    let (mut output, mut work) = (vec![lent; output], vec![lent; work]);
+    let answer = library.correct(set, &job, &mut output, &mut work);
+    let rest = if matches!(record[8], 1..=10) { lent } else { 0 };
+    let (written, spare) = output.split_at(result);
+    Ok(answer == expected_answer(record) && written == bytes && spare.iter().chain(&work).all(|byte| *byte == rest))
+}
+
+fn expected_answer(record: &[u32; RECORD]) -> Answer {
+    let word = |at: usize| record[at] as u64;
+    match word(8) {
+        0 => Ok(Report { written: word(10), turns: word(11), lookups: word(12), attempts: word(13), accepted: word(14), yields: word(15) }),
+        number => Err(Refusal { number, place: word(9) }),
+    }
+}

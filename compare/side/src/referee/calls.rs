@@ -1,0 +1,141 @@
+//! "Job", "Report" and the refusals: the single-read and the batch call.
+use super::correctors::Method;
+use super::driver::{pass, Pass};
+use super::set::{Refusal, Set};
+
+const MOST_INPUT: usize = 1_048_576;
+const MOST_METHODS: usize = 8;
+const MOST_OUTPUT: usize = 1_048_576;
+const MOST_WORK: usize = 2_097_152;
+const MOST_LINES: usize = 1_024;
+
+#[derive(Clone, Copy, Debug, PartialEq, Eq)]
+pub enum Call {
+    Read,
+    Batch,
+}
+
+/// What a call is given beside the set: the lent buffers by their lengths.
+#[derive(Clone, Debug)]
+pub struct Job {
+    pub call: Call,
+    pub confirm: u8,
+    pub methods: Vec<u8>,
+    pub input: Vec<u8>,
+    pub output: usize,
+    pub work: usize,
+}
+
+#[derive(Clone, Copy, Debug, PartialEq, Eq)]
+pub struct Report {
+    pub written: u64,
+    pub turns: u64,
+    pub lookups: u64,
+    pub attempts: u64,
+    pub accepted: u64,
+    pub yields: u64,
+}
+
+pub type Answer = Result<Report, Refusal>;
+
+/// What a call answers and writes, and the passes that it made: for each read one for each method.
+pub struct Outcome {
+    pub answer: Answer,
+    pub bytes: Vec<u8>,
+    pub passes: Vec<Vec<Pass>>,
+}
+
+impl Outcome {
+    fn refused(refusal: Refusal) -> Self {
+        Outcome { answer: Err(refusal), bytes: Vec::new(), passes: Vec::new() }
+    }
+}
+
+/// The reads of a call: a single read is a list of one read, a batch is lines each ended by byte 10.
+pub fn reads(job: &Job) -> Vec<&[u8]> {
+    match job.call {
+        Call::Read => vec![&job.input],
+        Call::Batch => job.input.split_inclusive(|byte| *byte == 10).map(|line| &line[..line.len() - 1]).collect(),
+    }
+}
+
+pub fn call(opened: &Result<Set, Refusal>, job: &Job) -> Outcome {
+    if let Some(refusal) = input_refusal(job) {
+        return Outcome::refused(refusal);
+    }
+    match opened {
+        Err(refusal) => Outcome::refused(*refusal),
+        Ok(set) => correct(set, job),
+    }
+}
+
+/// Refusals 1 to 6, checked upward.
+fn input_refusal(job: &Job) -> Option<Refusal> {
+    let refuse = |number, place| Some(Refusal::new(number, place));
+    if job.input.len() > MOST_INPUT {
+        return refuse(1, 0);
+    }
+    if job.methods.len() > MOST_METHODS {
+        return refuse(2, 0);
+    }
+    if let Some(place) = job.methods.iter().position(|byte| Method::of(*byte).is_none()) {
+        return refuse(3, place);
+    }
+    if job.confirm == 0 {
+        return refuse(4, 0);
+    }
+    if job.output > MOST_OUTPUT || job.work > MOST_WORK || job.work < 2 * job.output.max(job.input.len()) {
+        return refuse(5, 0);
+    }
+    let ended = job.input.last().is_none_or(|byte| *byte == 10);
+    let lines = job.input.iter().filter(|byte| **byte == 10).count();
+    if job.call == Call::Batch && (!ended || lines > MOST_LINES) {
+        return refuse(6, 0);
+    }
+    None
+}
+
+/// The reads in turn, each through all methods; 11 at the first of which a pass result has no room.
+fn correct(set: &Set, job: &Job) -> Outcome {
+    let ending: &[u8] = match job.call {
+        Call::Read => &[],
+        Call::Batch => &[10],
+    };
+    let methods: Vec<Method> = job.methods.iter().filter_map(|byte| Method::of(*byte)).collect();
+    let (mut bytes, mut passes) = (Vec::new(), Vec::new());
+    for (line, read) in reads(job).into_iter().enumerate() {
+        let made = passes_of(set, &methods, job.confirm, read);
+        let longest = made.iter().map(|pass| pass.bytes.len()).max().unwrap_or(read.len());
+        if longest + ending.len() > job.output - bytes.len() {
+            return Outcome::refused(Refusal::new(11, line));
+        }
+        bytes.extend_from_slice(made.last().map_or(read, |pass| &pass.bytes));
+        bytes.extend_from_slice(ending);
+        passes.push(made);
+    }
+    Outcome { answer: Ok(report(bytes.len(), &passes)), bytes, passes }
+}
+
+/// A read's first pass is fed the read, each later one the bytes of the pass before.
+fn passes_of(set: &Set, methods: &[Method], confirm: u8, read: &[u8]) -> Vec<Pass> {
+    let mut made: Vec<Pass> = Vec::with_capacity(methods.len());
+    for method in methods {
+        let fed = made.last().map_or(read, |pass| &pass.bytes);
+        made.push(pass(set, *method, confirm, fed));
+    }
+    made
+}
+
+/// Numbers are sums over all passes, yield from the sums.
+fn report(written: usize, passes: &[Vec<Pass>]) -> Report {
+    let sum = |of: fn(&Pass) -> u64| passes.iter().flatten().map(of).sum();
+    let (attempts, accepted): (u64, u64) = (sum(|pass| pass.attempts), sum(|pass| pass.accepted));
+    Report {
+        written: written as u64,
+        turns: sum(|pass| pass.turns),
+        lookups: sum(|pass| pass.lookups),
+        attempts,
+        accepted,
+        yields: (accepted * 1000).checked_div(attempts).unwrap_or(0),
+    }
+}

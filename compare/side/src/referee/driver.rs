@@ -1,0 +1,58 @@
+//! "Driver": a pass, one read through one method.
+use super::correctors::{Asking, Method, ALL_EVENTS, BY};
+use super::letters::{add, add_all, code};
+use super::set::Set;
+
+#[derive(Clone, Default)]
+pub struct Pass {
+    pub bytes: Vec<u8>,
+    pub turns: u64,
+    pub lookups: u64,
+    pub attempts: u64,
+    pub accepted: u64,
+    /// The lookups that the Rust makes in this pass, less these.
+    pub again: i64,
+    /// Corrections by scenario, in the order of `ALL_BY`.
+    pub by: [u32; BY],
+    /// What else was met, in the order of `ALL_EVENTS`.
+    pub events: [u32; ALL_EVENTS.len()],
+}
+
+pub fn pass(set: &Set, method: Method, c: u8, read: &[u8]) -> Pass {
+    let k = set.k;
+    if read.len() < k {
+        return Pass { bytes: read.to_vec(), ..Pass::default() };
+    }
+    let mut pass = Pass { bytes: read[..k].to_vec(), ..Pass::default() };
+    let mut asking = Asking::new(set);
+    let mut kmer = add_all(k, 0, &read[..k]);
+    let mut previous = asking.solid(kmer);
+    let mut at = k;
+    while at < read.len() {
+        pass.turns += 1;
+        kmer = add(k, kmer, code(read[at]));
+        let solid = asking.solid(kmer);
+        if !solid && previous {
+            pass.attempts += 1;
+            if let Some(mend) = asking.attempt(method, c as usize, kmer, &read[at..]) {
+                pass.accepted += 1;
+                pass.by[mend.by as usize] += 1;
+                // The bad k-mer moves right one letter, an A in front, and takes the letters by +.
+                kmer = add_all(k, kmer >> 2, &mend.letters);
+                pass.bytes.extend_from_slice(&mend.letters);
+                at += mend.resume;
+                continue;
+            }
+        } else {
+            // The Rust asks twice for a base without an attempt.
+            asking.again += 1;
+        }
+        pass.bytes.push(read[at]);
+        previous = solid;
+        at += 1;
+    }
+    pass.lookups = asking.lookups;
+    pass.again = asking.again;
+    pass.events = asking.events;
+    pass
+}

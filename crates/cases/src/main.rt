@@ -1,0 +1,134 @@
+// Cases that the list of replay lacks: inputs too long for it, the limit of lines, and each refusal of a set by the batch call. A line for
+// each: the answer, and how many lent bytes are as they were and how many are zero.
+ghost use mathlib.Core.Path.{_≡_};
+ghost use lib.ListN.{length};
+use job::Answer;
+use libc::STDOUT_FILENO;
+
+// What the lent bytes are before a call.
+const FILL: u8 = 170;
+
+fn count(bytes: &[u8], byte: u8) -> usize {
+    let mut n: usize = 0;
+    for i in 0..bytes.len() {
+        if bytes[i] == byte {
+            n += 1;
+        }
+    }
+    n
+}
+
+fn print(word: &[u8], number: u64) {
+    io::write_all(STDOUT_FILENO, word);
+    io::print_decimal(STDOUT_FILENO, number);
+}
+
+fn print_answer(answer: Answer) {
+    match answer {
+        Answer::Report(report) => {
+            print(b": written ", report.written as u64);
+            print(b" turns ", report.turns);
+            print(b" lookups ", report.lookups);
+        }
+        Answer::Refused(refusal) => {
+            print(b": refused ", job::number_of(refusal));
+            print(b" place ", job::place_of(refusal));
+        }
+    }
+}
+
+fn print_case(name: &[u8], answer: Answer, output: &[u8], work: &[u8]) {
+    io::write_all(STDOUT_FILENO, name);
+    print_answer(answer);
+    print(b"; output kept ", count(output, FILL) as u64);
+    print(b" zero ", count(output, 0) as u64);
+    print(b", work kept ", count(work, FILL) as u64);
+    print(b" zero ", count(work, 0) as u64);
+    io::write_all(STDOUT_FILENO, b"\n");
+}
+
+fn read_case(name: &[u8], set: &[u8], read: &[u8], output: &mut [u8], work: &mut [u8]) {
+    let answer = job::correct_read(set, 1, b"\x01", read, output, work);
+    print_case(name, answer, output, work);
+}
+
+fn batch_case(name: &[u8], set: &[u8], batch: &[u8], output: &mut [u8], work: &mut [u8]) {
+    let answer = job::correct_batch(set, 1, b"\x01", batch, output, work);
+    print_case(name, answer, output, work);
+}
+
+fn long_read() -> [u8; 1048577]
+    ensures { λ r. ⌜ 1048577 ≡ length r ⌝ }
+{
+    [b'A'; 1048577]
+}
+
+// The sample set: k = 3, keys 6, 23, 51, 58, 60.
+fn sample_set() -> [u8; 1024]
+    ensures { λ r. ⌜ 1024 ≡ length r ⌝ }
+{
+    let mut set = [0u8; 1024];
+    set[0] = 3;
+    set[8] = 5;
+    set[504] = 9;
+    set[512] = 6;
+    set[520] = 23;
+    set[528] = 51;
+    set[536] = 58;
+    set[544] = 60;
+    set[1016] = 200;
+    set
+}
+
+fn long_cases(set: &[u8]) {
+    let read = long_read();
+    let mut output = [FILL; 8];
+    let mut work = [FILL; 16];
+    read_case(b"read of 1048577 bytes", set, &read, &mut output, &mut work);
+    batch_case(
+        b"batch of 1048577 bytes",
+        set,
+        &read,
+        &mut output,
+        &mut work,
+    );
+}
+
+fn line_cases(set: &[u8]) {
+    let mut output = [FILL; 1024];
+    let mut work = [FILL; 2050];
+    batch_case(b"1025 lines", set, &[10; 1025], &mut output, &mut work);
+    batch_case(b"1024 lines", set, &[10; 1024], &mut output, &mut work);
+}
+
+fn set_case(name: &[u8], set: &[u8]) {
+    let mut output = [FILL; 8];
+    let mut work = [FILL; 16];
+    batch_case(name, set, b"AAC\n", &mut output, &mut work);
+}
+
+fn header_cases(sample: [u8; 1024]) {
+    let mut set = sample;
+    set[0] = 4;
+    set_case(b"wrong check of block 0", &set);
+    set[504] = 10;
+    set_case(b"even k", &set);
+}
+
+fn key_cases(sample: [u8; 1024]) {
+    let mut set = sample;
+    set[512] = 7;
+    set_case(b"wrong check of block 1", &set);
+    set[1016] = 201;
+    set_case(b"first key not canonical", &set);
+}
+
+fn main() {
+    let set = sample_set();
+    long_cases(&set);
+    line_cases(&set);
+    set_case(b"no set", b"");
+    set_case(b"set of 513 bytes", &[0; 513]);
+    header_cases(set);
+    key_cases(set);
+}

@@ -1,0 +1,90 @@
+// What the library answers and leaves, against a record.
+ghost use Prim.Native.Nat.{_<_};
+use crate::list::number;
+use blocks::Opened;
+use job::Answer;
+
+fn pair_is(record: &[u8; 64], i: usize, first: u64, second: u64) -> bool
+    requires { ⌜ i < 15 ⌝ }
+{
+    number(record, i) == first && number(record, i + 1) == second
+}
+
+pub fn open_agrees(set: &[u8], record: &[u8; 64]) -> bool {
+    match blocks::open(set) {
+        Opened::Set(k, n) => pair_is(record, 8, 0, 0) && pair_is(record, 10, k as u64, n as u64),
+        Opened::Length => pair_is(record, 8, 7, 0),
+        Opened::Check(block) => pair_is(record, 8, 8, block as u64),
+        Opened::Header => pair_is(record, 8, 9, 0),
+        Opened::Key(word) => pair_is(record, 8, 10, word as u64),
+    }
+}
+
+fn answer_agrees(answer: Answer, record: &[u8; 64]) -> bool {
+    match answer {
+        Answer::Report(report) => {
+            pair_is(record, 8, 0, 0)
+                && pair_is(record, 10, report.written as u64, report.turns)
+                && pair_is(record, 12, report.lookups, report.attempts)
+                && pair_is(record, 14, report.accepted, report.yield_)
+        }
+        Answer::Refused(refusal) => pair_is(
+            record,
+            8,
+            job::number_of(refusal),
+            job::place_of(refusal),
+        ),
+    }
+}
+
+// Whether a lent buffer has the result, and the rest behind it.
+fn lent_is(lent: &[u8], result: &[u8], rest: u8) -> bool {
+    if lent.len() < result.len() {
+        return false;
+    }
+    for i in 0..lent.len() {
+        let byte = if i < result.len() { result[i] } else { rest };
+        if lent[i] != byte {
+            return false;
+        }
+    }
+    true
+}
+
+// Refusals 1 to 10 leave the lent bytes as they were.
+fn rest_of(record: &[u8; 64], fill: u8) -> u8 {
+    match number(record, 8) {
+        1..=10 => fill,
+        _ => 0,
+    }
+}
+
+fn call(
+    set: &[u8],
+    record: &[u8; 64],
+    methods: &[u8],
+    input: &[u8],
+    output: &mut [u8],
+    work: &mut [u8],
+) -> Answer {
+    let confirm = record[4];
+    if number(record, 0) == 3 {
+        return job::correct_read(set, confirm, methods, input, output, work);
+    }
+    job::correct_batch(set, confirm, methods, input, output, work)
+}
+
+pub fn call_agrees(
+    set: &[u8],
+    record: &[u8; 64],
+    fill: u8,
+    methods: &[u8],
+    input: &[u8],
+    result: &[u8],
+    output: &mut [u8],
+    work: &mut [u8],
+) -> bool {
+    let answer = call(set, record, methods, input, output, work);
+    let rest = rest_of(record, fill);
+    answer_agrees(answer, record) && lent_is(output, result, rest) && lent_is(work, b"", rest)
+}

@@ -1,0 +1,163 @@
+// Replays the list of cases on standard input, as `compare/run --list` writes it (compare/README.md has its format), and prints how many
+// agree in the answer, the report and every byte of both lent buffers.
+mod agree;
+mod list;
+
+ghost use Rattle.io.specs.Counts.{Counts};
+use agree::call_agrees;
+use agree::open_agrees;
+use libc::STDIN_FILENO;
+use libc::STDOUT_FILENO;
+use list::Part;
+use list::number;
+use list::part_of;
+use list::read_part;
+
+const MAX_SET: usize = 8192;
+
+const MAX_METHODS: usize = 16;
+
+const MAX_INPUT: usize = 2048;
+
+const MAX_OUTPUT: usize = 4096;
+
+const MAX_WORK: usize = 8192;
+
+enum Case {
+    Agrees,
+    Differs,
+    Malformed,
+}
+
+fn told(agrees: bool) -> Case {
+    if agrees { Case::Agrees } else { Case::Differs }
+}
+
+fn compare(
+    set: &[u8],
+    record: &[u8; 64],
+    fill: u8,
+    methods: &[u8],
+    input: &[u8],
+    result: &[u8],
+) -> Case {
+    let mut output = [fill; MAX_OUTPUT];
+    let mut work = [fill; MAX_WORK];
+    let output_part = part_of(&output, number(record, 4) as usize);
+    let work_part = part_of(&work, number(record, 5) as usize);
+    if !output_part.whole || !work_part.whole {
+        return Case::Malformed;
+    }
+    let output_end = output_part.length;
+    let work_end = work_part.length;
+    told(call_agrees(
+        set,
+        record,
+        fill,
+        methods,
+        input,
+        result,
+        &mut output[..output_end],
+        &mut work[..work_end],
+    ))
+}
+
+fn replay_call(set: &[u8], record: &[u8; 64], fill: u8) -> Case {
+    let mut methods = [0u8; MAX_METHODS];
+    let mut input = [0u8; MAX_INPUT];
+    let mut result = [0u8; MAX_OUTPUT];
+    let methods_part = read_part(&mut methods, number(record, 2) as usize);
+    let input_part = read_part(&mut input, number(record, 3) as usize);
+    let result_part = read_part(&mut result, number(record, 6) as usize);
+    if !methods_part.whole || !input_part.whole || !result_part.whole {
+        return Case::Malformed;
+    }
+    let methods_end = methods_part.length;
+    let input_end = input_part.length;
+    let result_end = result_part.length;
+    compare(
+        set,
+        record,
+        fill,
+        &methods[..methods_end],
+        &input[..input_end],
+        &result[..result_end],
+    )
+}
+
+fn replay_case(set: &[u8], record: &[u8; 64], fill: u8) -> Case {
+    match number(record, 0) {
+        2 => told(open_agrees(set, record)),
+        3..=4 => replay_call(set, record, fill),
+        _ => Case::Malformed,
+    }
+}
+
+// Reads the record of the next case, and the set before it, if there is one; else the set stays.
+fn next_case(record: &mut [u8; 64], set: &mut [u8], length: usize) -> Part
+    requires { ⌜ Counts length (now set) ⌝ }
+    ensures { λ r. ⌜ Counts (r .length) (now (set .exit)) ⌝ }
+{
+    let first = read_part(record, 64);
+    if !first.whole || number(record, 0) != 1 {
+        return Part {
+            length: length,
+            whole: first.whole,
+        };
+    }
+    let part = read_part(set, number(record, 1) as usize);
+    let second = read_part(record, 64);
+    Part {
+        length: part.length,
+        whole: part.whole && second.whole,
+    }
+}
+
+// A record of zeros, and nothing behind it.
+fn ends() -> bool {
+    let mut last = [0u8; 65];
+    io::read_full(STDIN_FILENO, &mut last) == 64 && check::same(&last, &[0; 65])
+}
+
+fn print(number: usize, word: &[u8]) {
+    io::print_decimal(STDOUT_FILENO, number as u64);
+    io::write_all(STDOUT_FILENO, word);
+}
+
+fn malformed(case: usize) {
+    io::write_all(STDOUT_FILENO, b"bad list at case ");
+    print(case, b"\n");
+}
+
+fn replay(cases: usize, fill: u8) {
+    let mut set = [0u8; MAX_SET];
+    let mut set_end = 0;
+    let mut agree = 0;
+    for case in 0..cases {
+        let mut record = [0u8; 64];
+        let part = next_case(&mut record, &mut set, set_end);
+        if !part.whole {
+            return malformed(case);
+        }
+        set_end = part.length;
+        match replay_case(&set[..set_end], &record, fill) {
+            Case::Agrees => agree += 1,
+            Case::Differs => print(case, b" differs\n"),
+            Case::Malformed => return malformed(case),
+        }
+    }
+    if !ends() {
+        return malformed(cases);
+    }
+    print(cases, b" cases: ");
+    print(agree, b" agree\n");
+}
+
+fn main() {
+    let mut head = [0u8; 64];
+    let part = read_part(&mut head, 32);
+    if !part.whole || number(&head, 0) != 1 {
+        return malformed(0);
+    }
+    replay(number(&head, 1) as usize, head[24]);
+}
