@@ -1,0 +1,3 @@
+pub mod Laid
+pub mod Solids
+pub mod Told
