@@ -1,0 +1,117 @@
+//! Corrects DNA reads against a set of k-mers that are known to be good: safe calls of the corrector's static library, whose every answer
+//! and every lent byte is proved to be what its rules say. The project's README.md has the formats of a set, a job and a batch.
+//!
+//! A call keeps no state and allocates nothing, so any number of threads may call at once with buffers of their own. It keeps its tables
+//! on the stack: `CORRECTOR_STACK` of corrector.h says how much a thread needs, which is less than a thread of `std` has.
+//!
+//! ```
+//! # fn set_of(k: u64, keys: &[u64]) -> Vec<u8> {
+//! #     let block = |number: u64, words: &[u64]| {
+//! #         let sum = words.iter().sum::<u64>() + number + 1;
+//! #         let words = words.iter().copied().chain(std::iter::repeat(0)).take(63).chain([sum]);
+//! #         words.flat_map(u64::to_le_bytes).collect::<Vec<u8>>()
+//! #     };
+//! #     [block(0, &[k, keys.len() as u64]), block(1, keys)].concat()
+//! # }
+//! # let set = set_of(3, &[6, 23, 51, 58, 60]);
+//! let read = b"AACGCCG";
+//! let mut output = [0; 16];
+//! let mut work = vec![0; corrector::work_length(output.len(), read.len())];
+//! let report = corrector::correct_read(&set, 1, &[corrector::GRAPH], read, &mut output, &mut work)?;
+//! assert_eq!(output[..report.written], *b"AACTCCG");
+//! # Ok::<(), corrector::Refusal>(())
+//! ```
+#![deny(missing_docs)]
+#![deny(unsafe_code)]
+
+mod raw;
+mod refusal;
+
+pub use refusal::Refusal;
+
+/// The method One.
+pub const ONE: u8 = 1;
+/// The method Two.
+pub const TWO: u8 = 2;
+/// The method Graph.
+pub const GRAPH: u8 = 3;
+/// The method GapSize.
+pub const GAP_SIZE: u8 = 4;
+
+/// The longest read or batch, in bytes.
+pub const MAX_INPUT: usize = 1_048_576;
+/// The most methods of a job.
+pub const MAX_METHODS: usize = 8;
+/// The longest output, in bytes.
+pub const MAX_OUTPUT: usize = 1_048_576;
+/// The longest work buffer, in bytes.
+pub const MAX_WORK: usize = 2_097_152;
+/// The most lines of a batch.
+pub const MAX_LINES: usize = 1_024;
+
+/// What the header of a set says.
+#[derive(Clone, Copy, Debug, PartialEq, Eq)]
+pub struct Set {
+    /// The length of its k-mers.
+    pub k: usize,
+    /// The number of its keys.
+    pub n: usize,
+}
+
+/// What an accepted call counts. The numbers of a batch are sums over its lines.
+#[derive(Clone, Copy, Debug, PartialEq, Eq)]
+pub struct Report {
+    /// Bytes of the output.
+    pub written: usize,
+    /// Bases looked at.
+    pub turns: u64,
+    /// How often the set was asked for a k-mer.
+    pub lookups: u64,
+    /// Attempts at a correction.
+    pub attempts: u64,
+    /// Attempts that were accepted.
+    pub accepted: u64,
+    /// Accepted × 1000 / attempts, rounded down; 0 without attempts.
+    pub yield_: u64,
+}
+
+/// The least work buffer for an output and a read or batch of these lengths.
+pub fn work_length(output: usize, input: usize) -> usize {
+    2 * output.max(input)
+}
+
+/// Checks a set. The other calls check it too.
+pub fn open(set: &[u8]) -> Result<Set, Refusal> {
+    match raw::open(set) {
+        [0, _, k, n] => Ok(Set { k: k as usize, n: n as usize }),
+        [number, place, ..] => Err(Refusal::from_numbers(number, place)),
+    }
+}
+
+/// Corrects a read by the methods, each of which reads the result of the one before. At least `confirm` bases behind a correction must agree.
+///
+/// Accepted, `output` has the result in its first [`written`](Report::written) bytes and zeros behind it, and `work` is all zero. Refused
+/// with [`Refusal::NoRoom`], both are all zero; refused otherwise, neither has changed. The set is checked at each call, so many reads are
+/// better sent as a batch.
+pub fn correct_read(set: &[u8], confirm: u8, methods: &[u8], read: &[u8], output: &mut [u8], work: &mut [u8]) -> Result<Report, Refusal> {
+    answer(raw::correct(raw::Call::Read, raw::Lent { set, confirm, methods, input: read, output, work }))
+}
+
+/// Corrects a batch, lines each ended by byte 10, as [`correct_read`] does a read. The output is lines too.
+pub fn correct_batch(set: &[u8], confirm: u8, methods: &[u8], batch: &[u8], output: &mut [u8], work: &mut [u8]) -> Result<Report, Refusal> {
+    answer(raw::correct(raw::Call::Batch, raw::Lent { set, confirm, methods, input: batch, output, work }))
+}
+
+/// How many of a read's k-mers are solid; 0 if the set is refused or the read is shorter than k. The read may have any length.
+pub fn count_solid(set: &[u8], read: &[u8]) -> u64 {
+    raw::count_solid(set, read)
+}
+
+fn answer(numbers: [u64; 8]) -> Result<Report, Refusal> {
+    match numbers {
+        [0, _, written, turns, lookups, attempts, accepted, yield_] => {
+            Ok(Report { written: written as usize, turns, lookups, attempts, accepted, yield_ })
+        }
+        [number, place, ..] => Err(Refusal::from_numbers(number, place)),
+    }
+}

@@ -1,0 +1,73 @@
+//! The calls of corrector.h, and the only unsafe code: each slice passes as pointer and length.
+#![allow(unsafe_code)]
+
+#[rustfmt::skip]
+extern "C" {
+    fn corrector_open(set: *const u8, set_length: usize, answer: *mut u64, answer_length: usize) -> u64;
+    fn corrector_read(
+        set: *const u8, set_length: usize, confirm: u8, methods: *const u8, methods_length: usize, read: *const u8, read_length: usize,
+        output: *mut u8, output_length: usize, work: *mut u8, work_length: usize, answer: *mut u64, answer_length: usize,
+    ) -> u64;
+    fn corrector_batch(
+        set: *const u8, set_length: usize, confirm: u8, methods: *const u8, methods_length: usize, batch: *const u8, batch_length: usize,
+        output: *mut u8, output_length: usize, work: *mut u8, work_length: usize, answer: *mut u64, answer_length: usize,
+    ) -> u64;
+    fn corrector_count_solid(set: *const u8, set_length: usize, read: *const u8, read_length: usize) -> u64;
+}
+
+/// What a read or a batch call is lent, but for its answer.
+pub struct Lent<'a> {
+    pub set: &'a [u8],
+    pub confirm: u8,
+    pub methods: &'a [u8],
+    pub input: &'a [u8],
+    pub output: &'a mut [u8],
+    pub work: &'a mut [u8],
+}
+
+pub enum Call {
+    Read,
+    Batch,
+}
+
+/// Number, place, k, n.
+pub fn open(set: &[u8]) -> [u64; 4] {
+    let mut answer = [0; 4];
+    // SAFETY: each pointer and length are a live slice's, and `answer` is lent to this call alone.
+    unsafe { corrector_open(set.as_ptr(), set.len(), answer.as_mut_ptr(), answer.len()) };
+    answer
+}
+
+/// Number, place, written, turns, lookups, attempts, accepted, yield.
+pub fn correct(call: Call, lent: Lent<'_>) -> [u64; 8] {
+    let entry = match call {
+        Call::Read => corrector_read,
+        Call::Batch => corrector_batch,
+    };
+    let mut answer = [0; 8];
+    // SAFETY: each pointer and length are a live slice's; `output`, `work` and `answer` are lent to this call alone, so that they overlap
+    // nothing; and the call keeps no pointer.
+    unsafe {
+        entry(
+            lent.set.as_ptr(),
+            lent.set.len(),
+            lent.confirm,
+            lent.methods.as_ptr(),
+            lent.methods.len(),
+            lent.input.as_ptr(),
+            lent.input.len(),
+            lent.output.as_mut_ptr(),
+            lent.output.len(),
+            lent.work.as_mut_ptr(),
+            lent.work.len(),
+            answer.as_mut_ptr(),
+            answer.len(),
+        )
+    };
+    answer
+}
+
+pub fn count_solid(set: &[u8], read: &[u8]) -> u64 {
+    // SAFETY: each pointer and length are a live slice's.
+    unsafe { corrector_count_solid(set.as_ptr(), set.len(), read.as_ptr(), read.len()) }
+}

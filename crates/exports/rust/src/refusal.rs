@@ -1,0 +1,110 @@
+//! Why a call is refused.
+use std::error::Error;
+use std::fmt::{Display, Formatter, Result};
+
+/// Why a call is refused. Checked in this order: the first that applies is told. Places count from 0.
+#[derive(Clone, Copy, Debug, PartialEq, Eq)]
+pub enum Refusal {
+    /// 1: the read or batch is longer than [`MAX_INPUT`](crate::MAX_INPUT) bytes.
+    InputLength,
+    /// 2: there are more than [`MAX_METHODS`](crate::MAX_METHODS) methods.
+    MethodCount,
+    /// 3: a method byte is none of the four.
+    MethodUnknown {
+        /// Its index among the method bytes.
+        index: usize,
+    },
+    /// 4: confirm is 0.
+    ConfirmZero,
+    /// 5: output or work is too long, or work is shorter than [`work_length`](crate::work_length).
+    Buffers,
+    /// 6: the batch is not empty and lacks a final byte 10, or has more than [`MAX_LINES`](crate::MAX_LINES) lines.
+    Batch,
+    /// 7: the set's length is 0 or no multiple of 512.
+    SetLength,
+    /// 8: a check word of the set is wrong.
+    SetCheck {
+        /// The first such block.
+        block: usize,
+    },
+    /// 9: the set's k, its number of keys, its header or its number of blocks is wrong.
+    SetHeader,
+    /// 10: a key of the set is not canonical, too large or not rising, or a spare word is not zero.
+    SetKey {
+        /// The word's index among the words of the key blocks, check words not counted.
+        word: usize,
+    },
+    /// 11: a result does not fit the output. Output and work are all zero.
+    NoRoom {
+        /// The line of the batch; 0 for a single read.
+        line: usize,
+    },
+}
+
+impl Refusal {
+    /// The refusal of a number and a place, as the library tells them.
+    pub(crate) fn from_numbers(number: u64, place: u64) -> Self {
+        let place = place as usize;
+        match number {
+            1 => Self::InputLength,
+            2 => Self::MethodCount,
+            3 => Self::MethodUnknown { index: place },
+            4 => Self::ConfirmZero,
+            5 => Self::Buffers,
+            6 => Self::Batch,
+            7 => Self::SetLength,
+            8 => Self::SetCheck { block: place },
+            9 => Self::SetHeader,
+            10 => Self::SetKey { word: place },
+            11 => Self::NoRoom { line: place },
+            _ => unreachable!("the library refuses by 1 to 11"),
+        }
+    }
+
+    /// The number, 1 to 11.
+    pub fn number(self) -> u8 {
+        match self {
+            Self::InputLength => 1,
+            Self::MethodCount => 2,
+            Self::MethodUnknown { .. } => 3,
+            Self::ConfirmZero => 4,
+            Self::Buffers => 5,
+            Self::Batch => 6,
+            Self::SetLength => 7,
+            Self::SetCheck { .. } => 8,
+            Self::SetHeader => 9,
+            Self::SetKey { .. } => 10,
+            Self::NoRoom { .. } => 11,
+        }
+    }
+
+    /// The place: an index, a block, a word or a line; 0 for a refusal that has none.
+    pub fn place(self) -> usize {
+        match self {
+            Self::MethodUnknown { index: place } | Self::SetCheck { block: place } | Self::SetKey { word: place } | Self::NoRoom { line: place } => {
+                place
+            }
+            _ => 0,
+        }
+    }
+}
+
+impl Display for Refusal {
+    fn fmt(&self, to: &mut Formatter<'_>) -> Result {
+        match self {
+            Self::InputLength => write!(to, "the read or batch is too long"),
+            Self::MethodCount => write!(to, "there are too many methods"),
+            Self::MethodUnknown { index } => write!(to, "method {index} is unknown"),
+            Self::ConfirmZero => write!(to, "confirm is 0"),
+            Self::Buffers => write!(to, "the output or work buffer has a wrong length"),
+            Self::Batch => write!(to, "the batch lacks a final byte 10, or has too many lines"),
+            Self::SetLength => write!(to, "the set's length is 0 or no multiple of 512"),
+            Self::SetCheck { block } => write!(to, "block {block} of the set is damaged"),
+            Self::SetHeader => write!(to, "the set's header is wrong"),
+            Self::SetKey { word } => write!(to, "word {word} of the set's keys is wrong"),
+            Self::NoRoom { line } => write!(to, "the result of line {line} does not fit the output"),
+        }
+    }
+}
+
+impl Error for Refusal {}

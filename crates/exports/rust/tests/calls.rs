@@ -1,0 +1,211 @@
+//! Document 01's samples, and every refusal.
+mod common;
+
+use common::{sample_set, set_of};
+use corrector::{correct_batch, correct_read, count_solid, open, work_length, Refusal, Report, Set};
+use corrector::{GAP_SIZE, GRAPH, MAX_INPUT, MAX_LINES, MAX_METHODS, MAX_OUTPUT, MAX_WORK, ONE, TWO};
+
+const FILL: u8 = 170;
+
+/// A call on buffers that were filled before it.
+struct Done {
+    answer: Result<Report, Refusal>,
+    output: Vec<u8>,
+    work: Vec<u8>,
+}
+
+impl Done {
+    fn of(call: impl FnOnce(&mut [u8], &mut [u8]) -> Result<Report, Refusal>, output: usize, work: usize) -> Self {
+        let (mut output, mut work) = (vec![FILL; output], vec![FILL; work]);
+        let answer = call(&mut output, &mut work);
+        Done { answer, output, work }
+    }
+
+    fn read(set: &[u8], confirm: u8, methods: &[u8], read: &[u8]) -> Self {
+        Self::of(|output, work| correct_read(set, confirm, methods, read, output, work), 32, 64)
+    }
+
+    fn batch(set: &[u8], confirm: u8, methods: &[u8], batch: &[u8]) -> Self {
+        Self::of(|output, work| correct_batch(set, confirm, methods, batch, output, work), 32, 64)
+    }
+
+    fn all(&self, byte: u8) -> bool {
+        self.output.iter().chain(&self.work).all(|found| *found == byte)
+    }
+
+    #[track_caller]
+    fn gives(&self, result: &[u8]) -> Report {
+        let report = self.answer.expect("accepted");
+        assert_eq!(report.written, result.len());
+        assert_eq!(&self.output[..report.written], result);
+        assert!(self.output[report.written..].iter().chain(&self.work).all(|byte| *byte == 0));
+        report
+    }
+
+    /// Refused, with the buffers as they were.
+    #[track_caller]
+    fn refused(&self, refusal: Refusal, number: u8, place: usize) {
+        assert_eq!(self.answer, Err(refusal));
+        assert_eq!((refusal.number(), refusal.place()), (number, place));
+        assert!(self.all(FILL));
+    }
+}
+
+#[track_caller]
+fn gives(method: u8, confirm: u8, read: &[u8], result: &[u8]) -> Report {
+    let report = Done::read(&sample_set(), confirm, &[method], read).gives(result);
+    let line = |bytes: &[u8]| [bytes, b"\n"].concat();
+    let batch = Done::batch(&sample_set(), confirm, &[method], &line(read)).gives(&line(result));
+    assert_eq!(batch, Report { written: report.written + 1, ..report });
+    report
+}
+
+#[test]
+fn samples_of_one() {
+    let report = gives(ONE, 1, b"AACGC", b"AACTC");
+    assert_eq!((report.turns, report.lookups, report.attempts, report.accepted, report.yield_), (2, 12, 1, 1, 1000));
+    let report = gives(ONE, 1, b"AACC", b"AACTC");
+    assert_eq!((report.turns, report.lookups), (2, 11));
+    gives(ONE, 1, b"AACGTC", b"AACTC");
+    let report = gives(ONE, 1, b"AACG", b"AACG");
+    assert_eq!((report.attempts, report.accepted, report.yield_), (1, 0, 0));
+    assert_eq!(gives(ONE, 1, b"AACGCCG", b"AACTCCG").lookups, 16);
+}
+
+#[test]
+fn samples_of_two() {
+    gives(TWO, 1, b"AACCG", b"AACCG");
+    gives(TWO, 2, b"AACCG", b"AACTCCG");
+}
+
+#[test]
+fn samples_of_graph_and_gap_size() {
+    let report = gives(GRAPH, 1, b"AACGCCG", b"AACTCCG");
+    assert_eq!((report.turns, report.lookups), (1, 24));
+    gives(GRAPH, 1, b"AACGC", b"AACGC");
+    assert_eq!(gives(GAP_SIZE, 1, b"AACGCCG", b"AACTCCG").lookups, 19);
+}
+
+#[test]
+fn short_reads() {
+    let none = Report { written: 0, turns: 0, lookups: 0, attempts: 0, accepted: 0, yield_: 0 };
+    assert_eq!(gives(ONE, 1, b"AA", b"AA"), Report { written: 2, ..none });
+    assert_eq!(gives(ONE, 1, b"", b""), none);
+    assert_eq!(gives(ONE, 1, b"AAC", b"AAC"), Report { written: 3, lookups: 1, ..none });
+}
+
+#[test]
+fn lists_of_methods_and_of_lines() {
+    let set = sample_set();
+    Done::read(&set, 1, &[], b"AACGC").gives(b"AACGC");
+    Done::read(&set, 1, &[GRAPH, ONE], b"AACGC").gives(b"AACTC");
+    let report = Done::batch(&set, 1, &[GRAPH], b"AACGCCG\nAA\n").gives(b"AACTCCG\nAA\n");
+    assert_eq!((report.turns, report.lookups), (1, 24));
+    Done::batch(&set, 1, &[GRAPH], b"").gives(b"");
+}
+
+#[test]
+fn opens() {
+    assert_eq!(open(&sample_set()), Ok(Set { k: 3, n: 5 }));
+    assert_eq!(open(&set_of(31, &[])), Ok(Set { k: 31, n: 0 }));
+}
+
+#[test]
+fn counts_solid_k_mers() {
+    let set = sample_set();
+    assert_eq!(count_solid(&set, b"AACTCCG"), 5);
+    assert_eq!(count_solid(&set, b"AACGC"), 1);
+    assert_eq!(count_solid(&set, b"AAC"), 1);
+    assert_eq!(count_solid(&set, b"AA"), 0);
+    assert_eq!(count_solid(&set, &b"AACTC".repeat(MAX_INPUT)), 3 * MAX_INPUT as u64);
+    assert_eq!(count_solid(&set[..512], b"AACTCCG"), 0);
+}
+
+/// By both calls.
+#[track_caller]
+fn refused(confirm: u8, methods: &[u8], input: &[u8], refusal: Refusal, number: u8, place: usize) {
+    let set = sample_set();
+    Done::read(&set, confirm, methods, input).refused(refusal, number, place);
+    Done::batch(&set, confirm, methods, input).refused(refusal, number, place);
+}
+
+#[test]
+fn refuses_a_job() {
+    refused(1, &[ONE], &vec![10; MAX_INPUT + 1], Refusal::InputLength, 1, 0);
+    refused(1, &[ONE; MAX_METHODS + 1], b"\n", Refusal::MethodCount, 2, 0);
+    refused(1, &[ONE, 0], b"\n", Refusal::MethodUnknown { index: 1 }, 3, 1);
+    refused(1, &[5], b"\n", Refusal::MethodUnknown { index: 0 }, 3, 0);
+    refused(0, &[ONE], b"\n", Refusal::ConfirmZero, 4, 0);
+    refused(1, &[ONE], &[10; 33], Refusal::Buffers, 5, 0);
+}
+
+#[test]
+fn refuses_buffers() {
+    let set = sample_set();
+    let call = |output: usize, work: usize| Done::of(|output, work| correct_read(&set, 1, &[ONE], b"AAC", output, work), output, work);
+    call(MAX_OUTPUT + 1, MAX_WORK).refused(Refusal::Buffers, 5, 0);
+    call(8, MAX_WORK + 1).refused(Refusal::Buffers, 5, 0);
+    call(8, work_length(8, 3) - 1).refused(Refusal::Buffers, 5, 0);
+    call(2, work_length(2, 3) - 1).refused(Refusal::Buffers, 5, 0);
+    call(8, work_length(8, 3)).gives(b"AAC");
+    call(MAX_OUTPUT, MAX_WORK).gives(b"AAC");
+}
+
+#[test]
+fn refuses_a_batch() {
+    let set = sample_set();
+    Done::batch(&set, 1, &[ONE], b"AAC").refused(Refusal::Batch, 6, 0);
+    let lines = |count: usize| Done::of(|output, work| correct_batch(&set, 1, &[ONE], &vec![10; count], output, work), count, 2 * count);
+    lines(MAX_LINES + 1).refused(Refusal::Batch, 6, 0);
+    lines(MAX_LINES).gives(&[10; MAX_LINES]);
+}
+
+/// By opening and by both calls.
+#[track_caller]
+fn set_refused(set: &[u8], refusal: Refusal, number: u8, place: usize) {
+    assert_eq!(open(set), Err(refusal));
+    Done::read(set, 1, &[ONE], b"AAC").refused(refusal, number, place);
+    Done::batch(set, 1, &[ONE], b"AAC\n").refused(refusal, number, place);
+    assert_eq!(count_solid(set, b"AAC"), 0);
+}
+
+#[test]
+fn refuses_a_damaged_set() {
+    let set = sample_set();
+    set_refused(b"", Refusal::SetLength, 7, 0);
+    set_refused(&set[..1023], Refusal::SetLength, 7, 0);
+    for place in 0..set.len() {
+        let mut damaged = set.clone();
+        damaged[place] ^= 1;
+        set_refused(&damaged, Refusal::SetCheck { block: place / 512 }, 8, place / 512);
+    }
+    set_refused(&set[..512], Refusal::SetHeader, 9, 0);
+}
+
+#[test]
+fn refuses_a_set_made_wrongly() {
+    set_refused(&set_of(4, &[]), Refusal::SetHeader, 9, 0);
+    set_refused(&set_of(33, &[]), Refusal::SetHeader, 9, 0);
+    set_refused(&set_of(3, &[6, 7]), Refusal::SetKey { word: 1 }, 10, 1);
+    set_refused(&set_of(3, &[6, 6]), Refusal::SetKey { word: 1 }, 10, 1);
+    set_refused(&set_of(3, &[65]), Refusal::SetKey { word: 0 }, 10, 0);
+}
+
+#[test]
+fn refuses_a_result_without_room() {
+    let set = sample_set();
+    let read = Done::of(|output, work| correct_read(&set, 1, &[ONE], b"AACC", output, work), 4, 8);
+    assert_eq!(read.answer, Err(Refusal::NoRoom { line: 0 }));
+    assert!(read.all(0));
+    let batch = Done::of(|output, work| correct_batch(&set, 1, &[ONE], b"AA\nAACC\n", output, work), 8, 16);
+    assert_eq!(batch.answer, Err(Refusal::NoRoom { line: 1 }));
+    assert_eq!(batch.answer.map_err(|refusal| (refusal.number(), refusal.place())), Err((11, 1)));
+    assert!(batch.all(0));
+}
+
+#[test]
+fn refusals_are_told_in_words() {
+    assert_eq!(Refusal::SetCheck { block: 7 }.to_string(), "block 7 of the set is damaged");
+    let error: Box<dyn std::error::Error> = Box::new(Refusal::NoRoom { line: 2 });
+    assert_eq!(error.to_string(), "the result of line 2 does not fit the output");
+}

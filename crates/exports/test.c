@@ -1,0 +1,343 @@
+/* The library through corrector.h: document 01's samples, every refusal, answers of every length, and many threads. */
+#include "corrector.h"
+
+#include <pthread.h>
+#include <stdio.h>
+#include <stdlib.h>
+#include <string.h>
+
+enum { BLOCK = 512, SET = 2 * BLOCK, OUTPUT = 64, WORK = 128, FILL = 170, THREADS = 8, CALLS = 500 };
+
+static const uint64_t KEPT = 0xabababababababab;
+
+static int passed, failed;
+
+static void check(const char *name, int right)
+{
+    if (right) {
+        passed++;
+    } else {
+        failed++;
+        printf("failed: %s\n", name);
+    }
+}
+
+/* ---- the sample set: k = 3, keys 6, 23, 51, 58, 60 */
+
+static void put_word(uint8_t *set, size_t word, uint64_t value)
+{
+    for (size_t byte = 0; byte < 8; byte++)
+        set[8 * word + byte] = (uint8_t)(value >> (8 * byte));
+}
+
+static void sample_set(uint8_t *set)
+{
+    static const uint64_t keys[] = {6, 23, 51, 58, 60};
+    memset(set, 0, SET);
+    put_word(set, 0, 3);
+    put_word(set, 1, 5);
+    put_word(set, 63, 9);
+    for (size_t i = 0; i < 5; i++)
+        put_word(set, 64 + i, keys[i]);
+    put_word(set, 127, 200);
+}
+
+/* ---- one call on buffers of its own, filled before it */
+
+typedef uint64_t call(
+    const uint8_t *, size_t, uint8_t, const uint8_t *, size_t, const uint8_t *, size_t, uint8_t *, size_t, uint8_t *, size_t, uint64_t *, size_t);
+
+struct done {
+    uint64_t number;
+    uint64_t answer[CORRECTOR_CALL_NUMBERS];
+    uint8_t output[OUTPUT];
+    uint8_t work[WORK];
+};
+
+static struct done run(call *entry, const uint8_t *set, uint8_t confirm, const char *methods, const char *input, size_t room)
+{
+    struct done done;
+    memset(&done, FILL, sizeof done);
+    done.number = entry(
+        set, SET, confirm, (const uint8_t *)methods, strlen(methods), (const uint8_t *)input, strlen(input), done.output, room, done.work, WORK,
+        done.answer, CORRECTOR_CALL_NUMBERS);
+    return done;
+}
+
+static int all(const uint8_t *bytes, size_t length, uint8_t byte)
+{
+    for (size_t i = 0; i < length; i++)
+        if (bytes[i] != byte)
+            return 0;
+    return 1;
+}
+
+static int gives(const struct done *done, const char *result)
+{
+    size_t length = strlen(result);
+    return done->number == 0 && done->answer[CORRECTOR_NUMBER] == 0 && done->answer[CORRECTOR_PLACE] == 0 && done->answer[CORRECTOR_WRITTEN] == length
+        && memcmp(done->output, result, length) == 0 && all(done->output + length, OUTPUT - length, 0) && all(done->work, WORK, 0);
+}
+
+/* What stays in the buffers: FILL, or 0 after refusal 11. */
+static int refuses(const struct done *done, size_t room, uint64_t number, uint64_t place)
+{
+    uint8_t byte = number == CORRECTOR_NO_ROOM ? 0 : FILL;
+    int numbers = done->number == number && done->answer[CORRECTOR_NUMBER] == number && done->answer[CORRECTOR_PLACE] == place;
+    for (size_t i = CORRECTOR_WRITTEN; i < CORRECTOR_CALL_NUMBERS; i++)
+        numbers = numbers && done->answer[i] == 0;
+    return numbers && all(done->output, room, byte) && all(done->output + room, OUTPUT - room, FILL) && all(done->work, WORK, byte);
+}
+
+/* ---- document 01, "Sample reads"; -1 where it says no number */
+
+static const struct sample {
+    const char *methods;
+    uint8_t confirm;
+    const char *read, *result;
+    int turns, lookups;
+} samples[] = {
+    {"\1", 1, "AACGC", "AACTC", 2, 12},
+    {"\1", 1, "AACC", "AACTC", 2, 11},
+    {"\1", 1, "AACGTC", "AACTC", -1, -1},
+    {"\1", 1, "AACG", "AACG", -1, -1},
+    {"\1", 1, "AACGCCG", "AACTCCG", -1, 16},
+    {"\2", 1, "AACCG", "AACCG", -1, -1},
+    {"\2", 2, "AACCG", "AACTCCG", -1, -1},
+    {"\3", 1, "AACGCCG", "AACTCCG", 1, 24},
+    {"\3", 1, "AACGC", "AACGC", -1, -1},
+    {"\4", 1, "AACGCCG", "AACTCCG", -1, 19},
+    {"\1", 1, "AA", "AA", 0, 0},
+    {"\1", 1, "", "", 0, 0},
+    {"\1", 1, "AAC", "AAC", 0, 1},
+};
+
+enum { SAMPLES = sizeof samples / sizeof samples[0] };
+
+static int counts(const struct done *done, const struct sample *sample)
+{
+    return (sample->turns < 0 || done->answer[CORRECTOR_TURNS] == (uint64_t)sample->turns)
+        && (sample->lookups < 0 || done->answer[CORRECTOR_LOOKUPS] == (uint64_t)sample->lookups)
+        && done->answer[CORRECTOR_YIELD]
+        == (done->answer[CORRECTOR_ATTEMPTS] ? done->answer[CORRECTOR_ACCEPTED] * 1000 / done->answer[CORRECTOR_ATTEMPTS] : 0);
+}
+
+static int sample_right(const uint8_t *set, const struct sample *sample)
+{
+    char line[16], result[16];
+    struct done read = run(corrector_read, set, sample->confirm, sample->methods, sample->read, OUTPUT);
+    snprintf(line, sizeof line, "%s\n", sample->read);
+    snprintf(result, sizeof result, "%s\n", sample->result);
+    struct done batch = run(corrector_batch, set, sample->confirm, sample->methods, line, OUTPUT);
+    return gives(&read, sample->result) && counts(&read, sample) && gives(&batch, result) && counts(&batch, sample);
+}
+
+static void test_samples(const uint8_t *set)
+{
+    for (size_t i = 0; i < SAMPLES; i++)
+        check(samples[i].read, sample_right(set, &samples[i]));
+    struct done two = run(corrector_batch, set, 1, "\3", "AACGCCG\nAA\n", OUTPUT);
+    check("two lines", gives(&two, "AACTCCG\nAA\n") && two.answer[CORRECTOR_TURNS] == 1 && two.answer[CORRECTOR_LOOKUPS] == 24);
+    struct done none = run(corrector_batch, set, 1, "\3", "", OUTPUT);
+    check("empty batch", gives(&none, ""));
+    struct done list = run(corrector_read, set, 1, "\3\1", "AACGC", OUTPUT);
+    check("two methods", gives(&list, "AACTC"));
+}
+
+/* ---- refusals */
+
+static int refused_alike(const uint8_t *set, uint8_t confirm, const char *methods, const char *input, size_t room, uint64_t number, uint64_t place)
+{
+    struct done read = run(corrector_read, set, confirm, methods, input, room);
+    struct done batch = run(corrector_batch, set, confirm, methods, input, room);
+    return refuses(&read, room, number, place) && refuses(&batch, room, number, place);
+}
+
+static void test_input_refusals(const uint8_t *set)
+{
+    size_t length = CORRECTOR_MAX_INPUT + 1;
+    char *input = malloc(length + 1);
+    memset(input, '\n', length);
+    input[length] = 0;
+    check("1", refused_alike(set, 1, "\1", input, OUTPUT, CORRECTOR_INPUT_LENGTH, 0));
+    check("2", refused_alike(set, 1, "\1\1\1\1\1\1\1\1\1", "\n", OUTPUT, CORRECTOR_METHOD_COUNT, 0));
+    check("3", refused_alike(set, 1, "\1\4\5", "\n", OUTPUT, CORRECTOR_METHOD_UNKNOWN, 2));
+    check("4", refused_alike(set, 0, "\1", "\n", OUTPUT, CORRECTOR_CONFIRM_ZERO, 0));
+    input[WORK / 2 + 1] = 0;
+    check("5", refused_alike(set, 1, "\1", input, OUTPUT, CORRECTOR_BUFFERS, 0));
+    struct done open_ended = run(corrector_batch, set, 1, "\1", "AA\nAAC", OUTPUT);
+    check("6, no final 10", refuses(&open_ended, OUTPUT, CORRECTOR_BATCH, 0));
+    check("2 before 4", refused_alike(set, 0, "\1\1\1\1\1\1\1\1\1", "\n", OUTPUT, CORRECTOR_METHOD_COUNT, 0));
+    free(input);
+}
+
+static uint64_t lines(const uint8_t *set, size_t count)
+{
+    uint8_t batch[CORRECTOR_MAX_LINES + 1], output[sizeof batch], work[2 * sizeof batch];
+    memset(batch, '\n', sizeof batch);
+    return corrector_batch(set, SET, 1, (const uint8_t *)"\1", 1, batch, count, output, sizeof output, work, sizeof work, (uint64_t[]){0}, 0);
+}
+
+static void test_lines(const uint8_t *set)
+{
+    check("as many lines as may be", lines(set, CORRECTOR_MAX_LINES) == 0);
+    check("6, a line more", lines(set, CORRECTOR_MAX_LINES + 1) == CORRECTOR_BATCH);
+}
+
+static int set_refused(const uint8_t *set, size_t length, uint64_t number, uint64_t place)
+{
+    struct done done;
+    uint64_t opened[CORRECTOR_OPEN_NUMBERS] = {KEPT, KEPT, KEPT, KEPT};
+    memset(&done, FILL, sizeof done);
+    done.number = corrector_read(
+        set, length, 1, (const uint8_t *)"\1", 1, (const uint8_t *)"AAC", 3, done.output, OUTPUT, done.work, WORK, done.answer, CORRECTOR_CALL_NUMBERS);
+    return refuses(&done, OUTPUT, number, place) && corrector_open(set, length, opened, CORRECTOR_OPEN_NUMBERS) == number
+        && opened[CORRECTOR_NUMBER] == number && opened[CORRECTOR_PLACE] == place && opened[CORRECTOR_K] == 0 && opened[CORRECTOR_N] == 0
+        && corrector_count_solid(set, length, (const uint8_t *)"AAC", 3) == 0;
+}
+
+static void test_set_refusals(void)
+{
+    uint8_t set[SET];
+    sample_set(set);
+    check("7, empty", set_refused(set, 0, CORRECTOR_SET_LENGTH, 0));
+    check("7, cut", set_refused(set, SET - 1, CORRECTOR_SET_LENGTH, 0));
+    set[SET - 9]++;
+    check("8", set_refused(set, SET, CORRECTOR_SET_CHECK, 1));
+    sample_set(set);
+    check("9, a block missing", set_refused(set, BLOCK, CORRECTOR_SET_HEADER, 0));
+    put_word(set, 0, 4);
+    put_word(set, 63, 10);
+    check("9, even k", set_refused(set, SET, CORRECTOR_SET_HEADER, 0));
+    sample_set(set);
+    put_word(set, 64 + 2, 52);
+    put_word(set, 127, 201);
+    check("10", set_refused(set, SET, CORRECTOR_SET_KEY, 2));
+}
+
+static void test_no_room(const uint8_t *set)
+{
+    struct done read = run(corrector_read, set, 1, "\1", "AACC", 4);
+    check("11, read", refuses(&read, 4, CORRECTOR_NO_ROOM, 0));
+    struct done batch = run(corrector_batch, set, 1, "\1", "AA\nAACC\n", 8);
+    check("11, batch", refuses(&batch, 8, CORRECTOR_NO_ROOM, 1));
+    batch = run(corrector_batch, set, 1, "\1", "AA\nAACC\n", 9);
+    check("11, just room", batch.number == 0 && batch.answer[CORRECTOR_WRITTEN] == 9);
+}
+
+/* ---- answers of every length: what is written is the start of the whole answer */
+
+static int starts_alike(const uint64_t *answer, size_t length, const uint64_t *whole, size_t numbers, size_t room)
+{
+    for (size_t i = 0; i < room; i++)
+        if (answer[i] != (i < length && i < numbers ? whole[i] : KEPT))
+            return 0;
+    return 1;
+}
+
+static int short_answers(call *entry, const uint8_t *set, uint8_t confirm, const char *input)
+{
+    struct done whole = run(entry, set, confirm, "\1", input, OUTPUT);
+    for (size_t length = 0; length <= 10; length++) {
+        uint64_t answer[12];
+        uint8_t output[OUTPUT], work[WORK];
+        for (size_t i = 0; i < 12; i++)
+            answer[i] = KEPT;
+        memset(output, FILL, OUTPUT);
+        memset(work, FILL, WORK);
+        uint64_t number = entry(
+            set, SET, confirm, (const uint8_t *)"\1", 1, (const uint8_t *)input, strlen(input), output, OUTPUT, work, WORK, answer, length);
+        if (number != whole.number || !starts_alike(answer, length, whole.answer, CORRECTOR_CALL_NUMBERS, 12)
+            || memcmp(output, whole.output, OUTPUT) != 0 || memcmp(work, whole.work, WORK) != 0)
+            return 0;
+    }
+    return 1;
+}
+
+static int short_openings(const uint8_t *set, size_t set_length, const uint64_t *whole)
+{
+    for (size_t length = 0; length <= 6; length++) {
+        uint64_t answer[8];
+        for (size_t i = 0; i < 8; i++)
+            answer[i] = KEPT;
+        if (corrector_open(set, set_length, answer, length) != whole[0] || !starts_alike(answer, length, whole, CORRECTOR_OPEN_NUMBERS, 8))
+            return 0;
+    }
+    return 1;
+}
+
+static void test_answers(const uint8_t *set)
+{
+    static const uint64_t opened[] = {0, 0, 3, 5}, cut[] = {7, 0, 0, 0};
+    uint8_t wrong[SET];
+    memcpy(wrong, set, SET);
+    wrong[SET - 1]++;
+    static const uint64_t damaged[] = {8, 1, 0, 0};
+    check("answers of open", short_openings(set, SET, opened) && short_openings(set, SET - 1, cut) && short_openings(wrong, SET, damaged));
+    check("answers of read", short_answers(corrector_read, set, 1, "AACGC"));
+    check("answers of a refused read", short_answers(corrector_read, set, 0, "AACGC"));
+    check("answers of batch", short_answers(corrector_batch, set, 1, "AACGC\nAACGCCG\n"));
+    check("answers of a refused batch", short_answers(corrector_batch, set, 1, "AACGC"));
+}
+
+static uint64_t count(const uint8_t *set, const char *read)
+{
+    return corrector_count_solid(set, SET, (const uint8_t *)read, strlen(read));
+}
+
+static void test_count(const uint8_t *set)
+{
+    check("solid k-mers", count(set, "AACTCCG") == 5 && count(set, "AACGC") == 1 && count(set, "AAC") == 1 && count(set, "ACGT") == 0);
+    check("no k-mers", count(set, "AA") == 0 && count(set, "") == 0);
+}
+
+/* ---- threads: the set is shared, the buffers are each thread's own, and its stack is what the header asks for */
+
+static struct done alone[SAMPLES];
+
+static void *in_thread(void *set)
+{
+    size_t *differ = calloc(1, sizeof *differ);
+    for (size_t i = 0; i < CALLS * SAMPLES; i++) {
+        const struct sample *sample = &samples[i % SAMPLES];
+        struct done done = run(corrector_read, set, sample->confirm, sample->methods, sample->read, OUTPUT);
+        *differ += memcmp(&done, &alone[i % SAMPLES], sizeof done) != 0;
+    }
+    return differ;
+}
+
+static void test_threads(uint8_t *set)
+{
+    pthread_t threads[THREADS];
+    pthread_attr_t attributes;
+    for (size_t i = 0; i < SAMPLES; i++)
+        alone[i] = run(corrector_read, set, samples[i].confirm, samples[i].methods, samples[i].read, OUTPUT);
+    pthread_attr_init(&attributes);
+    pthread_attr_setstacksize(&attributes, CORRECTOR_STACK);
+    for (size_t i = 0; i < THREADS; i++)
+        if (pthread_create(&threads[i], &attributes, in_thread, set) != 0)
+            abort();
+    for (size_t i = 0; i < THREADS; i++) {
+        void *differ;
+        pthread_join(threads[i], &differ);
+        check("a thread", *(size_t *)differ == 0);
+        free(differ);
+    }
+    pthread_attr_destroy(&attributes);
+}
+
+int main(void)
+{
+    uint8_t set[SET];
+    sample_set(set);
+    test_samples(set);
+    test_input_refusals(set);
+    test_lines(set);
+    test_set_refusals();
+    test_no_room(set);
+    test_answers(set);
+    test_count(set);
+    test_threads(set);
+    printf("%d passed, %d failed\n", passed, failed);
+    return failed != 0;
+}
