@@ -73,10 +73,9 @@ impl World {
         read
     }
 
-    /// The k-mers of reads in turn.
-    pub fn kmers(&self, reads: &[Vec<u8>]) -> Vec<u64> {
-        let kmer = |window: &[u8]| window.iter().fold(0, |kmer, byte| kmer << 2 | nuc2bit(*byte));
-        reads.iter().flat_map(|read| read.windows(self.k as usize).map(kmer)).collect()
+    /// The k-mers of a read.
+    pub fn kmers(&self, read: &[u8]) -> Vec<u64> {
+        read.windows(self.k as usize).map(|window| window.iter().fold(0, |kmer, byte| kmer << 2 | nuc2bit(*byte))).collect()
     }
 }
 

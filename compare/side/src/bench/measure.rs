@@ -89,7 +89,9 @@ pub fn cell(library: &dyn Library, world: &World, method: Method, errors: usize,
         (results, rust) = best(|| reads.iter().map(|read| oracle::correct(&set, method, CONFIRM, read)).collect::<Vec<_>>());
     }
     let (report, ours) = batch(library, world, method, &reads, &results);
-    let per_lookup = |(asked, seconds): (usize, f64)| seconds / asked as f64 * report.lookups as f64;
+    let joined = joined(&reads, world.k as usize);
+    let (solid, rust_floor) = rust_floor(&set, &world.kmers(&joined));
+    let per_lookup = |seconds: f64| seconds / FLOOR as f64 * report.lookups as f64;
     Cell {
         method,
         keys: world.keys,
@@ -100,8 +102,8 @@ pub fn cell(library: &dyn Library, world: &World, method: Method, errors: usize,
         opening,
         rust,
         lookups: report.lookups,
-        floor: floor(library, world, &reads, opening).map(per_lookup),
-        rust_floor: per_lookup(rust_floor(&set, &world.kmers(&reads))),
+        floor: floor(library, world, &joined, solid).map(per_lookup),
+        rust_floor: per_lookup(rust_floor),
     }
 }
 
@@ -118,22 +120,21 @@ fn batch(library: &dyn Library, world: &World, method: Method, reads: &[Vec<u8>]
     (report, seconds)
 }
 
-/// Lookups and seconds of a plain loop over the reads' k-mers, the opening taken off.
-fn floor(library: &dyn Library, world: &World, reads: &[Vec<u8>], opening: f64) -> Option<(usize, f64)> {
-    let kmers = repeated(world.kmers(reads));
-    library.count_solid(&world.set, &kmers[..1])?;
-    let (_, seconds) = best(|| library.count_solid(&world.set, &kmers));
-    Some((kmers.len(), (seconds - opening).max(0.0)))
+/// The reads one behind the other, again and again, with as many k-mers as a plain loop asks for.
+fn joined(reads: &[Vec<u8>], k: usize) -> Vec<u8> {
+    reads.iter().flatten().cycle().take(FLOOR + k - 1).copied().collect()
 }
 
-fn rust_floor(set: &BoxKmerSet, kmers: &[u64]) -> (usize, f64) {
-    let kmers = repeated(kmers.to_vec());
-    let (_, seconds) = best(|| kmers.iter().filter(|kmer| set.get(**kmer)).count());
-    (kmers.len(), seconds)
+/// Seconds of a plain loop over the read's k-mers, those of opening and preparing the set taken off; as many are solid as the Rust finds.
+fn floor(library: &dyn Library, world: &World, read: &[u8], solid: u64) -> Option<f64> {
+    let (counted, seconds) = best(|| library.count_solid(&world.set, read));
+    assert_eq!(counted?, solid, "another count of solid k-mers than natir/br's");
+    let (_, first) = best(|| library.count_solid(&world.set, &read[..world.k as usize]));
+    Some((seconds - first).max(0.0))
 }
 
-fn repeated(kmers: Vec<u64>) -> Vec<u64> {
-    kmers.iter().cycle().take(FLOOR).copied().collect()
+fn rust_floor(set: &BoxKmerSet, kmers: &[u64]) -> (u64, f64) {
+    best(|| kmers.iter().filter(|kmer| set.get(**kmer)).count() as u64)
 }
 
 /// Opening the set, and reading the same bytes as words.
