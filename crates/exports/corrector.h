@@ -9,10 +9,10 @@
  *
  * Stack. A call keeps its tables on the stack: a thread that calls needs CORRECTOR_STACK bytes of it.
  *
- * Slices. A slice is a pointer and a count of elements. As in Rust, the pointer must not be null and must be aligned for its elements,
- * also where the count is 0, and the elements must be there and must have been given a value. `output`, `work` and `answer` may overlap
- * neither each other nor anything that is lent as const, and until the call returns nothing else may write to what is lent: a file
- * that is mapped must not be changed or cut meanwhile.
+ * Slices. A slice is a pointer and a count of elements. As for Rust's slices, the pointer must not be null and must be aligned for its
+ * elements, also where the count is 0, and every element must be initialised, those of output and work too. `output`, `work` and `answer`
+ * may overlap neither each other nor anything that is lent as const, and until the call returns nothing else may write to what is lent:
+ * a file that is mapped must not be changed or cut meanwhile. Nothing checks this.
  */
 #ifndef CORRECTOR_H
 #define CORRECTOR_H

@@ -45,7 +45,7 @@ pub record Exact (after : After) (old : List ℕ) (r : ℕ) (o w new : List ℕ)
   pub output : o ≡ after .output
   pub work : w ≡ after .work
 
--- Demand 3's ceilings, of an accepted call: numbers 3 and 4 of the answer are turns and lookups.
+-- Demand 3's ceilings, of an accepted call: turns and lookups are numbers 3 and 4 of the answer, if it has so many.
 abbrev pub Ceiling : KmerSet → ℕ → List Method → List (List ℕ) → ℕ → List ℕ → Type 0
 Ceiling set c ms reads r new =
     r ≡ 0
