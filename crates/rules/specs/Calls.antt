@@ -1,5 +1,5 @@
 -- Document 01, refusals 1 to 6 and 11, and what the single-read and the batch call answer and leave in the lent buffers.
-use Prim.Native.Nat.{ℕ, zero, suc, _+_, _*_, _-_, max}
+use Prim.Native.Nat.{ℕ, suc, _+_, _*_, _-_, max}
 use mathlib.Core.Bool.{Bool, true, false, _&&_, _||_}
 use mathlib.Core.Option.{Option, none, some}
 use mathlib.Core.List.{List, [], _∷_, _++_}
