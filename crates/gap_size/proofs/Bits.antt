@@ -1,4 +1,4 @@
--- The filter: bits that are set stay set, so a (k−1)-mer whose bits are not all set is new.
+-- The filter: bits that are set stay set, so a (k−1)-mer whose bits are not all set is new; and what the k-mers passed have put in.
 use Prim.Native.Nat.{ℕ, zero, suc, _+_, _*_, _-_, _/_, _%_, _^_, _≤_, _<_, min, max}
 use native.Mathlib.Omega.{arith}
 use native.Mathlib.Decide.{ℕ-discrete}
@@ -14,7 +14,7 @@ use lib.Seq.{getD-set-same, getD-set-other}
 use lib.Dec.{eqb}
 use lib.Bits.{bitAnd, bitOr, and-step, or-step, and-zero-r, and-self, and-mask, or-comm}
 use Rattle.rules.specs.Set.{among}
-use Rattle.rules.proofs.Kmer.{four-pos, add-is, two-four}
+use Rattle.rules.proofs.Kmer.{add-is, two-four}
 use Rattle.rules.proofs.Scan.{sole-is}
 use Rattle.rules.specs.Scan.{sole}
 use Rattle.kmer.specs.declared.Header.{Header}

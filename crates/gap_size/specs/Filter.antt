@@ -1,4 +1,4 @@
--- The bit filter over (k−1)-mers: a code's two bits in each of its two words.
+-- The bit filter: two bits in each of two words of a code, and the (k−1)-mers of a walk put in.
 use Prim.Native.Nat.{ℕ, _+_, _*_, _-_, _/_, _%_, _^_}
 use mathlib.Core.Path.{_≡_}
 use mathlib.Core.Bool.{Bool, true, false}
@@ -53,8 +53,8 @@ pub record Noted (filter filter′ : List ℕ) (code : ℕ) (r : Bool) : Type 0 
   pub kept : (z : ℕ) → In filter z → In filter′ z
   pub new : r ≡ false → In filter code → ⊥
 
--- The filter has the first and the last k − 1 letters of all k-mers passed, and w, the last of the latest. Where w was not in before, no k-mer
--- passed begins with it.
+-- The filter has the first and the last k − 1 letters of all k-mers passed, and w, the last of the latest; before is false only if none of
+-- them begins with w.
 pub record Covers (k : ℕ) (filter ys : List ℕ) (w : ℕ) (before : Bool) : Type 0 where
   pub begins : (z : ℕ) → among z ys ≡ true → In filter (prefix z)
   pub ends : (z : ℕ) → among z ys ≡ true → In filter (suffix k z)

@@ -48,7 +48,7 @@ fn suffix_of(head: Header, kmer: Kmer) -> u64
     kmer.code & (head.top - 1)
 }
 
-// Puts x into the filter; whether its last k − 1 letters may have been in before.
+// Puts the first and the last k − 1 letters of x into the filter; whether it said maybe of the last.
 fn begin(head: Header, x: Kmer, filter: &mut [u64]) -> bool
     requires { ⌜ Shifts head × (0 < length (now filter)) ⌝ }
     ensures { λ r. ⌜ Begun (head .k) (now (filter .entry)) (now (filter .exit)) (x .code) r ⌝ }
@@ -57,14 +57,14 @@ fn begin(head: Header, x: Kmer, filter: &mut [u64]) -> bool
     filter::note(filter, suffix_of(head, x))
 }
 
-// What a move meets: whether the next k-mer is one of those passed, and whether its last k − 1 letters may have been in the filter.
+// Of the next k-mer: whether it is one of those passed, and whether the filter said maybe of its last k − 1 letters.
 struct Met {
     repeats: bool,
     maybe: bool,
 }
 
-// Puts the next k-mer into the filter. One that was passed before has its first k − 1 letters in, which were the last of the k-mer before
-// it, and its last: only where the filter said maybe of both is it compared with all others.
+// Puts the next k-mer's last k − 1 letters into the filter. If the k-mer was passed before, they are in; and its first k − 1 letters were in
+// when they were put in as the last ones of the k-mer before it. So it is compared with those passed only where the filter said maybe twice.
 fn meet(
     head: Header,
     x: Kmer,
@@ -117,7 +117,7 @@ fn fill(
     Attempt::Mend(moves + 1, moves + 1, lookups)
 }
 
-// The filter goes by the number of moves, two k-mers to a word where it can, so that a short gap clears little.
+// The filter goes by the number of moves, a word for two of them where it can, so that a short gap clears little.
 fn fill_short(
     set: &[u8],
     starts: &[u32],
