@@ -4,7 +4,7 @@ use native.Mathlib.Omega.{arith}
 use native.Mathlib.Nat.{add-zero, add-assoc}
 use native.Mathlib.Numerals.{add-one}
 use borrow.Author.Tests.{eq-eqb, ne-eqb}
-use mathlib.Core.Path.{_≡_, refl, ap}
+use mathlib.Core.Path.{_≡_, refl}
 use mathlib.Core.Bool.{Bool, true, false}
 use mathlib.Core.List.{List, [], _∷_}
 use lib.ListN.{length, getD, drop, drop-of-length-le}
@@ -93,24 +93,18 @@ module _ (set : KmerSet) (c : ℕ) where
 
   -- ---- refusal 11
 
-  -- The other methods of a call and its ending play no part.
-  pub longest-any : (ms ms′ : List Method) (e e′ : List ℕ) (l : List Method) (read : List ℕ) → longest set c ms e l read ≡ longest set c ms′ e′ l read
-  unfolding longest
-  longest-any ms ms′ e e′ [] read = refl
-  longest-any ms ms′ e e′ (m ∷ l) read = ap (max (length (pass set c m read .bytes))) (longest-any ms ms′ e e′ l (pass set c m read .bytes))
-
-  module _ (ms : List Method) (room : ℕ) (m : Method) (l : List Method) (fed : List ℕ) where
+  module _ (room : ℕ) (m : Method) (l : List Method) (fed : List ℕ) where
     abbrev p : Pass
     p = pass set c m fed
 
-    pub fits : length (p .bytes) ≤ room → max room (longest set c ms [] l (p .bytes)) ≡ max room (longest set c ms [] (m ∷ l) fed)
+    pub fits : length (p .bytes) ≤ room → max room (longest set c l (p .bytes)) ≡ max room (longest set c (m ∷ l) fed)
     unfolding longest
     fits h = omega arith
 
-    pub long : room < length (p .bytes) → room < longest set c ms [] (m ∷ l) fed
+    pub long : room < length (p .bytes) → room < longest set c (m ∷ l) fed
     unfolding longest
     long h = omega arith
 
-  pub longest-end : (ms : List Method) (fed : List ℕ) → longest set c ms [] [] fed ≡ length fed
+  pub longest-end : (fed : List ℕ) → longest set c [] fed ≡ length fed
   unfolding longest
-  longest-end ms fed = refl
+  longest-end fed = refl

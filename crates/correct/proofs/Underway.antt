@@ -1,7 +1,7 @@
 -- Where a read stands on its way through the methods, pass by pass.
-use Prim.Native.Nat.{ℕ, suc, _+_, _-_, _≤_, _<_, max}
+use Prim.Native.Nat.{ℕ, _+_, _-_, _≤_, _<_, max}
 use native.Mathlib.Omega.{arith}
-use mathlib.Core.Path.{_≡_, refl, sym, ap, _∙_, subst, subst₂}
+use mathlib.Core.Path.{_≡_, refl, sym, ap, _∙_, subst}
 use mathlib.Core.List.{List, [], _∷_}
 use lib.ListN.{length, getD, take, drop}
 use lib.Seq.{length-take-le}
@@ -42,8 +42,8 @@ module _ (set : KmerSet) (c : ℕ) (methods read : List ℕ) where
     pub small : length output ≤ maxRead
     pub written : n .written ≤ length output
     pub counts : goOn set c (passOf n (held (length methods - i) output work)) (methodsOf (drop i methods)) ≡ through set c ms read
-    pub longs : max (length output) (longest set c ms [] (methodsOf (drop i methods)) (take (n .written) (held (length methods - i) output work)))
-        ≡ max (length output) (longest set c ms [] ms read)
+    pub longs : max (length output) (longest set c (methodsOf (drop i methods)) (take (n .written) (held (length methods - i) output work)))
+        ≡ max (length output) (longest set c ms read)
     pub totals : Totals i (passOf n (held (length methods - i) output work))
 
   module _ (limits : (m : Method) (fed : List ℕ) → Limited (length fed) (pass set c m fed)) where
@@ -66,9 +66,9 @@ module _ (set : KmerSet) (c : ℕ) (methods read : List ℕ) where
           small = small;
           written = omega (arith, d .1);
           counts = ap (λ (p : Rules.Pass). goOn set c p l) (d .0) ∙ begun set c m l read ∙ ap (λ (x : List Method). through set c x read) (sym split);
-          longs = ap (λ (x : List ℕ). max (length output) (longest set c ms [] l x)) bytes
-              ∙ fits set c ms (length output) m l read len
-              ∙ ap (λ (x : List Method). max (length output) (longest set c ms [] x read)) (sym split);
+          longs = ap (λ (x : List ℕ). max (length output) (longest set c l x)) bytes
+              ∙ fits set c (length output) m l read len
+              ∙ ap (λ (x : List Method). max (length output) (longest set c x read)) (sym split);
           totals = subst (Totals 1) (sym (d .0)) (one-total (length read) _ short (limits m read));
         }
 
@@ -104,9 +104,9 @@ module _ (set : KmerSet) (c : ℕ) (methods read : List ℕ) where
               ∙ ap (goOn set c (passOf n h)) (sym split)
               ∙ u .counts;
           longs = rw o
-              (ap (λ (x : List ℕ). max (length output) (longest set c ms [] l x)) bytes
-              ∙ fits set c ms (length output) m l fed len
-              ∙ ap (λ (x : List Method). max (length output) (longest set c ms [] x fed)) (sym split)
+              (ap (λ (x : List ℕ). max (length output) (longest set c l x)) bytes
+              ∙ fits set c (length output) m l fed len
+              ∙ ap (λ (x : List Method). max (length output) (longest set c x fed)) (sym split)
               ∙ u .longs);
           totals = add-total i 1 (passOf n h) (passOf r h′) (u .totals)
               (subst (Totals 1) (sym (d .0)) (one-total (length fed) _ short (limits m fed)));
@@ -114,19 +114,19 @@ module _ (set : KmerSet) (c : ℕ) (methods read : List ℕ) where
 
   -- a pass that does not fit
   pub first-full : (room : ℕ) → 0 < length methods → room < length (pass set c (methodOf (getD methods 0 0)) read .bytes)
-      → room < longest set c ms [] ms read
+      → room < longest set c ms read
   first-full room some h =
-      subst (λ (x : List Method). room < longest set c ms [] x read) (sym (methods-next methods 0 some))
-      (long set c ms room (methodOf (getD methods 0 0)) (methodsOf (drop 1 methods)) read h)
+      subst (λ (x : List Method). room < longest set c x read) (sym (methods-next methods 0 some))
+      (long set c room (methodOf (getD methods 0 0)) (methodsOf (drop 1 methods)) read h)
 
   pub next-full : (output work : List ℕ) (n : Counts) (i : ℕ) → Underway output work n i → i < length methods
       → length output < length (pass set c (methodOf (getD methods i 0)) (take (n .written) (held (length methods - i) output work)) .bytes)
-      → length output < longest set c ms [] ms read
+      → length output < longest set c ms read
   next-full output work n i u more h =
       let m : Method = methodOf (getD methods i 0) in
       let fed = take (n .written) (held (length methods - i) output work) in
-      let here = long set c ms (length output) m (methodsOf (drop (i + 1) methods)) fed h in
-      let later = subst (λ (x : List Method). length output < longest set c ms [] x fed) (sym (methods-next methods i more)) here in
+      let here = long set c (length output) m (methodsOf (drop (i + 1) methods)) fed h in
+      let later = subst (λ (x : List Method). length output < longest set c x fed) (sym (methods-next methods i more)) here in
       omega (arith, u .longs)
 
   -- all passes are done
@@ -140,17 +140,5 @@ module _ (set : KmerSet) (c : ℕ) (methods read : List ℕ) where
       let longs = rw (at, end) at (u .longs) in (
         sym (over set c (passOf n output)) ∙ counts,
         u .written,
-        omega (arith, longs, longest-end set c ms (take (n .written) output), length-take-le (n .written) output (u .written), u .written),
+        omega (arith, longs, longest-end set c (take (n .written) output), length-take-le (n .written) output (u .written), u .written),
       )
-
--- What a read counts in all, where no pass result is longer than an output can be.
-module _ (set : KmerSet) (c : ℕ) (limits : (m : Method) (fed : List ℕ) → Limited (length fed) (pass set c m fed)) where
-  pub through-totals : (l ms : List Method) (read : List ℕ) → length read ≤ maxRead → longest set c ms [] l read ≤ maxRead
-      → Totals (length l) (through set c l read)
-  unfolding through passesOf sum longest
-  through-totals [] ms read short h = record { turns = omega arith; lookups = omega arith; attempts = omega arith; accepted = omega arith }
-  through-totals (m ∷ l) ms read short h =
-      let p = pass set c m read in
-      let later = through-totals l ms (p .bytes) (omega arith) (omega arith) in
-      let e : 1 + length l ≡ suc (length l) = omega arith in
-      subst₂ Totals e (begun set c m l read) (add-total 1 (length l) p (through set c l (p .bytes)) (one-total (length read) p short (limits m read)) later)

@@ -2,7 +2,7 @@
 use Prim.Native.Nat.{ℕ, _+_, _≤_, _<_, _%_}
 use mathlib.Core.Path.{_≡_}
 use mathlib.Core.Bool.{true, false}
-use mathlib.Core.List.{List, []}
+use mathlib.Core.List.{List}
 use lib.ListN.{length}
 use lib.Dec.{eqb}
 use Rattle.rules.specs.Set.{KmerSet}
@@ -31,8 +31,8 @@ through set c ms read =
 -- The answer to a read through a list of methods: the result with its counts; Full exactly where a pass result (the read, if no
 -- methods) is longer than the room.
 abbrev pub ThroughIs : KmerSet → ℕ → List Method → List ℕ → ℕ → List ℕ → Pass → Type 0
-ThroughIs set c ms read room out (Done r) = (passOf r out ≡ through set c ms read) × (r .written ≤ length out) × (longest set c ms [] ms read ≤ room)
-ThroughIs set c ms read room out Full = room < longest set c ms [] ms read
+ThroughIs set c ms read room out (Done r) = (passOf r out ≡ through set c ms read) × (r .written ≤ length out) × (longest set c ms read ≤ room)
+ThroughIs set c ms read room out Full = room < longest set c ms read
 
 pub record Through (set : KmerSet) (c : ℕ) (methods read output output′ work work′ : List ℕ) (r : Pass) : Type 0 where
   pub is : ThroughIs set c (methodsOf methods) read (length output) output′ r

@@ -1,4 +1,4 @@
--- The filter: bits that are set stay set, so a k-mer whose bits are not all set is new.
+-- The filter: bits that are set stay set, so a (k−1)-mer whose bits are not all set is new; and what the k-mers passed have put in.
 use Prim.Native.Nat.{ℕ, zero, suc, _+_, _*_, _-_, _/_, _%_, _^_, _≤_, _<_, min, max}
 use native.Mathlib.Omega.{arith}
 use native.Mathlib.Decide.{ℕ-discrete}
@@ -7,13 +7,20 @@ use borrow.Author.Tests.{eqb-true, eqb-false}
 use mathlib.Core.Path.{_≡_, refl, sym, ap, _∙_, subst}
 use mathlib.Core.Logic.{_⊎_, inl, inr, ⊎-elim}
 use mathlib.Core.Bool.{Bool, true, false, _||_, false≢true}
+use mathlib.Core.Option.{some}
 use mathlib.Core.List.{List, [], _∷_, _++_}
 use lib.ListN.{length, getD, set, length-set}
 use lib.Seq.{getD-set-same, getD-set-other}
 use lib.Dec.{eqb}
-use lib.Bits.{bitAnd, bitOr, and-step, or-step, and-zero-r, and-self, or-comm}
+use lib.Bits.{bitAnd, bitOr, and-step, or-step, and-zero-r, and-self, and-mask, or-comm}
 use Rattle.rules.specs.Set.{among}
-use Rattle.gap_size.specs.Filter.{place, marks, In, Noted, Covers, Asked}
+use Rattle.rules.proofs.Kmer.{add-is, two-four}
+use Rattle.rules.proofs.Scan.{sole-is}
+use Rattle.rules.specs.Scan.{sole}
+use Rattle.kmer.specs.declared.Header.{Header}
+use Rattle.kmer.specs.Kmer.{Shifts}
+use Rattle.gap_size.specs.declared.Met.{Met}
+use Rattle.gap_size.specs.Filter.{prefix, suffix, hashOf, slotOf, bitsOf, Has, In, Marked, Noted, Covers, Begun, Asked}
 
 within : (k w m b : ℕ) → b < 2 ^ k → bitAnd w b ≡ b → bitAnd (bitOr w m) b ≡ b
 within zero w m b lt h = let z : b ≡ 0 = omega arith in rw z (and-zero-r (bitOr w m))
@@ -47,17 +54,31 @@ kept-at filter at m lt j b h = elim (ℕ-discrete j at) [
   | no n ↦ rw (getD-set-other filter at j _ 0 n) h
 ]
 
--- a code put in
-pub noted : (filter : List ℕ) (code at m : ℕ) → at ≡ place (length filter) code → m ≡ marks code → at < length filter
-    → Noted filter (set filter at (bitOr (getD filter at 0) m)) code (eqb (bitAnd (getD filter at 0) m) m)
-unfolding In
-noted filter code at m a-is m-is lt =
+-- bits of a word set
+pub marked : (filter : List ℕ) (hash bits at : ℕ) → at ≡ slotOf hash (length filter) → at < length filter
+    → Marked filter (set filter at (bitOr (getD filter at 0) bits)) hash bits (eqb (bitAnd (getD filter at 0) bits) bits)
+unfolding Has
+marked filter hash bits at a-is lt =
     record {
       same = length-set filter at _;
-      now-in = rw (length-set, ← a-is, ← m-is, getD-set-same filter at _ 0 lt) (set-bits (getD filter at 0) m);
-      kept = λ z h. rw length-set (kept-at filter at m lt (place (length filter) z) (marks z) h);
-      new = λ e h. eqb-false _ _ e (rw (← a-is, ← m-is) at h);
+      now-has = rw (length-set, ← a-is, getD-set-same filter at _ 0 lt) (set-bits (getD filter at 0) bits);
+      kept = λ h b e. rw length-set (kept-at filter at bits lt (slotOf h (length filter)) b e);
+      new = λ e h. eqb-false _ _ e (rw (← a-is) at h);
     }
+
+-- a code put in, where the answer is no only if one of the two is
+module _ {filter mid filter′ : List ℕ} {code h b b′ : ℕ} {r r′ q : Bool} (h-is : h ≡ hashOf code) (b-is : b ≡ bitsOf (h / 2 ^ 18))
+    (b′-is : b′ ≡ bitsOf (h / 2 ^ 30)) where
+  pub noted : Marked filter mid (h / 2 ^ 42) b r → Marked mid filter′ h b′ r′ → (q ≡ false → (r ≡ false) ⊎ (r′ ≡ false)) → Noted filter filter′ code q
+  noted v₀ w₀ told =
+      let v = rw (b-is, h-is) at v₀ in
+      let w = rw (b′-is, h-is) at w₀ in
+      record {
+        same = w .same ∙ v .same;
+        now-in = record { one = w .kept _ _ (v .now-has); other = w .now-has };
+        kept = λ z i. record { one = w .kept _ _ (v .kept _ _ (i .one)); other = w .kept _ _ (v .kept _ _ (i .other)) };
+        new = λ e i. ⊎-elim (λ n. v .new n (i .one)) (λ n. w .new n (v .kept _ _ (i .other))) (told e);
+      }
 
 among-snoc : (z a : ℕ) (ys : List ℕ) → among z (ys ++ (a ∷ [])) ≡ true → (among z ys ≡ true) ⊎ (z ≡ a)
 unfolding among
@@ -73,26 +94,64 @@ among-snoc z a (y ∷ ys) h = go (among-snoc z a ys) (eqb z y) h
     go i true g = inl refl
     go i false g = i g
 
-pub covers-one : {filter filter′ : List ℕ} {code : ℕ} {r : Bool} → Noted filter filter′ code r → Covers filter′ (code ∷ [])
+among-one : (z a : ℕ) → among z (a ∷ []) ≡ true → z ≡ a
 unfolding among
-covers-one {filter} {filter′} {code} w = record { has = λ z h. go z (eqb z code) refl h }
-  where
-    go : (z : ℕ) (t : Bool) → eqb z code ≡ t → t || false ≡ true → In filter′ z
-    go z true e h = subst (In filter′) (sym (eqb-true z code e)) (w .now-in)
-    go z false e h = absurd (false≢true h)
+among-one z a h = ⊎-elim (λ e. absurd (false≢true e)) (λ e. e) (among-snoc z a [] h)
 
-module _ {filter filter′ ys : List ℕ} {code : ℕ} {r : Bool} (w : Noted filter filter′ code r) (h : Covers filter ys) where
-  pub asked-seen : {q : Bool} → q ≡ among code ys → Asked filter filter′ ys code q
-  asked-seen e =
+-- ---- the (k−1)-mers of a walk
+
+-- the last k − 1 letters, by a mask
+pub suffix-is : {head : Header} → Shifts head → (y : ℕ) → bitAnd y (head .top - 1) ≡ suffix (head .k) y
+suffix-is {head} s y = rw (s .top-is, ← two-four (head .k - 1)) (and-mask y (2 * (head .k - 1)))
+
+-- a successor begins as the k-mer before it ends
+pub prefix-is : (k : ℕ) (sol : ℕ → Bool) (y z : ℕ) → 1 ≤ k → sole k sol y .answer ≡ some z → prefix z ≡ suffix k y
+prefix-is zero sol y z l e = absurd (omega arith)
+prefix-is (suc j) sol y z l e =
+    let o = sole-is (suc j) sol y z e in
+    let e′ : suc j - 1 ≡ j = omega arith in
+    rw (o .is, add-is j y (o .by) (o .by-lt), e′) (omega (arith, o .by-lt))
+
+pub begun : (k x : ℕ) {filter mid filter′ : List ℕ} {r r′ : Bool} → Noted filter mid (prefix x) r → Noted mid filter′ (suffix k x) r′
+    → Begun k filter filter′ x r′
+begun k x {filter} {mid} {filter′} v w =
+    record {
+      same = w .same ∙ v .same;
+      covers =
+          record {
+            begins = λ z h. subst (λ (y : ℕ). In filter′ (prefix y)) (sym (among-one z x h)) (w .kept (prefix x) (v .now-in));
+            ends = λ z h. subst (λ (y : ℕ). In filter′ (suffix k y)) (sym (among-one z x h)) (w .now-in);
+            latest = w .now-in;
+            new = λ e z h p. w .new e (subst (In mid) (sym (ap prefix (among-one z x h)) ∙ p) (v .now-in));
+          };
+    }
+
+module _ (k y : ℕ) {filter filter′ ys : List ℕ} {before maybe : Bool} (h : Covers k filter ys (prefix y) before)
+    (w : Noted filter filter′ (suffix k y) maybe) where
+  -- the next k-mer is passed
+  pub asked : {q : Bool} → q ≡ among y ys → Asked k filter filter′ ys y (record { repeats = q; maybe = maybe })
+  asked e =
       record {
         is = e;
         same = w .same;
-        covers = record { has = λ z g. ⊎-elim (λ a. w .kept z (h .has z a)) (λ a. subst (In filter′) (sym a) (w .now-in)) (among-snoc z code ys g) };
+        covers =
+            record {
+              begins = λ z g. w .kept (prefix z) (had z (among-snoc z y ys g));
+              ends =
+                  λ z g. ⊎-elim (λ a. w .kept (suffix k z) (h .ends z a)) (λ a. subst (λ (y′ : ℕ). In filter′ (suffix k y′)) (sym a) (w .now-in))
+                  (among-snoc z y ys g);
+              latest = w .now-in;
+              new = λ e′ z g p. w .new e′ (subst (In filter) p (had z (among-snoc z y ys g)));
+            };
       }
-
-  pub asked-new : r ≡ false → Asked filter filter′ ys code false
-  asked-new e = asked-seen (go (among code ys) refl)
     where
-      go : (t : Bool) → among code ys ≡ t → false ≡ t
-      go true g = absurd (w .new e (h .has code g))
+      had : (z : ℕ) → (among z ys ≡ true) ⊎ (z ≡ y) → In filter (prefix z)
+      had z = ⊎-elim (h .begins z) (λ a. subst (λ (y′ : ℕ). In filter (prefix y′)) (sym a) (h .latest))
+
+  -- it is new where either answer was no
+  pub not-passed : (before ≡ false) ⊎ (maybe ≡ false) → false ≡ among y ys
+  not-passed e = go (among y ys) refl
+    where
+      go : (t : Bool) → among y ys ≡ t → false ≡ t
+      go true g = absurd (⊎-elim (λ n. h .new n y g refl) (λ n. w .new n (h .ends y g)) e)
       go false g = refl

@@ -1,4 +1,4 @@
--- The bit filter: a k-mer's word and its bits there.
+-- The bit filter: two bits in each of two words of a code, and the (k−1)-mers of a walk put in.
 use Prim.Native.Nat.{ℕ, _+_, _*_, _-_, _/_, _%_, _^_}
 use mathlib.Core.Path.{_≡_}
 use mathlib.Core.Bool.{Bool, true, false}
@@ -6,8 +6,16 @@ use mathlib.Core.List.{List, [], _∷_, _++_}
 use lib.ListN.{length, getD}
 use lib.Bits.{bitAnd, bitOr, bitXor}
 use Rattle.rules.specs.Set.{among}
+use Rattle.gap_size.specs.declared.Met.{Met}
 
--- A k-mer's code, mixed and spread out.
+-- A k-mer's first k − 1 letters, and its last.
+abbrev pub prefix : ℕ → ℕ
+prefix y = y / 4
+
+abbrev pub suffix : ℕ → ℕ → ℕ
+suffix k y = y % 4 ^ (k - 1)
+
+-- A code, mixed and spread out.
 abbrev pub mixed : ℕ → ℕ
 mixed code = bitXor (code % 4294967296 * 2654435761) (code / 2 ^ 32 * 2246822519)
 
@@ -16,41 +24,50 @@ hashOf code = bitXor (mixed code) (mixed code / 2 ^ 29) % 4294967296 * 326648991
 
 -- The place of a word among len.
 abbrev pub slotOf : ℕ → ℕ → ℕ
-slotOf hash len = bitAnd (hash / 2 ^ 46) (len - 1)
+slotOf hash len = bitAnd hash (len - 1)
 
--- A bit of a word.
-abbrev pub bit : ℕ → ℕ
-bit place = 1 * 2 ^ (place % 64) % 2 ^ 64
-
--- Three bits of a word.
+-- Two bits of a word.
 abbrev pub bitsOf : ℕ → ℕ
-bitsOf hash = bitOr (bitOr (bit (hash / 2 ^ 28)) (bit (hash / 2 ^ 34))) (bit (hash / 2 ^ 40))
+bitsOf hash = bitOr (1 * 2 ^ (hash % 64) % 2 ^ 64) (1 * 2 ^ (hash / 2 ^ 6 % 64) % 2 ^ 64)
 
--- A k-mer's word among len, and its bits there.
-unfoldable pub place : ℕ → ℕ → ℕ
-place len code = slotOf (hashOf code) len
+-- These bits are set in that word.
+unfoldable pub Has : List ℕ → ℕ → ℕ → Type 0
+Has filter hash bits = bitAnd (getD filter (slotOf hash (length filter)) 0) bits ≡ bits
 
-unfoldable pub marks : ℕ → ℕ
-marks code = bitsOf (hashOf code)
+-- All bits of a code are set.
+pub record In (filter : List ℕ) (code : ℕ) : Type 0 where
+  pub one : Has filter (hashOf code / 2 ^ 42) (bitsOf (hashOf code / 2 ^ 18))
+  pub other : Has filter (hashOf code) (bitsOf (hashOf code / 2 ^ 30))
 
--- All bits of a k-mer are set.
-unfoldable pub In : List ℕ → ℕ → Type 0
-unfolding place marks
-In filter code = bitAnd (getD filter (place (length filter) code) 0) (marks code) ≡ marks code
+-- Bits are set, and none is cleared. The answer is no only where they were not all set.
+pub record Marked (filter filter′ : List ℕ) (hash bits : ℕ) (r : Bool) : Type 0 where
+  pub same : length filter′ ≡ length filter
+  pub now-has : Has filter′ hash bits
+  pub kept : (h b : ℕ) → Has filter h b → Has filter′ h b
+  pub new : r ≡ false → Has filter hash bits → ⊥
 
--- A k-mer is put in, and none goes out. The answer is no only where it was not in.
+-- A code is put in, and none goes out. The answer is no only where it was not in.
 pub record Noted (filter filter′ : List ℕ) (code : ℕ) (r : Bool) : Type 0 where
   pub same : length filter′ ≡ length filter
   pub now-in : In filter′ code
   pub kept : (z : ℕ) → In filter z → In filter′ z
   pub new : r ≡ false → In filter code → ⊥
 
--- All of a list are in.
-pub record Covers (filter ys : List ℕ) : Type 0 where
-  pub has : (z : ℕ) → among z ys ≡ true → In filter z
+-- The filter has the first and the last k − 1 letters of all k-mers passed, and w, the last of the latest; before is false only if none of
+-- them begins with w.
+pub record Covers (k : ℕ) (filter ys : List ℕ) (w : ℕ) (before : Bool) : Type 0 where
+  pub begins : (z : ℕ) → among z ys ≡ true → In filter (prefix z)
+  pub ends : (z : ℕ) → among z ys ≡ true → In filter (suffix k z)
+  pub latest : In filter w
+  pub new : before ≡ false → (z : ℕ) → among z ys ≡ true → prefix z ≡ w → ⊥
 
--- Whether a k-mer is one of a list that the filter covers, and in it goes.
-pub record Asked (filter filter′ ys : List ℕ) (code : ℕ) (r : Bool) : Type 0 where
-  pub is : r ≡ among code ys
+-- x is the only k-mer passed.
+pub record Begun (k : ℕ) (filter filter′ : List ℕ) (x : ℕ) (before : Bool) : Type 0 where
   pub same : length filter′ ≡ length filter
-  pub covers : Covers filter′ (ys ++ (code ∷ []))
+  pub covers : Covers k filter′ (x ∷ []) (suffix k x) before
+
+-- Whether the next k-mer is one of those passed, and it is passed too.
+pub record Asked (k : ℕ) (filter filter′ ys : List ℕ) (y : ℕ) (r : Met) : Type 0 where
+  pub is : r .repeats ≡ among y ys
+  pub same : length filter′ ≡ length filter
+  pub covers : Covers k filter′ (ys ++ (y ∷ [])) (suffix k y) (r .maybe)

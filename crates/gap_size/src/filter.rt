@@ -1,9 +1,9 @@
-// A bit filter over k-mers, each of them three bits of one word. What it answers changes the speed of a gap alone: bits that are not all
-// set say that a k-mer is new, and others say nothing.
+// A bit filter over (k−1)-mers, each of them two bits in each of two words. What it answers changes the speed of a gap alone: bits that are
+// not all set say that a (k−1)-mer is new, and others say nothing.
 ghost use mathlib.Core.Path.{_≡_};
 ghost use Prim.Native.Nat.{_<_};
 ghost use lib.ListN.{length};
-ghost use Rattle.gap_size.specs.Filter.{hashOf, slotOf, bitsOf, Noted};
+ghost use Rattle.gap_size.specs.Filter.{hashOf, slotOf, bitsOf, Marked, Noted};
 
 // Products that fit, so that nothing wraps; the second spreads out the codes of few letters.
 fn hash(code: u64) -> u64
@@ -17,24 +17,33 @@ fn slot(hash: u64, len: usize) -> usize
     requires { ⌜ 0 < len ⌝ }
     ensures { λ r. ⌜ (r ≡ slotOf hash len) × (r < len) ⌝ }
 {
-    ((hash >> 46) as usize) & (len - 1)
+    (hash as usize) & (len - 1)
 }
 
 fn bits(hash: u64) -> u64
     ensures { λ r. ⌜ r ≡ bitsOf hash ⌝ }
 {
-    (1 << ((hash >> 28) % 64)) | (1 << ((hash >> 34) % 64)) | (1 << ((hash >> 40) % 64))
+    (1 << (hash % 64)) | (1 << ((hash >> 6) % 64))
 }
 
-// Puts a k-mer in; whether all its bits were set before.
+// Sets bits of a word; whether all were set before.
+fn mark(filter: &mut [u64], hash: u64, marks: u64) -> bool
+    requires { ⌜ 0 < length (now filter) ⌝ }
+    ensures { λ r. ⌜ Marked (now (filter .entry)) (now (filter .exit)) hash marks r ⌝ }
+{
+    let at = slot(hash, filter.len());
+    let word = filter[at];
+    filter[at] = word | marks;
+    word & marks == marks
+}
+
+// Puts a code in; whether all its bits were set before. The places of words and bits share no bit of the hash.
 pub fn note(filter: &mut [u64], code: u64) -> bool
     requires { ⌜ 0 < length (now filter) ⌝ }
     ensures { λ r. ⌜ Noted (now (filter .entry)) (now (filter .exit)) code r ⌝ }
 {
     let h = hash(code);
-    let at = slot(h, filter.len());
-    let marks = bits(h);
-    let word = filter[at];
-    filter[at] = word | marks;
-    word & marks == marks
+    let one = mark(filter, h >> 42, bits(h >> 18));
+    let other = mark(filter, h, bits(h >> 30));
+    one && other
 }

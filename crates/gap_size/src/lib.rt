@@ -19,7 +19,7 @@ ghost use Rattle.set.specs.Ready.{Ready};
 ghost use Rattle.scan.specs.Scan.{scanOf};
 ghost use Rattle.scan.specs.Attempt.{Attempted};
 ghost use Rattle.gap_size.specs.Gap.{passed, Fillable, Filled, later, cost};
-ghost use Rattle.gap_size.specs.Filter.{Covers, Asked};
+ghost use Rattle.gap_size.specs.Filter.{prefix, suffix, Covers, Begun, Asked};
 
 // Whether a k-mer is x or one of those that the letters of that many moves lead through.
 fn seen(head: Header, x: Kmer, letters: &[u8], moves: usize, code: u64) -> bool
@@ -40,24 +40,47 @@ fn seen(head: Header, x: Kmer, letters: &[u8], moves: usize, code: u64) -> bool
     false
 }
 
-// The same, asked of the next k-mer, which goes into the filter: only where its bits were all set is it compared with the others.
-fn repeats(
+// The code of a k-mer's last k − 1 letters.
+fn suffix_of(head: Header, kmer: Kmer) -> u64
+    requires { ⌜ Shifts head ⌝ }
+    ensures { λ r. ⌜ r ≡ suffix (head .k) (kmer .code) ⌝ }
+{
+    kmer.code & (head.top - 1)
+}
+
+// Puts the first and the last k − 1 letters of x into the filter; whether it said maybe of the last.
+fn begin(head: Header, x: Kmer, filter: &mut [u64]) -> bool
+    requires { ⌜ Shifts head × (0 < length (now filter)) ⌝ }
+    ensures { λ r. ⌜ Begun (head .k) (now (filter .entry)) (now (filter .exit)) (x .code) r ⌝ }
+{
+    filter::note(filter, x.code >> 2);
+    filter::note(filter, suffix_of(head, x))
+}
+
+// Of the next k-mer: whether it is one of those passed, and whether the filter said maybe of its last k − 1 letters.
+struct Met {
+    repeats: bool,
+    maybe: bool,
+}
+
+// Puts the next k-mer's last k − 1 letters into the filter. If the k-mer was passed before, they are in; and its first k − 1 letters were in
+// when they were put in as the last ones of the k-mer before it. So it is compared with those passed only where the filter said maybe twice.
+fn meet(
     head: Header,
     x: Kmer,
     letters: &[u8],
     moves: usize,
-    code: u64,
+    before: bool,
+    next: Kmer,
     filter: &mut [u64],
-) -> bool
+) -> Met
     requires { ⌜ Shifts head × IsKmer (head .k) x × (moves < length (now letters)) × (0 < length (now filter)) ⌝ }
-    requires { ⌜ Covers (now filter) (passed (head .k) (x .code) moves (now letters)) ⌝ }
-    ensures { λ r. ⌜ Asked (now (filter .entry)) (now (filter .exit)) (passed (head .k) (x .code) moves (now (letters .entry))) code r ⌝ }
+    requires { ⌜ Covers (head .k) (now filter) (passed (head .k) (x .code) moves (now letters)) (prefix (next .code)) before ⌝ }
+    ensures { λ r. ⌜ Asked (head .k) (now (filter .entry)) (now (filter .exit)) (passed (head .k) (x .code) moves (now (letters .entry))) (next .code) r ⌝ }
 {
-    if filter::note(filter, code) {
-        seen(head, x, letters, moves, code)
-    } else {
-        false
-    }
+    let maybe = filter::note(filter, suffix_of(head, next));
+    let repeats = before && maybe && seen(head, x, letters, moves, next.code);
+    Met { repeats, maybe }
 }
 
 // The moves of a gap from x, after all lookups up to x.
@@ -75,7 +98,7 @@ fn fill(
 {
     let mut lookups = scan.lookups + 4;
     graph::write_last(out, 0, x);
-    filter::note(filter, x.code);
+    let mut before = begin(head, x, filter);
     let mut at = x;
     let moves = scan.index - head.k;
     for i in 0..moves {
@@ -83,16 +106,18 @@ fn fill(
         let Next::Kmer(next) = scan::sole_next(set, starts, head, at) else {
             return Attempt::Refused(lookups);
         };
-        if repeats(head, x, out, i, next.code, filter) {
+        let met = meet(head, x, out, i, before, next, filter);
+        if met.repeats {
             return Attempt::Refused(lookups);
         }
+        before = met.maybe;
         graph::write_last(out, i + 1, next);
         at = next;
     }
     Attempt::Mend(moves + 1, moves + 1, lookups)
 }
 
-// The filter goes by the number of moves, two k-mers to a word where it can, so that a short gap clears little.
+// The filter goes by the number of moves, a word for two of them where it can, so that a short gap clears little.
 fn fill_short(
     set: &[u8],
     starts: &[u32],

@@ -1,5 +1,5 @@
 -- A walk move by move, its letters in a lent output, and the attempt that it makes.
-use Prim.Native.Nat.{ℕ, zero, suc, _+_, _*_, _-_, _/_, _^_, _≤_, _<_}
+use Prim.Native.Nat.{ℕ, suc, _+_, _*_, _-_, _/_, _^_, _≤_, _<_}
 use native.Mathlib.Omega.{arith}
 use native.Mathlib.Decide.{decLe}
 use native.Mathlib.Nat.{sub-zero}
@@ -12,7 +12,7 @@ use mathlib.Core.List.{List, [], _∷_, _++_}
 use lib.ListN.{length, take, drop, set, length-drop, length-append, length-set}
 use lib.Seq.{take-append-le, take-all, take-nil, take-suc-set, set-out}
 use Rattle.rules.specs.Letters.{lastLetter}
-use Rattle.rules.specs.Counted.{Counted, Try, after, refuse, give, next, _>>=_}
+use Rattle.rules.specs.Counted.{Try, after, refuse, give, next, _>>=_}
 use Rattle.rules.specs.Scan as rules
 use Rattle.rules.specs.Scan.{sole, alternative, errorLen}
 use Rattle.rules.specs.Exist.{Mend}

@@ -4,7 +4,7 @@ use mathlib.Core.Path.{_≡_}
 use mathlib.Core.Option.{none, some}
 use mathlib.Core.List.{List, _∷_}
 use lib.ListN.{length, take, drop}
-use Rattle.rules.specs.Refusal.{Refusal, Check}
+use Rattle.rules.specs.Refusal.{Check}
 use Rattle.rules.specs.Job.{lines}
 use Rattle.input.specs.declared.Input.{Input}
 use Rattle.input.specs.declared.Input.the-variants.{Fine, Long, Methods, Unknown, Confirm, Buffers}

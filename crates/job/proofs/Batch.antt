@@ -23,7 +23,6 @@ use Rattle.job.specs.declared.Answer.{Answer}
 use Rattle.job.specs.declared.Answer.the-variants.{Report as Reported, Refused}
 use Rattle.job.specs.Answer.{Exact}
 use Rattle.correct.specs.Pass.{passOf}
-use Rattle.correct.proofs.InTurn.{longest-any}
 use Rattle.correct.specs.Through.{through}
 use Rattle.job.specs.Reads.{Checked, Cleared, reportOn, lineThrough, LineIs, added, Countable}
 use Rattle.correct.proofs.Limits.{Limited, pass-limited}
@@ -138,7 +137,7 @@ module _ (set : KmerSet) (c : ℕ) (ms : List Method) where
         sym (length-take-le w (drop (done .written) o′) (omega (arith, length-drop (done .written) o′, h .2)))
         ∙ ap length bytes ∙ length-append (result set c ms read) ending in
         let left-is : room - done .written - (length (result set c ms read) + 1) ≡ room - (done .written + w) = omega arith in
-        let more = read-small set c limits ms read few short (omega (arith, longest-any set c ms ms [] ending ms read, h .3, g .length-is)) in
+        let more = read-small set c limits ms read few short (omega (arith, h .3, g .length-is)) in
         let t = g .small in
         record {
           lines = omega (arith, g .lines);

@@ -28,16 +28,16 @@ module _ (set : KmerSet) (c : ℕ) (ms : List Method) where
   module _ (ending : List ℕ) where
     -- ---- 11 at the first read from number i on, or what is left for the later ones
 
-    pub too-long-here : (i left : ℕ) (read : List ℕ) (reads : List (List ℕ)) → left < longest set c ms ending ms read + length ending
+    pub too-long-here : (i left : ℕ) (read : List ℕ) (reads : List (List ℕ)) → left < longest set c ms read + length ending
         → tooLong set c ms ending i left (read ∷ reads) ≡ some i
     unfolding tooLong
-    too-long-here i left read reads h = rw (tooLong, lt-ltb left (longest set c ms ending ms read + length ending) h)
+    too-long-here i left read reads h = rw (tooLong, lt-ltb left (longest set c ms read + length ending) h)
 
-    pub too-long-later : (i left : ℕ) (read : List ℕ) (reads : List (List ℕ)) → longest set c ms ending ms read + length ending ≤ left
+    pub too-long-later : (i left : ℕ) (read : List ℕ) (reads : List (List ℕ)) → longest set c ms read + length ending ≤ left
         → tooLong set c ms ending i left (read ∷ reads)
         ≡ tooLong set c ms ending (suc i) (left - (length (result set c ms read) + length ending)) reads
     unfolding tooLong
-    too-long-later i left read reads h = rw (tooLong, le-ltb left (longest set c ms ending ms read + length ending) h)
+    too-long-later i left read reads h = rw (tooLong, le-ltb left (longest set c ms read + length ending) h)
 
     module _ (g : Given) (reads : List (List ℕ)) where
       pub corrected-full : (line : ℕ) → tooLong set c ms ending 0 (length (g .output)) reads ≡ some line

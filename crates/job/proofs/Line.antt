@@ -12,7 +12,6 @@ use Rattle.rules.specs.Job.{Method, methodsOf}
 use Rattle.correct.specs.declared.Counts.{Counts}
 use Rattle.correct.specs.declared.Pass.{Pass}
 use Rattle.correct.specs.declared.Pass.the-variants.{Done, Full}
-use Rattle.correct.proofs.InTurn.{longest-any}
 use Rattle.correct.specs.Through.{ThroughIs, Through}
 use Rattle.job.specs.Reads.{LineIs}
 
@@ -50,7 +49,7 @@ module _ (o : List ℕ) (at : ℕ) (h : at < length o) where
     pub line-full : passed ≡ Full → LineIs (setOf bytes) c ms line at o o₁ Full
     line-full e =
         let is = subst (ThroughIs (setOf bytes) c ms line (length lent) part) e (t .is) in
-        omega (arith, is, lent-length, longest-any (setOf bytes) c ms ms [] (10 ∷ []) ms line)
+        omega (arith, is, lent-length)
 
     module _ (done : Counts) (e : passed ≡ Done done) where
       is : ThroughIs (setOf bytes) c ms line (length lent) part (Done done)
@@ -90,5 +89,5 @@ module _ (o : List ℕ) (at : ℕ) (h : at < length o) where
             },
             take-set-le at o₁ (at + n) 10 (omega arith) ∙ take-at (take at o) (part ++ drop room (drop at o)) at front,
             omega (arith, line-within, same),
-            omega (arith, is .2, lent-length, longest-any (setOf bytes) c ms ms [] (10 ∷ []) ms line),
+            omega (arith, is .2, lent-length),
           )

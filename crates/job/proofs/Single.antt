@@ -40,10 +40,10 @@ module _ (set : KmerSet) (c : ℕ) (ms : List Method) (read : List ℕ) where
     accepted = sum (corrections set c) (passes-are i);
   }
 
-  pub single-full : (room : ℕ) → room < longest set c ms [] ms read → tooLong set c ms [] 0 room (read ∷ []) ≡ some 0
+  pub single-full : (room : ℕ) → room < longest set c ms read → tooLong set c ms [] 0 room (read ∷ []) ≡ some 0
   single-full room h = too-long-here set c ms [] 0 room read [] (omega arith)
 
-  pub single-fits : (room : ℕ) → longest set c ms [] ms read ≤ room → tooLong set c ms [] 0 room (read ∷ []) ≡ none
+  pub single-fits : (room : ℕ) → longest set c ms read ≤ room → tooLong set c ms [] 0 room (read ∷ []) ≡ none
   unfolding tooLong
   single-fits room h = too-long-later set c ms [] 0 room read [] (omega arith)
 

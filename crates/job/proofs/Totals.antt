@@ -35,20 +35,20 @@ methods-length (b ∷ bs) = ap suc (methods-length bs)
 module _ (set : KmerSet) (c : ℕ) where
   -- A count that is at most l in each pass, where no pass is fed more than 1,048,576 bytes.
   sum-limited : (f : Fed → ℕ) (l : ℕ) → ((m : Method) (fed : List ℕ) → length fed ≤ maxRead → f (record { method = m; bytes = fed }) ≤ l)
-      → (ns ms : List Method) (read : List ℕ) → length read ≤ maxRead → longest set c ns [] ms read ≤ maxRead
+      → (ms : List Method) (read : List ℕ) → length read ≤ maxRead → longest set c ms read ≤ maxRead
       → sum f (passesOf set c ms read) ≤ length ms * l
   unfolding sum passesOf longest
-  sum-limited f l h ns [] read short fits = omega arith
-  sum-limited f l h ns (m ∷ ms) read short fits =
-      omega (arith, h m read short, sum-limited f l h ns ms (pass set c m read .bytes) (omega arith) (omega arith))
+  sum-limited f l h [] read short fits = omega arith
+  sum-limited f l h (m ∷ ms) read short fits =
+      omega (arith, h m read short, sum-limited f l h ms (pass set c m read .bytes) (omega arith) (omega arith))
 
   module _ (limits : (m : Method) (fed : List ℕ) → Limited (length fed) (pass set c m fed)) where
-    pub read-small : (ms : List Method) (read : List ℕ) → length ms ≤ maxMethods → length read ≤ maxRead → longest set c ms [] ms read ≤ maxRead
+    pub read-small : (ms : List Method) (read : List ℕ) → length ms ≤ maxMethods → length read ≤ maxRead → longest set c ms read ≤ maxRead
         → Small 1 (through set c ms read)
     unfolding through turns lookups attempts corrections
     read-small ms read few short fits =
-        let turned = sum-limited (turns set c) (2 * maxRead) (λ m fed s. omega (arith, limits m fed .turns)) ms ms read short fits in
-        let looked = sum-limited (lookups set c) (1 + maxRead * maxF) (λ m fed s. omega (arith, limits m fed .lookups, mul-le-mul-right maxF s)) ms ms read short fits in
-        let tried = sum-limited (attempts set c) (2 * maxRead) (λ m fed s. omega (arith, limits m fed .attempts)) ms ms read short fits in
-        let mended = sum-limited (corrections set c) (2 * maxRead) (λ m fed s. omega (arith, limits m fed .accepted)) ms ms read short fits in
+        let turned = sum-limited (turns set c) (2 * maxRead) (λ m fed s. omega (arith, limits m fed .turns)) ms read short fits in
+        let looked = sum-limited (lookups set c) (1 + maxRead * maxF) (λ m fed s. omega (arith, limits m fed .lookups, mul-le-mul-right maxF s)) ms read short fits in
+        let tried = sum-limited (attempts set c) (2 * maxRead) (λ m fed s. omega (arith, limits m fed .attempts)) ms read short fits in
+        let mended = sum-limited (corrections set c) (2 * maxRead) (λ m fed s. omega (arith, limits m fed .accepted)) ms read short fits in
         record { turns = omega arith; lookups = omega arith; attempts = omega arith; accepted = omega arith }

@@ -56,8 +56,8 @@ LineIs set c ms line at o o′ (Done r) =
     (passOf r (drop at o′) ≡ lineThrough set c ms line)
     × (take at o′ ≡ take at o)
     × (at + r .written ≤ length o)
-    × (longest set c ms (10 ∷ []) ms line + 1 ≤ length o - at)
-LineIs set c ms line at o o′ Full = length o - at < longest set c ms (10 ∷ []) ms line + 1
+    × (longest set c ms line + 1 ≤ length o - at)
+LineIs set c ms line at o o′ Full = length o - at < longest set c ms line + 1
 
 abbrev pub added : Counts → Counts → Counts
 added a b =

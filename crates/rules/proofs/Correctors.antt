@@ -1,23 +1,22 @@
 -- What each corrector may cost: One, Two, Graph and GapSize are fair to demand 3's F.
-use Prim.Native.Nat.{ℕ, zero, suc, _+_, _*_, _-_, _/_, _^_, _≤_, _<_}
+use Prim.Native.Nat.{ℕ, zero, suc, _+_, _*_, _-_, _/_, _≤_}
 use native.Mathlib.Omega.{arith}
 use native.Mathlib.Nat.{le-refl, le-trans}
-use borrow.Author.Tests.{eqb-true, eqb-false, ltb-true, ltb-false, ne-eqb}
+use borrow.Author.Tests.{eqb-true, eqb-false, ltb-false, ne-eqb}
 use mathlib.Core.Path.{_≡_, refl, sym, ap, _∙_}
 use mathlib.Core.Bool.{Bool, true, false}
 use mathlib.Core.Option.{Option, none, some, Option·some-injective, Option·none-ne-some}
 use mathlib.Core.List.{List, [], _∷_, _++_}
 use lib.ListN.{length, length-append}
 use lib.Dec.{ltb, eqb}
-use Rattle.rules.specs.Letters.{add, code, inPlace}
 use Rattle.rules.specs.Set.{among}
-use Rattle.rules.specs.Counted.{Counted, Try, after, refuse, give, _>>=_}
-use Rattle.rules.specs.Scan.{Scan, sole, alternative, scanFrom, errorLen}
+use Rattle.rules.specs.Counted.{after, refuse, give}
+use Rattle.rules.specs.Scan.{Scan, sole, alternative, errorLen}
 use Rattle.rules.specs.Exist.{Mend, one, two, exist}
-use Rattle.rules.specs.Graph.{All, end, also, Distinct, end-distinct, also-distinct, spell, moveCost, start, walkFrom, graphFrom, graph}
+use Rattle.rules.specs.Graph.{All, end, also, Distinct, end-distinct, also-distinct, spell, start, walkFrom, graphFrom, graph}
 use Rattle.rules.specs.GapSize.{gap, gapFrom, gapSize}
 use Rattle.rules.proofs.Counted.{bind-cost, bind-cost-some, bind-some}
-use Rattle.rules.proofs.Scan.{sole-is, sole-lt, sole-cost, scanCost, ScanIs, scan-is}
+use Rattle.rules.proofs.Scan.{sole-is, sole-lt, sole-cost, ScanIs, scan-is}
 use Rattle.rules.proofs.Few.{or-false, SolidKmer, Few}
 use Rattle.rules.proofs.Exist.{one-cost, two-cost, one-stays, two-stays}
 use Rattle.rules.proofs.Lookups.{FairAt, Fair, times, five-times}

@@ -4,7 +4,7 @@ use native.Mathlib.Omega.{arith}
 use native.Mathlib.Nat.{le-refl}
 use mathlib.Core.Path.{_≡_, refl}
 use mathlib.Core.Option.{Option, none, some}
-use Rattle.rules.specs.Counted.{Counted, Try, after, refuse, next, _>>=_, _>>_}
+use Rattle.rules.specs.Counted.{Try, after, refuse, next, _>>=_, _>>_}
 
 module _ {A B : Type 0} (m : Try A) (f : A → Try B) where
   -- the second part costs at most l, whatever it is given by the first

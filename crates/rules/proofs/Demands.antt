@@ -1,24 +1,24 @@
 -- What the papers ask to be proved of the rules: of every set that opens, every confirm from 1, every list of methods and reads.
 use Prim.Native.Nat.{ℕ, zero, suc, _+_, _*_, _-_, _%_, _≤_, _<_}
 use native.Mathlib.Omega.{arith}
-use borrow.Author.Tests.{ltb-true, ltb-false, lt-ltb, le-ltb}
-use mathlib.Core.Path.{_≡_, refl, sym, ap, _∙_, subst}
+use borrow.Author.Tests.{ltb-true, ltb-false}
+use mathlib.Core.Path.{_≡_, refl, sym, subst}
 use mathlib.Core.Bool.{Bool, true, false}
 use mathlib.Core.Option.{none, some}
 use mathlib.Core.List.{List, [], _∷_, _++_}
 use lib.ListN.{length, take}
 use lib.Dec.{ltb, eqb}
 use Rattle.rules.specs.Letters.{addBase}
-use Rattle.rules.specs.Refusal.{Outcome, accepted}
+use Rattle.rules.specs.Refusal.{accepted}
 use Rattle.rules.specs.Set.{KmerSet, solid, opened}
-use Rattle.rules.specs.Counted.{Counted, Try, refuse}
+use Rattle.rules.specs.Counted.{Try, refuse}
 use Rattle.rules.specs.Scan.{alternative, errorLen}
 use Rattle.rules.specs.Graph.{moveCost, start, walk, walkFrom}
-use Rattle.rules.specs.Driver.{Pass, State, turn, turnsOf, begin, drive}
+use Rattle.rules.specs.Driver.{State, turn, turnsOf, begin}
 use Rattle.rules.specs.Job.{Method, One, Two, Graph, GapSize, correctError, pass}
 use Rattle.rules.specs.Counts.{Fed, sum, allPasses, turns, lookups, W, F, ceiling}
 use Rattle.rules.proofs.Opened.{opened-odd}
-use Rattle.rules.proofs.Few.{Few, few}
+use Rattle.rules.proofs.Few.{few}
 use Rattle.rules.proofs.Driver.{Steady, drive-turns, turns-fuel, takes-base, turnsOf-grows, refused-kept}
 use Rattle.rules.proofs.Lookups.{Fair, fair-steady, drive-lookups, drive-short}
 use Rattle.rules.proofs.Walk.{walk-cost, walk-fuel}

@@ -4,16 +4,16 @@ use native.Mathlib.Omega.{arith}
 use native.Mathlib.Decide.{decLe}
 use borrow.Author.Tests.{le-ltb, lt-ltb}
 use mathlib.Core.Path.{_≡_, refl, sym, ap, _∙_}
-use mathlib.Core.Bool.{Bool, true, false, false≢true}
+use mathlib.Core.Bool.{Bool, true, false}
 use mathlib.Core.Option.{Option, none, some}
 use mathlib.Core.List.{List, [], _∷_, _++_, append-nil, append-assoc}
-use lib.ListN.{length, take, drop, length-drop, length-append}
+use lib.ListN.{length, take, drop, length-drop}
 use Rattle.rules.specs.Letters.{add, code, kmer, inPlace}
-use Rattle.rules.specs.Counted.{Counted, Try}
-use Rattle.rules.specs.Scan.{Scan, scanFrom, errorLen}
+use Rattle.rules.specs.Counted.{Try}
+use Rattle.rules.specs.Scan.{scanFrom, errorLen}
 use Rattle.rules.specs.Exist.{Mend}
-use Rattle.rules.specs.Driver.{Pass, State, keepBase, mendBase, turn, turnsOf, begin, drive}
-use Rattle.rules.proofs.Scan.{ScanIs, scan-is}
+use Rattle.rules.specs.Driver.{State, keepBase, mendBase, turn, turnsOf, begin, drive}
+use Rattle.rules.proofs.Scan.{scan-is}
 
 module _ (k : ℕ) (sol : ℕ → Bool) (ce : List ℕ → ℕ → Try Mend) where
   -- ---- a turn's four cases

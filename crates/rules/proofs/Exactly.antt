@@ -2,10 +2,10 @@
 use Prim.Native.Nat.{ℕ, suc, _/_, _<_}
 use borrow.Author.Tests.{lt-ltb}
 use mathlib.Core.Path.{_≡_, sym, ap, _∙_}
-use mathlib.Core.Bool.{Bool, true, false}
+use mathlib.Core.Bool.{Bool}
 use mathlib.Core.Option.{some, Option·some-injective}
 use mathlib.Core.List.{List, _∷_}
-use Rattle.rules.specs.Counted.{Counted, Try, after, give}
+use Rattle.rules.specs.Counted.{Try, after, give}
 use Rattle.rules.specs.Scan.{Scan, alternative, errorLen}
 use Rattle.rules.specs.Exist.{Mend}
 use Rattle.rules.specs.Graph.{Chain, spell, walkFrom, graphFrom, graph}

@@ -1,5 +1,5 @@
 -- One and Two: what an attempt costs, and what holds of the mend that it gives.
-use Prim.Native.Nat.{ℕ, zero, suc, _+_, _*_, _/_, _≤_, _<_}
+use Prim.Native.Nat.{ℕ, suc, _+_, _*_, _/_, _≤_}
 use native.Mathlib.Omega.{arith}
 use native.Mathlib.Nat.{le-trans}
 use borrow.Author.Tests.{eqb-true}
@@ -10,10 +10,10 @@ use mathlib.Core.List.{List, [], _∷_}
 use lib.ListN.{length, take, drop, length-take}
 use lib.Dec.{ltb, eqb}
 use Rattle.rules.specs.Letters.{add, addAll, code, inPlace}
-use Rattle.rules.specs.Counted.{Counted, Try, after, refuse, give, _>>=_, _>>_}
+use Rattle.rules.specs.Counted.{after, refuse, give, _>>_}
 use Rattle.rules.specs.Scan.{isSolid, notSolid, sole, alternative}
 use Rattle.rules.specs.Exist.{Mend, Scenario, row, cons, one, with, two, solidRun, score, keep, tried, kept, oneMore, oneMoreOf, choose, exist}
-use Rattle.rules.specs.Graph.{All, end, also, OnlySuccessor}
+use Rattle.rules.specs.Graph.{All, end, also}
 use Rattle.rules.proofs.Kmer.{last-one, last-two}
 use Rattle.rules.proofs.Counted.{bind-cost, bind-some, then-cost}
 use Rattle.rules.proofs.Scan.{only-all, sole-is, sole-cost, isSolid-cost, notSolid-cost}

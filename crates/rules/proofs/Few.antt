@@ -9,7 +9,7 @@ use lib.ListN.{length, length-append, length-map}
 use lib.Dec.{eqb}
 use Rattle.rules.specs.Letters.{revcomp, evenOnes, canonical}
 use Rattle.rules.specs.Set.{KmerSet, among, solid}
-use Rattle.rules.specs.Graph.{All, end, also, Distinct, end-distinct, also-distinct}
+use Rattle.rules.specs.Graph.{All, end, also, Distinct, also-distinct}
 use Rattle.rules.proofs.Kmer.{revcomp-twice}
 
 pub or-right : (t : Bool) {q : Bool} → q ≡ true → t || q ≡ true

@@ -2,17 +2,17 @@
 use Prim.Native.Nat.{ℕ, zero, suc, _+_, _*_, _-_, _≤_, _<_}
 use native.Mathlib.Omega.{arith}
 use native.Mathlib.Decide.{decLe}
-use native.Mathlib.Nat.{le-refl, le-trans, mul-le-mul-right}
-use borrow.Author.Tests.{le-ltb, lt-ltb, eqb-true, ltb-false}
-use mathlib.Core.Path.{_≡_, refl, sym, ap, _∙_}
+use native.Mathlib.Nat.{mul-le-mul-right}
+use borrow.Author.Tests.{le-ltb, lt-ltb}
+use mathlib.Core.Path.{_≡_, refl, ap, _∙_}
 use mathlib.Core.Bool.{Bool, true, false}
-use mathlib.Core.Option.{Option, none, some}
+use mathlib.Core.Option.{none, some}
 use mathlib.Core.List.{List, [], _∷_}
 use lib.ListN.{length, take, drop, length-drop}
 use Rattle.rules.specs.Letters.{add, code, kmer, inPlace}
-use Rattle.rules.specs.Counted.{Counted, Try}
+use Rattle.rules.specs.Counted.{Try}
 use Rattle.rules.specs.Exist.{Mend}
-use Rattle.rules.specs.Driver.{Pass, State, keepBase, mendBase, turn, turnsOf, begin, drive}
+use Rattle.rules.specs.Driver.{State, keepBase, mendBase, turn, turnsOf, begin, drive}
 use Rattle.rules.proofs.Scan.{scanIf, scanCost}
 use Rattle.rules.proofs.Driver.{Case, is-solid, is-quiet, is-refused, is-mended, case, turn-solid, turn-quiet, turn-refused, turn-mended, Steady, turnsOf-step, turnsOf-end}
 

@@ -4,11 +4,10 @@ use mathlib.Core.Path.{_≡_, refl}
 use mathlib.Core.Option.{Option, none, some}
 use mathlib.Core.List.{List, [], _∷_, _++_, map}
 use lib.ListN.{replicate, set}
-use Rattle.rules.specs.Refusal.{Refusal, Outcome, accepted, refused}
-use Rattle.rules.specs.Set.{KmerSet, check, opened}
+use Rattle.rules.specs.Refusal.{accepted, refused}
+use Rattle.rules.specs.Set.{check, opened}
 use Rattle.rules.specs.Driver.{Pass}
 use Rattle.rules.specs.Job.{pass}
-use Rattle.rules.specs.Report.{Report}
 use Rattle.rules.specs.Calls.{Given, After, correctRead, correctBatch}
 use Rattle.rules.specs.Samples.{A, C, T, G, sampleSet, sampleBytes, Sample, line, table}
 

@@ -1,16 +1,16 @@
 -- Successors and scan: the sole successor is the only solid one; what they cost, and where a scan ends.
-use Prim.Native.Nat.{ℕ, zero, suc, _+_, _*_, _/_, _^_, _≤_, _<_}
+use Prim.Native.Nat.{ℕ, zero, suc, _+_, _^_, _≤_, _<_}
 use native.Mathlib.Omega.{arith}
 use native.Mathlib.Nat.{le-refl}
 use mathlib.Core.Path.{_≡_, refl, sym, ap, _∙_, subst}
-use mathlib.Core.Bool.{Bool, true, false, true≢false, false≢true}
+use mathlib.Core.Bool.{Bool, true, false, false≢true}
 use mathlib.Core.Option.{Option, none, some, Option·some-injective}
 use mathlib.Core.List.{List, [], _∷_}
-use lib.ListN.{length, getD, drop}
+use lib.ListN.{length, getD}
 use Rattle.rules.specs.Letters.{add, code}
-use Rattle.rules.specs.Counted.{Counted, Try, give}
-use Rattle.rules.specs.Scan.{only, yesFrom, Scan, isSolid, notSolid, successors, u, sole, alternative, scanFrom, errorLen}
-use Rattle.rules.specs.Graph.{All, end, also, OnlySuccessor}
+use Rattle.rules.specs.Counted.{give}
+use Rattle.rules.specs.Scan.{only, yesFrom, isSolid, notSolid, successors, u, sole, scanFrom}
+use Rattle.rules.specs.Graph.{All, also, OnlySuccessor}
 use Rattle.rules.proofs.Kmer.{add-lt}
 use Rattle.rules.proofs.Counted.{bind-cost, bind-some, bind-is}
 

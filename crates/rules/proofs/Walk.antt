@@ -1,5 +1,5 @@
 -- Graph's walk: it accepts exactly when a chain exists, and it makes fewer than 6n moves.
-use Prim.Native.Nat.{ℕ, zero, suc, _+_, _*_, _-_, _^_, _≤_, _<_, max}
+use Prim.Native.Nat.{ℕ, zero, suc, _+_, _*_, _-_, _≤_, _<_, max}
 use native.Mathlib.Omega.{arith}
 use native.Mathlib.Decide.{decLe}
 use native.Mathlib.Nat.{suc-add, zero-add}
@@ -13,7 +13,7 @@ use lib.ListN.{length}
 use lib.Dec.{eqb}
 use Rattle.rules.specs.Letters.{lastLetter}
 use Rattle.rules.specs.Set.{among}
-use Rattle.rules.specs.Counted.{Counted, Try, refuse}
+use Rattle.rules.specs.Counted.{refuse}
 use Rattle.rules.specs.Scan.{sole}
 use Rattle.rules.specs.Graph.{All, end, also, Distinct, end-distinct, also-distinct, spell, OnlySuccessor, Moves, move, more, Chain, Walk, moveCost, start, moved, halt, walk, walkFrom}
 use Rattle.rules.proofs.Scan.{sole-is, sole-found, sole-lt}

@@ -1,5 +1,5 @@
 -- Document 01, refusals 1 to 6 and 11, and what the single-read and the batch call answer and leave in the lent buffers.
-use Prim.Native.Nat.{ℕ, zero, suc, _+_, _*_, _-_, max}
+use Prim.Native.Nat.{ℕ, suc, _+_, _*_, _-_, max}
 use mathlib.Core.Bool.{Bool, true, false, _&&_, _||_}
 use mathlib.Core.Option.{Option, none, some}
 use mathlib.Core.List.{List, [], _∷_, _++_}
@@ -82,20 +82,20 @@ noRoom g line =
       work = replicate (length (g .work)) 0;
     }
 
+-- The longest of a read's pass results; the read, if no methods.
+unfoldable pub longest : KmerSet → ℕ → List Method → List ℕ → ℕ
+unfolding pass
+longest set c [] read = length read
+longest set c (m ∷ rest) read = (let p : Pass = pass set c m read in max (length (p .bytes)) (longest set c rest (p .bytes)))
+
 -- A call corrects reads in turn and puts an ending behind each: nothing behind a single read, byte 10 behind a line of a batch.
 module _ (set : KmerSet) (c : ℕ) (ms : List Method) (ending : List ℕ) where
-  -- The longest of a read's pass results; the read, if no methods.
-  unfoldable pub longest : List Method → List ℕ → ℕ
-  unfolding pass
-  longest [] read = length read
-  longest (m ∷ rest) read = (let p : Pass = pass set c m read in max (length (p .bytes)) (longest rest (p .bytes)))
-
   -- 11: the first read, from number i on, of which a pass result with the ending is longer than what is left of the output.
   unfoldable pub tooLong : ℕ → ℕ → List (List ℕ) → Option ℕ
   unfolding longest result
   tooLong i left [] = none
   tooLong i left (read ∷ reads) =
-      elim (ltb left (longest ms read + length ending)) [
+      elim (ltb left (longest set c ms read + length ending)) [
         | true ↦ some i
         | false ↦ tooLong (suc i) (left - (length (result set c ms read) + length ending)) reads
       ]

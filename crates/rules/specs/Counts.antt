@@ -5,7 +5,6 @@ use mathlib.Core.List.{List, [], _∷_, _++_}
 use lib.ListN.{length}
 use lib.Dec.{ltb}
 use Rattle.rules.specs.Set.{KmerSet}
-use Rattle.rules.specs.Driver.{Pass}
 use Rattle.rules.specs.Job.{Method, One, Two, Graph, GapSize, pass}
 
 -- A pass is one read through one method: the method and what it is fed.

@@ -1,12 +1,12 @@
 -- Document 01, "Driver".
 use Prim.Native.Nat.{ℕ, zero, suc, _+_, _*_, _-_}
 use mathlib.Core.Bool.{Bool, true, false}
-use mathlib.Core.Option.{Option, none, some}
+use mathlib.Core.Option.{none, some}
 use mathlib.Core.List.{List, [], _∷_, _++_}
 use lib.ListN.{length, take, drop}
 use lib.Dec.{ltb}
 use Rattle.rules.specs.Letters.{add, addBase, code, kmer, inPlace}
-use Rattle.rules.specs.Counted.{Counted, Try}
+use Rattle.rules.specs.Counted.{Try}
 use Rattle.rules.specs.Exist.{Mend}
 
 -- What a pass gives: its bytes, and what it counts.

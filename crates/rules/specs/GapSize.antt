@@ -1,12 +1,12 @@
 -- Document 01, "Correctors", GapSize.
 use Prim.Native.Nat.{ℕ, zero, suc, _+_, _-_}
 use mathlib.Core.Bool.{Bool, true, false}
-use mathlib.Core.Option.{Option, none, some}
+use mathlib.Core.Option.{none, some}
 use mathlib.Core.List.{List, [], _∷_, _++_}
 use lib.ListN.{length}
 use lib.Dec.{eqb, ltb}
 use Rattle.rules.specs.Set.{among}
-use Rattle.rules.specs.Counted.{Counted, Try, after, give, _>>=_}
+use Rattle.rules.specs.Counted.{Try, after, give, _>>=_}
 use Rattle.rules.specs.Scan.{Scan, sole, alternative, errorLen}
 use Rattle.rules.specs.Exist.{Mend, exist, one}
 use Rattle.rules.specs.Graph.{spell, graphFrom}

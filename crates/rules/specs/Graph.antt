@@ -2,12 +2,12 @@
 use Prim.Native.Nat.{ℕ, zero, suc, _+_, _*_, _<_}
 use mathlib.Core.Path.{_≡_}
 use mathlib.Core.Bool.{Bool, true, false}
-use mathlib.Core.Option.{Option, none, some}
+use mathlib.Core.Option.{none, some}
 use mathlib.Core.List.{List, [], _∷_, _++_}
 use lib.Dec.{eqb}
 use Rattle.rules.specs.Letters.{add, lastLetter}
 use Rattle.rules.specs.Set.{among}
-use Rattle.rules.specs.Counted.{Counted, Try, after, refuse, give, _>>=_}
+use Rattle.rules.specs.Counted.{Try, after, refuse, give, _>>=_}
 use Rattle.rules.specs.Scan.{Scan, sole, alternative, errorLen}
 use Rattle.rules.specs.Exist.{Mend}
 

@@ -1,11 +1,11 @@
 -- Document 01, "Records", Job.
-use Prim.Native.Nat.{ℕ, zero, suc}
+use Prim.Native.Nat.{ℕ}
 use mathlib.Core.Bool.{Bool, true, false, _&&_}
 use mathlib.Core.List.{List, [], _∷_, _++_}
 use lib.ListN.{length}
 use lib.Dec.{eqb, leb}
 use Rattle.rules.specs.Set.{KmerSet, solid}
-use Rattle.rules.specs.Counted.{Counted, Try}
+use Rattle.rules.specs.Counted.{Try}
 use Rattle.rules.specs.Exist.{Mend, exist, one, two}
 use Rattle.rules.specs.Graph.{graph}
 use Rattle.rules.specs.GapSize.{gapSize}

@@ -5,7 +5,7 @@ use mathlib.Core.Option.{Option, none, some}
 use mathlib.Core.List.{List, [], _∷_}
 use lib.ListN.{drop}
 use Rattle.rules.specs.Letters.{add, addBase, code}
-use Rattle.rules.specs.Counted.{Counted, Try, give, _>>=_}
+use Rattle.rules.specs.Counted.{Try, give, _>>=_}
 
 -- The element of a list of exactly one.
 unfoldable pub only : {A : Type 0} → List A → Option A

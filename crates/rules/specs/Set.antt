@@ -1,12 +1,12 @@
 -- Document 01, "Records", Set, and refusals 7 to 10.
 use Prim.Native.Nat.{ℕ, zero, suc, _+_, _*_, _-_, _/_, _%_, _^_}
-use mathlib.Core.Bool.{Bool, true, false, _&&_, _||_, not}
+use mathlib.Core.Bool.{Bool, true, false, _&&_, _||_}
 use mathlib.Core.Option.{Option, none, some}
 use mathlib.Core.List.{List, [], _∷_}
 use lib.ListN.{length, getD, drop}
 use lib.Dec.{eqb, ltb, leb}
 use Rattle.rules.specs.Letters.{canonical}
-use Rattle.rules.specs.Refusal.{Refusal, Outcome, accepted, refused, Check, _orElse_, unless, atPlace, firstFailing}
+use Rattle.rules.specs.Refusal.{Outcome, accepted, refused, Check, _orElse_, unless, atPlace, firstFailing}
 
 -- The largest k and the largest n.
 abbrev pub maxK : ℕ

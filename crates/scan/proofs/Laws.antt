@@ -9,7 +9,7 @@ use mathlib.Core.List.{List, [], _∷_}
 use lib.ListN.{length, drop, getD, drop-of-length-le}
 use lib.Seq.{drop-cons}
 use mir.Val.{boolByte as bit}
-use Rattle.rules.specs.Letters.{add, addBase, code}
+use Rattle.rules.specs.Letters.{add, addBase}
 use Rattle.rules.specs.Counted.{Try, give, _>>=_, next, after, refuse}
 use Rattle.rules.specs.Scan.{only, yesFrom, successors, u, sole, alternative, scanFrom}
 use Rattle.rules.proofs.Scan.{only-yes}

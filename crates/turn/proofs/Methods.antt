@@ -5,7 +5,7 @@ use mathlib.Core.Bool.{Bool}
 use mathlib.Core.List.{List}
 use borrow.Author.Tests.{ne-eqb}
 use lib.ListN.{length}
-use Rattle.rules.specs.Set.{setOf, solid, headerN}
+use Rattle.rules.specs.Set.{setOf, solid}
 use Rattle.rules.specs.Exist.{exist, one, two}
 use Rattle.rules.specs.Graph.{graph}
 use Rattle.rules.specs.GapSize.{gapSize}

@@ -10,14 +10,14 @@ use Rattle.kmer.specs.declared.Kmer.{Kmer}
 use Rattle.kmer.specs.Kmer.{IsKmer}
 use Rattle.scan.specs.Scan.{NextIs}
 use Rattle.gap_size.specs.Gap.{passed}
-use Rattle.gap_size.specs.Filter.{Covers}
-use Rattle.gap_size.proofs.Bits.{covers-one}
+use Rattle.gap_size.specs.Filter.{suffix, Covers}
+use Rattle.gap_size.proofs.Bits.{prefix-is}
 use Rattle.gap_size.proofs.Laws.{Filling, passed-none, filling-start, gap-dead, gap-repeats, passed-more, gap-goes, gap-bound, gap-room, gap-refused, gap-mends}
 use Rattle.gap_size.proofs.fill.Statement.{statement}
 use Rattle.gap_size.proofs.fill.Tie as tie
 
 abbrev Inv-loop : tie.InvT-loop
-Inv-loop set starts head x filter₀ out₀ lookups₀ at₀ moves i₀ filter out lookups at i =
+Inv-loop set starts head x filter₀ out₀ lookups₀ before₀ at₀ moves i₀ filter out lookups before at i =
     (i ≤ moves)
     × (moves < length out)
     × (lookups ≡ lookups₀ + 4 * i)
@@ -25,10 +25,10 @@ Inv-loop set starts head x filter₀ out₀ lookups₀ at₀ moves i₀ filter o
     × (length out ≡ length out₀)
     × IsKmer (head .k) at
     × Filling (head .k) (solid (setOf set)) moves (x .code) (at .code) i out
-    × Covers filter (passed (head .k) (x .code) i out)
+    × Covers (head .k) filter (passed (head .k) (x .code) i out) (suffix (head .k) (at .code)) before
 
 abbrev μ-loop : tie.MeasureT-loop
-μ-loop set starts head x filter₀ out₀ lookups₀ at₀ moves i₀ filter out lookups at i = moves - i
+μ-loop set starts head x filter₀ out₀ lookups₀ before₀ at₀ moves i₀ filter out lookups before at i = moves - i
 
 -- the function's entry, from the loop's head
 abbrev entry : tie.At-loop Inv-loop μ-loop → tie.Start Inv-loop μ-loop
@@ -38,7 +38,7 @@ room : (c : tie.At-loop Inv-loop μ-loop) → length (c .loop .out) ≡ length (
 room c = c .loop .inv .4 ∙ c .before .before .before .before .before .before .before .before .before .write-last .kept .0
 
 words : (c : tie.At-loop Inv-loop μ-loop) → length (c .loop .filter) ≡ length (entry c .args .filter .now)
-words c = c .loop .inv .3 ∙ c .before .before .before .before .before .note .kept .0
+words c = c .loop .inv .3 ∙ c .before .before .before .before .before .begin .ensures .same
 
 few-lookups : (c : tie.At-loop Inv-loop μ-loop) → 4 * c .loop .i ≤ 8 * maxKeys
 few-lookups c = let f = entry c .pre .0 in gap-room (c .loop .inv .6) (gap-bound (f .ready) _ _ (f .kmer .small) (f .lit))
@@ -55,9 +55,9 @@ told : (c : tie.After-next Inv-loop μ-loop)
     (sole (b .args .head .k) (solid (setOf (b .args .set .now))) (turn c .loop .at .code) .answer ≡ some (next c .code)) × IsKmer (b .args .head .k) (next c)
 told c = subst (NextIs _ _) (c .next .given .1) (c .before .before .sole-next .ensures)
 
-words-after : (c : tie.After-repeats Inv-loop μ-loop)
-    → length (c .repeats .last .1 .1 .1 .1 .1 .0) ≡ length (entry (turn (c .before .before .before .before)) .args .filter .now)
-words-after c = c .repeats .ensures .same ∙ words (turn (c .before .before .before .before))
+words-after : (c : tie.After-meet Inv-loop μ-loop)
+    → length (c .meet .last .1 .1 .1 .1 .1 .1 .0) ≡ length (entry (turn (c .before .before .before .before)) .args .filter .now)
+words-after c = c .meet .ensures .same ∙ words (turn (c .before .before .before .before))
 
 add-lookups : tie.Need-add-lookups Inv-loop μ-loop
 add-lookups c = omega (arith, c .before .before .before .before .before .pre)
@@ -65,8 +65,8 @@ add-lookups c = omega (arith, c .before .before .before .before .before .pre)
 write-last-requires : tie.Need-write-last-requires Inv-loop μ-loop
 write-last-requires c κs = search needs
 
-note-requires : tie.Need-note-requires Inv-loop μ-loop
-note-requires c κs = c .before .before .before .before .before .before .before .before .before .before .pre .1
+begin-requires : tie.Need-begin-requires Inv-loop μ-loop
+begin-requires c κs = let b = c .before .before .before .before .before .before .before .before .before .before in (b .pre .0 .ready .shifts, b .pre .1)
 
 sub-moves : tie.Need-sub-moves Inv-loop μ-loop
 sub-moves c = let f = c .before .before .before .before .before .before .before .before .before .before .before .before .before .before .before .pre .0 in omega (arith, f .above, f .ready .shifts .k-low)
@@ -82,7 +82,7 @@ loop-holds c =
       refl,
       b .pre .0 .kmer,
       rw (w .ensures) (filling-start _ _ _ _ (b .args .out .now) (omega (arith, b .pre .0 .room))),
-      rw passed-none (covers-one (c .before .before .before .before .note .ensures)),
+      rw passed-none (c .before .before .before .before .begin .ensures .covers),
     )
 
 add-lookups-2 : tie.Need-add-lookups-2 Inv-loop μ-loop
@@ -114,13 +114,13 @@ returns c =
       room = room l;
     }
 
-repeats-requires : tie.Need-repeats-requires Inv-loop μ-loop
-repeats-requires c κs =
+meet-requires : tie.Need-meet-requires Inv-loop μ-loop
+meet-requires c κs =
     let m = c .before .before .before in
     let l = turn m in
     let f = entry l .pre .0 in
     let lt = m .before .before .before .loop-test .taken in
-    ((f .ready .shifts, f .kmer, omega (arith, l .loop .inv .1, lt), rw (words l) (entry l .pre .1)), l .loop .inv .7)
+    ((f .ready .shifts, f .kmer, omega (arith, l .loop .inv .1, lt), rw (words l) (entry l .pre .1)), rw (prefix-is _ _ _ _ (f .ready .shifts .k-low) (told m .0)) (l .loop .inv .7))
 
 same-length-3 : tie.Need-same-length-3 Inv-loop μ-loop
 same-length-3 c = words-after (c .before .before .before)
@@ -135,7 +135,7 @@ returns-2 c =
     record {
       is = gap-refused _ _ _ _ _ _ _
           (gap-repeats (l .loop .inv .6) (m .before .before .before .loop-test .taken) _ (told m .0)
-          (sym (c .before .before .before .repeats .ensures .is) ∙ c .if1 .taken))
+          (sym (c .before .before .before .meet .ensures .is) ∙ c .if1 .taken))
           (omega (arith, l .loop .inv .2));
       room = room l;
     }
@@ -156,7 +156,7 @@ loop-again : tie.Need-loop-again Inv-loop μ-loop
 loop-again c =
     let m = c .before .before .before .before .before .before .before .before .before .before .before in
     let w = c .before .before .write-last2 in
-    let q = c .before .before .before .before .before .before .before .repeats .ensures in
+    let q = c .before .before .before .before .before .before .before .meet .ensures in
     let l = turn m in
     let i = l .loop .inv in
     let lt = m .before .before .before .loop-test .taken in
@@ -199,7 +199,7 @@ fill-spec =
     μ-loop
     add-lookups
     write-last-requires
-    note-requires
+    begin-requires
     sub-moves
     loop-holds
     add-lookups-2
@@ -209,7 +209,7 @@ fill-spec =
     same-length
     same-length-2
     returns
-    repeats-requires
+    meet-requires
     same-length-3
     same-length-4
     returns-2

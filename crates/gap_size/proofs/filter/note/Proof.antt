@@ -1,51 +1,54 @@
-use mathlib.Core.Path.{_∙_}
-use Rattle.gap_size.specs.Filter.{place, marks}
-use Rattle.gap_size.proofs.Bits.{noted}
+use mathlib.Core.Logic.{inl, inr}
 use borrow.Author.Needs.{needs}
+use Rattle.gap_size.proofs.Bits.{noted}
 use Rattle.gap_size.proofs.filter.note.Statement.{statement}
 use Rattle.gap_size.proofs.filter.note.Tie as tie
 
 hash-requires : tie.Need-hash-requires
 hash-requires c κs = search needs
 
-slot-requires : tie.Need-slot-requires
-slot-requires c κs = search needs
-
 bits-requires : tie.Need-bits-requires
 bits-requires c κs = search needs
 
-mul-word : tie.Need-mul-word
-mul-word c = search needs
+mark-requires : tie.Need-mark-requires
+mark-requires c κs = search needs
 
-slice-read-word : tie.Need-slice-read-word
-slice-read-word c = search needs
+bits-requires-2 : tie.Need-bits-requires-2
+bits-requires-2 c κs = search needs
 
-mul-filter : tie.Need-mul-filter
-mul-filter c = search needs
-
-slice-write-filter : tie.Need-slice-write-filter
-slice-write-filter c = search needs
+mark-requires-2 : tie.Need-mark-requires-2
+mark-requires-2 c κs = search needs
 
 same-length : tie.Need-same-length
 same-length c = search needs
 
 returns : tie.Need-returns
-unfolding place marks
 returns c =
-    let h = c .before .before .before .hash .ensures in
-    let s = c .before .before .slot .ensures in
-    noted _ _ _ _ (s .0 ∙ rw h) (c .before .bits .ensures ∙ rw h) (s .1)
+    let m = c .before .before .before in
+    let v = m .before .before .before .before .before in
+    noted (v .before .before .before .hash .ensures) (v .before .bits .ensures) (m .before .bits2 .ensures) (v .mark .ensures) (m .mark2 .ensures)
+    (λ e. inr e)
+
+same-length-2 : tie.Need-same-length-2
+same-length-2 c = search needs
+
+returns-2 : tie.Need-returns-2
+returns-2 c =
+    let m = c .before .before .before in
+    let v = m .before .before .before .before .before in
+    noted (v .before .before .before .hash .ensures) (v .before .bits .ensures) (m .before .bits2 .ensures) (v .mark .ensures) (m .mark2 .ensures)
+    (λ e. inl (c .if1 .left))
 
 pub note-spec : {M : Type 1} → statement M
 note-spec =
     tie.close
     (tie.spec
     hash-requires
-    slot-requires
     bits-requires
-    mul-word
-    slice-read-word
-    mul-filter
-    slice-write-filter
+    mark-requires
+    bits-requires-2
+    mark-requires-2
     same-length
-    returns)
+    returns
+    same-length-2
+    returns-2)

@@ -1,4 +1,4 @@
-use Prim.Native.Nat.{_-_, _/_, _^_}
+use Prim.Native.Nat.{_-_}
 use native.Mathlib.Omega.{arith}
 use mathlib.Core.Path.{refl}
 use lib.Bits.{and-le-r}
@@ -10,7 +10,7 @@ sub-result : tie.Need-sub-result
 sub-result c = search needs
 
 returns : tie.Need-returns
-returns c = (refl, omega (arith, c .pre, and-le-r (c .args .hash / 2 ^ 46) (c .args .len - 1)))
+returns c = (refl, omega (arith, c .pre, and-le-r (c .args .hash) (c .args .len - 1)))
 
 pub slot-spec : {M : Type 1} → statement M
 slot-spec = tie.close (tie.spec sub-result returns)
