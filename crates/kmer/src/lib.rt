@@ -134,13 +134,12 @@ pub fn parity_even(code: u64) -> bool
     u64::count_ones(code) % 2 == 0
 }
 
+// Without a branch: parity is as good as random.
 pub fn canonical(kmer: Kmer, head: Header) -> u64
     requires { ⌜ IsKmer (head .k) kmer ⌝ }
     ensures { λ r. ⌜ r ≡ Letters.canonical (head .k) (kmer .code) ⌝ }
 {
-    if parity_even(kmer.code) {
-        kmer.code
-    } else {
-        kmer.rev
-    }
+    let both = [kmer.rev, kmer.code];
+    let even = parity_even(kmer.code) as usize;
+    both[even]
 }
