@@ -1,6 +1,5 @@
 -- Laws of the first index, from i up to an end e, at which a test fails.
 use Prim.Native.Nat.{ℕ, suc, _+_, _-_, _≤_, _<_}
-use native.Mathlib.Nat.{sub-zero}
 use native.Mathlib.Omega.{arith}
 use native.Mathlib.Numerals.{add-one}
 use mathlib.Core.Path.{_≡_}
@@ -20,6 +19,3 @@ module _ (ok : ℕ → Bool) (i e : ℕ) where
   pub ended : e ≤ i → firstFailing ok i (e - i) ≡ none
   unfolding firstFailing
   ended l = let n : e - i ≡ 0 = omega arith in rw n
-
-pub passed-first : (ok : ℕ → Bool) (e : ℕ) → 0 < e → ok 0 ≡ true → firstFailing ok 0 e ≡ firstFailing ok 1 (e - 1)
-passed-first ok e l h = rw (sub-zero e) at (passed ok 0 e l h)

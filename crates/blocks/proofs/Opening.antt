@@ -16,7 +16,7 @@ use Rattle.rules.specs.Refusal as Refusals
 use Rattle.rules.specs.Set.{headerRight, lengthRight, checkRight, blocks, setCheck, setOf, opened}
 use Rattle.blocks.specs.declared.Opened.{Opened}
 use Rattle.blocks.specs.declared.Opened.the-variants.{Set, Length, Check, Header, Key}
-use Rattle.blocks.specs.Opened.{Checked, Opens, checkFirst, wrongCheck, wrongKey}
+use Rattle.blocks.specs.Opened.{Checked, Opens, checkFirst, firstWrong, wrongCheck, wrongKey}
 
 -- the tags of the refusals: a set's is 0
 pub not-set : OneOf (1 ∷ 2 ∷ 3 ∷ 4 ∷ []) 0 → ⊥
@@ -46,25 +46,29 @@ module _ (bytes : List ℕ) where
   unfolding lengthRight
   length-odd f = rw (ne-eqb (length bytes % 512) 0 f) (and-false (ltb 0 (length bytes)))
 
+  -- check 8 as the rules write it
+  check-8 : atPlace 8 (firstFailing (checkRight bytes) 0 (blocks bytes)) ≡ wrongCheck bytes
+  check-8 = rw (sub-zero (blocks bytes))
+
   pub at-7 : lengthRight bytes ≡ false → setCheck bytes ≡ some (record { number = 7; place = 0 })
   unfolding setCheck
   at-7 e = rw e
 
   pub at-8 : lengthRight bytes ≡ true → (r : Refusal) → wrongCheck bytes ≡ some r → setCheck bytes ≡ some r
   unfolding setCheck
-  at-8 e r e′ = rw (e, e′)
+  at-8 e r e′ = rw (e, check-8 ∙ e′)
 
   pub at-9 : lengthRight bytes ≡ true → wrongCheck bytes ≡ none → headerRight bytes ≡ false → setCheck bytes ≡ some (record { number = 9; place = 0 })
   unfolding setCheck
-  at-9 e e′ e″ = rw (e, e′, e″)
+  at-9 e e′ e″ = rw (e, check-8 ∙ e′, e″)
 
   pub at-10 : lengthRight bytes ≡ true → wrongCheck bytes ≡ none → headerRight bytes ≡ true → setCheck bytes ≡ wrongKey bytes 0
   unfolding setCheck
-  at-10 e e′ e″ = rw (e, e′, e″, sub-zero (63 * (blocks bytes - 1)))
+  at-10 e e′ e″ = rw (e, check-8 ∙ e′, e″, sub-zero (63 * (blocks bytes - 1)))
 
   -- an answer for which check 8 must let pass, with the first wrong check before it
-  pub after-8 : lengthRight bytes ≡ true → (o : Opened) → (wrongCheck bytes ≡ none → Opens bytes o) → (wrong : Option ℕ)
-      → firstFailing (checkRight bytes) 0 (blocks bytes) ≡ wrong → Opens bytes (checkFirst o wrong)
+  pub after-8 : lengthRight bytes ≡ true → (o : Opened) → (wrongCheck bytes ≡ none → Opens bytes o)
+      → (wrong : Option ℕ) → firstWrong bytes 0 ≡ wrong → Opens bytes (checkFirst o wrong)
   unfolding atPlace
   after-8 e o f none h = f (ap (atPlace 8) h)
   after-8 e o f (some b) h = refused-by _ (at-8 e _ (ap (atPlace 8) h))

@@ -20,9 +20,13 @@ Told bytes as-set as-refusal (Check block) = as-refusal (record { number = 8; pl
 Told bytes as-set as-refusal Header = as-refusal (record { number = 9; place = 0 })
 Told bytes as-set as-refusal (Key i) = as-refusal (record { number = 10; place = i })
 
+-- The first block from one on whose check is wrong.
+abbrev pub firstWrong : List ℕ → ℕ → Option ℕ
+firstWrong bytes block = firstFailing (checkRight bytes) block (blocks bytes - block)
+
 -- Check 8.
 abbrev pub wrongCheck : List ℕ → Refusals.Check
-wrongCheck bytes = atPlace 8 (firstFailing (checkRight bytes) 0 (blocks bytes))
+wrongCheck bytes = atPlace 8 (firstWrong bytes 0)
 
 -- Check 10 from word i of the key blocks on.
 abbrev pub wrongKey : List ℕ → ℕ → Refusals.Check

@@ -9,7 +9,7 @@ ghost use Rattle.rules.specs.Refusal.{firstFailing};
 ghost use Rattle.rules.specs.Letters;
 ghost use Rattle.blocks.specs.Flat.{flat};
 ghost use Rattle.blocks.specs.Keys.{leastKey};
-ghost use Rattle.blocks.specs.Opened.{Checked, Opens, Looked, checkFirst, wrongKey};
+ghost use Rattle.blocks.specs.Opened.{Checked, Opens, Looked, checkFirst, firstWrong, wrongKey};
 
 // A set's k and n, or why it is refused: its length, the check of a block, its header, or a word of the key blocks.
 pub enum Opened {
@@ -88,7 +88,7 @@ fn check_right(set: &[u8], block: usize) -> bool
 
 // Refusal 8 for the blocks from one on, and without it a later refusal.
 fn check_blocks(set: &[u8], from: usize, later: Opened) -> Opened
-    ensures { λ r. ⌜ r ≡ checkFirst later (firstFailing (Rules.checkRight (now (set .entry))) from (Rules.blocks (now (set .entry)) - from)) ⌝ }
+    ensures { λ r. ⌜ r ≡ checkFirst later (firstWrong (now (set .entry)) from) ⌝ }
 {
     let blocks = set.len() / 512;
     for block in from..blocks {
@@ -133,13 +133,13 @@ fn fewer(a: usize, b: usize) -> usize
     if a < b { a } else { b }
 }
 
-// The keys of a block up to an end.
-fn look_at_keys(set: &[u8], block: usize, end: usize, first: u64, mask: u64) -> Look
-    requires { ⌜ (Rules.headerRight (now set) ≡ true) × (mask ≡ Letters.mask (Rules.headerK (now set))) × (1 ≤ block) × (block < Rules.blocks (now set))
-        × (63 * (block - 1) ≤ end) × (end ≤ 63 * block) × (end ≤ Rules.headerN (now set)) × (first ≡ leastKey (now set) (63 * (block - 1))) ⌝ }
-    ensures { λ r. ⌜ Looked (now (set .entry)) (63 * (block - 1)) end r ⌝ }
+fn look_at_keys(set: &[u8], block: usize, n: usize, first: u64, mask: u64) -> Look
+    requires { ⌜ (Rules.headerRight (now set) ≡ true) × (n ≡ Rules.headerN (now set)) × (mask ≡ Letters.mask (Rules.headerK (now set)))
+        × (1 ≤ block) × (block < Rules.blocks (now set)) × (first ≡ leastKey (now set) (63 * (block - 1))) ⌝ }
+    ensures { λ r. ⌜ Looked (now (set .entry)) (63 * (block - 1)) (min n (63 * block)) r ⌝ }
 {
     let from = 63 * (block - 1);
+    let end = fewer(n, 63 * block);
     // The least that the next key may be.
     let mut least = first;
     for i in from..end {
@@ -166,7 +166,7 @@ fn check_spare(set: &[u8], k: usize, n: usize) -> Opened
     Opened::Set(k, n)
 }
 
-// Refusals 8 and 10 for the blocks behind the header. Each block is checked and looked at in turn, so that its words are read from memory once.
+// Refusals 8 and 10 for the blocks behind the header. A block's keys are looked at right after its check, while its words are in the cache.
 fn check_keys(set: &[u8], k: usize, n: usize) -> Opened
     requires { ⌜ (Rules.lengthRight (now set) ≡ true) × (Rules.checkRight (now set) 0 ≡ true) × (Rules.headerRight (now set) ≡ true)
         × (k ≡ Rules.headerK (now set)) × (n ≡ Rules.headerN (now set)) ⌝ }
@@ -179,7 +179,7 @@ fn check_keys(set: &[u8], k: usize, n: usize) -> Opened
         if !check_right(set, block) {
             return Opened::Check(block);
         }
-        let look = look_at_keys(set, block, fewer(n, 63 * block), least, mask);
+        let look = look_at_keys(set, block, n, least, mask);
         match look {
             Look::Right(next) => least = next,
             Look::Wrong(i) => return check_blocks(set, block + 1, Opened::Key(i)),

@@ -1,17 +1,16 @@
-use Prim.Native.Nat.{_-_, _≤_}
+use Prim.Native.Nat.{_-_}
 use mathlib.Core.Path.{_≡_, refl, sym, ap, _∙_}
 use borrow.Author.Needs.{needs}
 use borrow.Author.Tests.{not-true, not-false}
-use Rattle.rules.specs.Refusal.{firstFailing}
 use Rattle.rules.specs.Set as Rules
-use Rattle.blocks.specs.Opened.{checkFirst}
+use Rattle.blocks.specs.Opened.{checkFirst, firstWrong}
 use Rattle.blocks.proofs.First.{passed, failed, ended}
 use Rattle.blocks.proofs.check_blocks.Statement.{statement}
 use Rattle.blocks.proofs.check_blocks.Tie as tie
 
 abbrev Inv-loop : tie.InvT-loop
 Inv-loop set from later blocks block₀ block =
-    firstFailing (Rules.checkRight set) from (blocks - from) ≡ firstFailing (Rules.checkRight set) block (blocks - block)
+    firstWrong set from ≡ firstWrong set block
 
 abbrev μ-loop : tie.MeasureT-loop
 μ-loop set from later blocks block₀ block = blocks - block
@@ -38,6 +37,7 @@ loop-less : tie.Need-loop-less Inv-loop μ-loop
 loop-less c = search needs
 
 loop-again : tie.Need-loop-again Inv-loop μ-loop
+unfolding Rules.blocks
 loop-again c =
     let l = c .before .before .before in
     let right = sym (c .before .check-right .ensures) ∙ not-false _ (c .if1 .left) in

@@ -1,17 +1,15 @@
-use Prim.Native.Nat.{_+_, _*_, _-_, _≤_, min}
+use Prim.Native.Nat.{ℕ, _+_, _*_, _-_, _≤_, min}
 use native.Mathlib.Omega.{arith}
-use mathlib.Core.Path.{_≡_, refl, sym, ap, _∙_, subst}
+use mathlib.Core.List.{List}
+use mathlib.Core.Path.{_≡_, sym, ap, _∙_, subst}
 use borrow.Author.Needs.{needs}
 use borrow.Author.Tests.{not-true, not-false}
 use Rattle.rules.specs.Letters.{mask}
-use Rattle.rules.specs.Refusal.{atPlace, firstFailing}
+use Rattle.rules.specs.Refusal.{atPlace}
 use Rattle.rules.specs.Set as Rules
 use Rattle.blocks.specs.Keys.{leastKey}
-use Rattle.blocks.specs.Opened.{Checked, Looked, wrongKey}
-use Rattle.blocks.specs.declared.Look.{Look}
-use Rattle.blocks.specs.declared.Look.the-variants.{Right, Wrong}
-use Rattle.blocks.specs.declared.Opened.the-variants.{Key}
-use Rattle.blocks.proofs.First.{passed, passed-first, failed, ended}
+use Rattle.blocks.specs.Opened.{Looked, firstWrong, wrongKey}
+use Rattle.blocks.proofs.First.{passed, failed, ended}
 use Rattle.blocks.proofs.Header.{Sized, sized}
 use Rattle.blocks.proofs.Opening.{refused-by, at-8, at-10, after-8, opens}
 use Rattle.blocks.proofs.check_keys.Statement.{statement}
@@ -23,7 +21,7 @@ Inv-loop set k n mask blocks least₀ block₀ least block =
     (1 ≤ block)
     × (block ≤ blocks)
     × (least ≡ leastKey set (min n (63 * (block - 1))))
-    × (firstFailing (Rules.checkRight set) 0 (Rules.blocks set) ≡ firstFailing (Rules.checkRight set) block (blocks - block))
+    × (firstWrong set 0 ≡ firstWrong set block)
     × (wrongKey set 0 ≡ wrongKey set (min n (63 * (block - 1))))
 
 abbrev μ-loop : tie.MeasureT-loop
@@ -32,25 +30,21 @@ abbrev μ-loop : tie.MeasureT-loop
 header : (c : tie.Start Inv-loop μ-loop) → Sized (c .args .set .now) (c .args .k) (c .args .n)
 header c = sized (c .args .set .now) (c .args .k) (c .args .n) (c .pre .3) (c .pre .4) (c .pre .2)
 
--- a block's first key
-first : (c : tie.In-loop Inv-loop μ-loop) → min (c .before .before .before .before .args .n) (63 * (c .before .loop .block - 1)) ≡ 63 * (c .before .loop .block - 1)
-first c = let z = header (c .before .before .before .before) in search needs
+abbrev bytes : tie.In-loop Inv-loop μ-loop → List ℕ
+bytes c = c .before .before .before .before .args .set .now
+
+-- a block's keys start where those before it end
+starts : (c : tie.In-loop Inv-loop μ-loop)
+    → min (c .before .before .before .before .args .n) (63 * (c .before .loop .block - 1)) ≡ 63 * (c .before .loop .block - 1)
+starts c = let z = header (c .before .before .before .before) in search needs
 
 -- the checks up to this block are right
-checked : (c : tie.Else1 Inv-loop μ-loop)
-    → firstFailing (Rules.checkRight (c .before .before .before .before .before .before .args .set .now)) 0 (Rules.blocks (c .before .before .before .before .before .before .args .set .now))
-    ≡ firstFailing (Rules.checkRight (c .before .before .before .before .before .before .args .set .now)) (c .before .before .before .loop .block + 1)
-    (Rules.blocks (c .before .before .before .before .before .before .args .set .now) - (c .before .before .before .loop .block + 1))
+checked : (c : tie.Else1 Inv-loop μ-loop) → firstWrong (bytes (c .before .before)) 0 ≡ firstWrong (bytes (c .before .before)) (c .before .before .before .loop .block + 1)
 unfolding Rules.blocks
 checked c =
     let l = c .before .before .before in
     let right = sym (c .before .check-right .ensures) ∙ not-false _ (c .if1 .left) in
     l .loop .inv .3 ∙ passed _ (l .loop .block) _ (c .before .before .loop-test .taken) right
-
--- what the look at a block tells of check 10
-looked : (c : tie.After-look-at-keys Inv-loop μ-loop) (r : Look) → c .look-at-keys .result ≡ r
-    → Looked (c .before .before .before .before .before .before .before .before .args .set .now) (min (c .before .before .before .before .before .before .before .before .args .n) (63 * (c .before .before .before .before .before .loop .block - 1))) (c .before .fewer .result) r
-looked c r e = rw (first (c .before .before .before .before)) (subst (Looked _ _ _) e (c .look-at-keys .ensures))
 
 mask-requires : tie.Need-mask-requires Inv-loop μ-loop
 mask-requires c κs = let z = header (c .before) in search needs
@@ -61,43 +55,27 @@ loop-holds c =
     let b = c .before .before in
     let z = header b in
     let none-yet : min (b .args .n) 0 ≡ 0 = omega arith in
-    (search needs, search needs, rw none-yet, passed-first _ _ (search needs) (b .pre .1), rw none-yet)
+    (search needs, search needs, rw none-yet, passed _ 0 _ (search needs) (b .pre .1), rw none-yet)
 
 check-right-requires : tie.Need-check-right-requires Inv-loop μ-loop
 unfolding Rules.blocks
 check-right-requires c κs = search needs
 
 returns : tie.Need-returns Inv-loop μ-loop
-unfolding atPlace
+unfolding atPlace Rules.blocks
 returns c =
     let l = c .before .before .before in
     let b = l .before .before .before in
     let wrong = sym (c .before .check-right .ensures) ∙ not-true _ (c .if1 .taken) in
     refused-by _ _ (at-8 _ (b .pre .0) _ (ap (atPlace 8) (l .loop .inv .3 ∙ failed _ (l .loop .block) _ (c .before .before .loop-test .taken) wrong)))
 
-mul-fewer : tie.Need-mul-fewer Inv-loop μ-loop
-mul-fewer c = search needs
-
-fewer-requires : tie.Need-fewer-requires Inv-loop μ-loop
-fewer-requires c κs = search needs
-
 look-at-keys-requires : tie.Need-look-at-keys-requires Inv-loop μ-loop
 unfolding Rules.blocks
 look-at-keys-requires c κs =
-    let e = c .before in
-    let t = e .before .before in
+    let t = c .before .before in
     let l = t .before in
     let b = l .before .before .before in
-    let f = first t in (
-      b .pre .2,
-      l .before .mask .ensures ∙ ap mask (b .pre .3),
-      search needs,
-      search needs,
-      search needs,
-      search needs,
-      search needs,
-      rw f at (l .loop .inv .2),
-    )
+    (b .pre .2, b .pre .4, l .before .mask .ensures ∙ ap mask (b .pre .3), search needs, search needs, rw (starts t) at (l .loop .inv .2))
 
 enum-known-look : tie.Need-enum-known-look Inv-loop μ-loop
 enum-known-look c = search needs
@@ -115,12 +93,12 @@ returns-2 : tie.Need-returns-2 Inv-loop μ-loop
 returns-2 c =
     let g = c .before .before in
     let k = g .before .before in
-    let e = k .before .before in
+    let e = k .before in
     let l = e .before .before .before in
     let b = l .before .before .before in
-    let wrong = looked k (Wrong (g .look2 .given .0 .0)) (g .look2 .given .1) in
-    rw (c .check-blocks .ensures)
-    (after-8 _ (b .pre .0) (Key _) (λ right. refused-by _ _ (at-10 _ (b .pre .0) right (b .pre .2) ∙ l .loop .inv .4 ∙ wrong)) _ (checked e))
+    let wrong = subst (Looked _ _ _) (g .look2 .given .1) (k .look-at-keys .ensures) in
+    let key = (rw (starts (e .before .before)) at (l .loop .inv .4)) ∙ wrong in
+    rw (c .check-blocks .ensures) (after-8 _ (b .pre .0) _ (λ right. refused-by _ _ (at-10 _ (b .pre .0) right (b .pre .2) ∙ key)) _ (checked e))
 
 add-block : tie.Need-add-block Inv-loop μ-loop
 add-block c = search needs
@@ -129,16 +107,14 @@ loop-less : tie.Need-loop-less Inv-loop μ-loop
 loop-less c = search needs
 
 loop-again : tie.Need-loop-again Inv-loop μ-loop
-unfolding Rules.blocks
 loop-again c =
     let g = c .before in
     let k = g .before .before in
-    let e = k .before .before in
+    let e = k .before in
     let l = e .before .before .before in
-    let b = l .before .before .before in
-    let right = looked k (Right (g .look .given .0 .0)) (g .look .given .1) in
-    let end : k .before .fewer .result ≡ min (b .args .n) (63 * (l .loop .block + 1 - 1)) = search needs in
-    (search needs, search needs, rw end at (right .1), checked e, l .loop .inv .4 ∙ (rw end at (right .0)))
+    let right = subst (Looked _ _ _) (g .look .given .1) (k .look-at-keys .ensures) in
+    let next : l .loop .block + 1 - 1 ≡ l .loop .block = omega arith in
+    (search needs, search needs, rw next (right .1), checked e, rw next ((rw (starts (e .before .before)) at (l .loop .inv .4)) ∙ right .0))
 
 check-spare-requires : tie.Need-check-spare-requires Inv-loop μ-loop
 unfolding Rules.blocks
@@ -148,7 +124,7 @@ check-spare-requires c κs =
     (search needs, search needs, b .pre .3, b .pre .4)
 
 returns-3 : tie.Need-returns-3 Inv-loop μ-loop
-unfolding atPlace
+unfolding atPlace Rules.blocks
 returns-3 c =
     let l = c .before .before in
     let b = l .before .before .before in
@@ -167,8 +143,6 @@ check-keys-spec =
     loop-holds
     check-right-requires
     returns
-    mul-fewer
-    fewer-requires
     look-at-keys-requires
     enum-known-look
     enum-known-look-2

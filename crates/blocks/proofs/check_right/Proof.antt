@@ -1,5 +1,3 @@
-use mathlib.Core.Path.{sym, ap, _∙_}
-use lib.Dec.{eqb}
 use borrow.Author.Needs.{needs}
 use Rattle.rules.specs.Set.{checkRight}
 use Rattle.blocks.proofs.check_right.Statement.{statement}

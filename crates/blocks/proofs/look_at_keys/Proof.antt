@@ -1,4 +1,4 @@
-use Prim.Native.Nat.{_*_, _-_, _≤_, _<_}
+use Prim.Native.Nat.{_*_, _-_, _≤_, _<_, min}
 use native.Mathlib.Omega.{arith}
 use mathlib.Core.Path.{_≡_, refl, sym, ap, _∙_}
 use mathlib.Core.Bool.{_&&_}
@@ -20,35 +20,35 @@ use Rattle.blocks.proofs.look_at_keys.Statement.{statement}
 use Rattle.blocks.proofs.look_at_keys.Tie as tie
 
 abbrev Inv-loop : tie.InvT-loop
-Inv-loop set block end first mask from least₀ i₀ least i =
+Inv-loop set block n first mask from end least₀ i₀ least i =
     (from ≤ i)
     × (i ≤ end)
     × (least ≡ leastKey set i)
     × (wrongKey set from ≡ wrongKey set i)
 
 abbrev μ-loop : tie.MeasureT-loop
-μ-loop set block end first mask from least₀ i₀ least i = end - i
+μ-loop set block n first mask from end least₀ i₀ least i = end - i
 
-header : (c : tie.Start Inv-loop μ-loop) → Sized (c .args .set .now) (Rules.headerK (c .args .set .now)) (Rules.headerN (c .args .set .now))
-header c = sized (c .args .set .now) _ _ refl refl (c .pre .0)
+header : (c : tie.Start Inv-loop μ-loop) → Sized (c .args .set .now) (Rules.headerK (c .args .set .now)) (c .args .n)
+header c = sized (c .args .set .now) _ _ refl (c .pre .1) (c .pre .0)
 
-inside : (c : tie.In-loop Inv-loop μ-loop) → c .before .loop .i < 63 * (Rules.blocks (c .before .before .before .args .set .now) - 1)
+inside : (c : tie.In-loop Inv-loop μ-loop) → c .before .loop .i < 63 * (Rules.blocks (c .before .before .before .before .args .set .now) - 1)
 inside c = search needs
 
 read : (c : tie.After-block-word Inv-loop μ-loop)
-    → c .block-word .result ≡ Rules.keyWord (c .before .before .before .before .args .set .now) (c .before .before .loop .i)
+    → c .block-word .result ≡ Rules.keyWord (c .before .before .before .before .before .args .set .now) (c .before .before .loop .i)
 read c =
     let l = c .before .before in
-    c .block-word .ensures ∙ key-in-block _ (l .before .before .args .block) (l .loop .i) (search needs) (search needs) (search needs)
+    c .block-word .ensures ∙ key-in-block _ (l .before .before .before .args .block) (l .loop .i) (search needs) (search needs) (search needs)
 
 -- the rules' test of word i is what the code's answers
 same : (c : tie.After-key-right Inv-loop μ-loop)
-    → Rules.keyRight (c .before .before .before .before .before .args .set .now) (c .before .before .before .loop .i) ≡ c .key-right .result
+    → Rules.keyRight (c .before .before .before .before .before .before .args .set .now) (c .before .before .before .loop .i) ≡ c .key-right .result
 same c =
     let l = c .before .before .before in
-    let b = l .before .before in
+    let b = l .before .before .before in
     let w = read (c .before) in
-    key-test (b .args .set .now) (l .loop .i) (b .args .mask) (search needs) (header b .odd) (b .pre .1) (rw (← w) (search needs))
+    key-test (b .args .set .now) (l .loop .i) (b .args .mask) (rw (← (b .pre .1)) (search needs)) (header b .odd) (b .pre .2) (rw (← w) (search needs))
     ∙ rw (← w, ← (l .loop .inv .2)) (sym (c .key-right .ensures))
 
 sub-from : tie.Need-sub-from Inv-loop μ-loop
@@ -58,8 +58,19 @@ mul-from : tie.Need-mul-from Inv-loop μ-loop
 unfolding Rules.blocks
 mul-from c = search needs
 
+mul-fewer : tie.Need-mul-fewer Inv-loop μ-loop
+unfolding Rules.blocks
+mul-fewer c = search needs
+
+fewer-requires : tie.Need-fewer-requires Inv-loop μ-loop
+fewer-requires c κs = search needs
+
 loop-holds : tie.Need-loop-holds Inv-loop μ-loop
-loop-holds c = (search needs, search needs, c .before .pre .7, refl)
+unfolding Rules.blocks
+loop-holds c =
+    let b = c .before .before in
+    let z = header b in
+    (search needs, search needs, b .pre .5, refl)
 
 sub-block-word : tie.Need-sub-block-word Inv-loop μ-loop
 sub-block-word c = search needs
@@ -81,11 +92,11 @@ add-least : tie.Need-add-least Inv-loop μ-loop
 unfolding mask
 add-least c =
     let l = c .before .before .before .before in
-    let b = l .before .before in
+    let b = l .before .before .before in
     let y = c .before .before .block-word .result in
     let e = both (leb y (b .args .mask) && leb (l .loop .least) y) (evenOnes 32 y) (sym (c .before .key-right .ensures) ∙ not-false _ (c .if1 .left)) in
     let small = leb-true y (b .args .mask) (both (leb y (b .args .mask)) (leb (l .loop .least) y) (e .0) .0) in
-    omega (arith, small, b .pre .1, bound (Rules.headerK (b .args .set .now)) (header b .k-high))
+    omega (arith, small, b .pre .2, bound (Rules.headerK (b .args .set .now)) (header b .k-high))
 
 add-i : tie.Need-add-i Inv-loop μ-loop
 add-i c = search needs
@@ -105,7 +116,8 @@ loop-again c =
 returns-2 : tie.Need-returns-2 Inv-loop μ-loop
 returns-2 c =
     let l = c .before in
-    let e : l .loop .i ≡ l .before .before .args .end = search needs in
+    let a = l .before .before .before .args in
+    let e : l .loop .i ≡ min (a .n) (63 * a .block) = search needs in
     (rw e at (l .loop .inv .3), rw e at (l .loop .inv .2))
 
 pub look-at-keys-spec : {M : Type 1} → statement M
@@ -116,6 +128,8 @@ look-at-keys-spec =
     μ-loop
     sub-from
     mul-from
+    mul-fewer
+    fewer-requires
     loop-holds
     sub-block-word
     block-word-requires

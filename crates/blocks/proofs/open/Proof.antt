@@ -1,5 +1,4 @@
 use Prim.Native.Nat.{_%_, _≤_}
-use native.Mathlib.Nat.{sub-zero}
 use native.Mathlib.Omega.{arith}
 use mathlib.Core.Path.{_≡_, sym, ap, _∙_}
 use mathlib.Core.Bool.{true}
@@ -10,7 +9,7 @@ use borrow.Author.Tests.{eqb-true, eqb-false, not-true, not-false}
 use Rattle.rules.specs.Refusal.{atPlace}
 use Rattle.rules.specs.Set as Rules
 use Rattle.blocks.specs.declared.Opened.the-variants.{Header}
-use Rattle.blocks.proofs.First.{passed-first, failed}
+use Rattle.blocks.proofs.First.{passed, failed}
 use Rattle.blocks.proofs.Opening.{length-right, length-zero, length-odd, refused-by, at-7, at-8, at-9, after-8}
 use Rattle.blocks.proofs.open.Statement.{statement}
 use Rattle.blocks.proofs.open.Tie as tie
@@ -39,9 +38,8 @@ unfolding atPlace Rules.blocks
 returns-2 c =
     let e = c .before .before in
     let l = long e in
-    let bytes = e .before .before .before .args .set .now in
-    let wrong = failed (Rules.checkRight bytes) 0 (Rules.blocks bytes) (search needs) (sym (c .before .check-right .ensures) ∙ not-true _ (c .if3 .taken)) in
-    refused-by _ _ (at-8 _ (after-7 e) _ (ap (atPlace 8) (rw sub-zero at wrong)))
+    let wrong = sym (c .before .check-right .ensures) ∙ not-true _ (c .if3 .taken) in
+    refused-by _ _ (at-8 _ (after-7 e) _ (ap (atPlace 8) (failed _ 0 _ (search needs) wrong)))
 
 block-word-requires : tie.Need-block-word-requires
 block-word-requires c κs = let l = long (c .before .before) in search needs
@@ -65,7 +63,7 @@ returns-3 c =
     let l = long e in
     let wrong = sym (t .header-right .ensures) ∙ not-true _ (c .before .if4 .taken) in
     rw (c .check-blocks .ensures)
-    (after-8 _ (after-7 e) Header (λ right. refused-by _ _ (at-9 _ (after-7 e) right wrong)) _ (passed-first _ _ (search needs) (first-right f)))
+    (after-8 _ (after-7 e) Header (λ right. refused-by _ _ (at-9 _ (after-7 e) right wrong)) _ (passed _ 0 _ (search needs) (first-right f)))
 
 check-keys-requires : tie.Need-check-keys-requires
 unfolding Rules.headerK Rules.headerN
