@@ -1,9 +1,10 @@
 -- What a key must be.
-use Prim.Native.Nat.{ℕ, _^_}
-use mathlib.Core.Bool.{Bool, _&&_}
-use lib.Dec.{eqb, ltb, leb}
-use Rattle.rules.specs.Letters.{canonical}
+use Prim.Native.Nat.{ℕ, zero, suc}
+use mathlib.Core.List.{List}
+use Rattle.rules.specs.Set.{keyWord}
 
--- Canonical, not too large, and at least one more than the key before it.
-unfoldable pub rightFrom : ℕ → ℕ → ℕ → Bool
-rightFrom k least y = eqb (canonical k y) y && ltb y (4 ^ k) && leb least y
+-- The least that key i may be: one more than the key before it.
+unfoldable pub leastKey : List ℕ → ℕ → ℕ
+unfolding keyWord
+leastKey bytes zero = 0
+leastKey bytes (suc i) = suc (keyWord bytes i)

@@ -1,15 +1,15 @@
 // Document 01, "Set": blocks of little-endian words with check words, and opening a set, with refusals 7 to 10.
 ghost use mathlib.Core.Path.{_≡_};
-ghost use mathlib.Core.Bool.{true};
-ghost use lib.Dec.{eqb};
-ghost use Prim.Native.Nat.{_+_, _*_, _-_, _%_, _<_, _≤_};
+ghost use mathlib.Core.Bool.{true, _&&_};
+ghost use lib.Dec.{eqb, leb};
+ghost use Prim.Native.Nat.{_+_, _*_, _-_, _<_, _≤_, min};
 ghost use lib.ListN.{length, drop};
 ghost use Rattle.rules.specs.Set as Rules;
 ghost use Rattle.rules.specs.Refusal.{firstFailing};
 ghost use Rattle.rules.specs.Letters;
-ghost use Rattle.blocks.specs.Keys.{rightFrom};
 ghost use Rattle.blocks.specs.Flat.{flat};
-ghost use Rattle.blocks.specs.Opened.{Checked, Opens, wrongCheck, wrongKey};
+ghost use Rattle.blocks.specs.Keys.{leastKey};
+ghost use Rattle.blocks.specs.Opened.{Checked, Opens, Looked, checkFirst, firstWrong, wrongKey};
 
 // A set's k and n, or why it is refused: its length, the check of a block, its header, or a word of the key blocks.
 pub enum Opened {
@@ -18,6 +18,12 @@ pub enum Opened {
     Check(usize),
     Header,
     Key(usize),
+}
+
+// Of a block's keys: all are right, with the least that the next key may be; or the first that is wrong.
+enum Look {
+    Right(u64),
+    Wrong(usize),
 }
 
 fn wide(x: u8) -> u64
@@ -70,24 +76,27 @@ pub fn key_at(set: &[u8], i: usize) -> u64
     requires { ⌜ i < 63 * (Rules.blocks (now set) - 1) ⌝ }
     ensures { λ r. ⌜ r ≡ Rules.keyWord (now (set .entry)) i ⌝ }
 {
-    block_word(set, 1 + i / 63, i % 63)
+    word_at(set, 512 + 8 * (i + i / 63))
 }
 
-// Refusal 8, or what the header says.
-fn check_blocks(set: &[u8]) -> Opened
-    requires { ⌜ 512 ≤ length (now set) ⌝ }
-    ensures { λ r. ⌜ Checked (now (set .entry)) (wrongCheck (now (set .entry))) r ⌝ }
+fn check_right(set: &[u8], block: usize) -> bool
+    requires { ⌜ 512 * (block + 1) ≤ length (now set) ⌝ }
+    ensures { λ r. ⌜ r ≡ Rules.checkRight (now (set .entry)) block ⌝ }
+{
+    block_word(set, block, 63) == check_word(set, block)
+}
+
+// Refusal 8 for the blocks from one on, and without it a later refusal.
+fn check_blocks(set: &[u8], from: usize, later: Opened) -> Opened
+    ensures { λ r. ⌜ r ≡ checkFirst later (firstWrong (now (set .entry)) from) ⌝ }
 {
     let blocks = set.len() / 512;
-    for block in 0..blocks {
-        if block_word(set, block, 63) != check_word(set, block) {
+    for block in from..blocks {
+        if !check_right(set, block) {
             return Opened::Check(block);
         }
     }
-    Opened::Set(
-        block_word(set, 0, 0) as usize,
-        block_word(set, 0, 1) as usize,
-    )
+    later
 }
 
 // The words of block 0 behind k and n.
@@ -112,11 +121,35 @@ fn header_right(set: &[u8], k: usize, n: usize) -> bool
 }
 
 // For odd k a code below 4^k is canonical exactly when its count of one bits is even.
-fn key_right(key: u64, least: u64, k: usize, mask: u64) -> bool
-    requires { ⌜ (k % 2 ≡ 1) × (mask ≡ Letters.mask k) ⌝ }
-    ensures { λ r. ⌜ r ≡ rightFrom k least key ⌝ }
+fn key_right(key: u64, least: u64, mask: u64) -> bool
+    ensures { λ r. ⌜ r ≡ (leb key mask && leb least key && Letters.evenOnes 32 key) ⌝ }
 {
     key <= mask && least <= key && kmer::parity_even(key)
+}
+
+fn fewer(a: usize, b: usize) -> usize
+    ensures { λ r. ⌜ r ≡ min a b ⌝ }
+{
+    if a < b { a } else { b }
+}
+
+fn look_at_keys(set: &[u8], block: usize, n: usize, first: u64, mask: u64) -> Look
+    requires { ⌜ (Rules.headerRight (now set) ≡ true) × (n ≡ Rules.headerN (now set)) × (mask ≡ Letters.mask (Rules.headerK (now set)))
+        × (1 ≤ block) × (block < Rules.blocks (now set)) × (first ≡ leastKey (now set) (63 * (block - 1))) ⌝ }
+    ensures { λ r. ⌜ Looked (now (set .entry)) (63 * (block - 1)) (min n (63 * block)) r ⌝ }
+{
+    let from = 63 * (block - 1);
+    let end = fewer(n, 63 * block);
+    // The least that the next key may be.
+    let mut least = first;
+    for i in from..end {
+        let key = block_word(set, block, i - from);
+        if !key_right(key, least, mask) {
+            return Look::Wrong(i);
+        }
+        least = key + 1;
+    }
+    Look::Right(least)
 }
 
 // Refusal 10 for the words behind the keys.
@@ -133,20 +166,24 @@ fn check_spare(set: &[u8], k: usize, n: usize) -> Opened
     Opened::Set(k, n)
 }
 
-// Refusal 10.
+// Refusals 8 and 10 for the blocks behind the header. A block's keys are looked at right after its check, while its words are in the cache.
 fn check_keys(set: &[u8], k: usize, n: usize) -> Opened
-    requires { ⌜ (Rules.headerRight (now set) ≡ true) × (k ≡ Rules.headerK (now set)) × (n ≡ Rules.headerN (now set)) ⌝ }
-    ensures { λ r. ⌜ Checked (now (set .entry)) (wrongKey (now (set .entry)) 0) r ⌝ }
+    requires { ⌜ (Rules.lengthRight (now set) ≡ true) × (Rules.checkRight (now set) 0 ≡ true) × (Rules.headerRight (now set) ≡ true)
+        × (k ≡ Rules.headerK (now set)) × (n ≡ Rules.headerN (now set)) ⌝ }
+    ensures { λ r. ⌜ Opens (now (set .entry)) r ⌝ }
 {
     let mask = kmer::mask(k);
-    // The least that the next key may be.
+    let blocks = set.len() / 512;
     let mut least: u64 = 0;
-    for i in 0..n {
-        let key = key_at(set, i);
-        if !key_right(key, least, k, mask) {
-            return Opened::Key(i);
+    for block in 1..blocks {
+        if !check_right(set, block) {
+            return Opened::Check(block);
         }
-        least = key + 1;
+        let look = look_at_keys(set, block, n, least, mask);
+        match look {
+            Look::Right(next) => least = next,
+            Look::Wrong(i) => return check_blocks(set, block + 1, Opened::Key(i)),
+        }
     }
     check_spare(set, k, n)
 }
@@ -157,12 +194,13 @@ pub fn open(set: &[u8]) -> Opened
     if set.len() == 0 || set.len() % 512 != 0 {
         return Opened::Length;
     }
-    let checked = check_blocks(set);
-    let Opened::Set(k, n) = checked else {
-        return checked;
-    };
+    if !check_right(set, 0) {
+        return Opened::Check(0);
+    }
+    let k = block_word(set, 0, 0) as usize;
+    let n = block_word(set, 0, 1) as usize;
     if !header_right(set, k, n) {
-        return Opened::Header;
+        return check_blocks(set, 1, Opened::Header);
     }
     check_keys(set, k, n)
 }

@@ -4,28 +4,27 @@ use lib.Dec.{leb}
 use borrow.Author.Needs.{needs}
 use borrow.Author.Tests.{le-leb, lt-leb}
 use Rattle.rules.specs.Letters.{evenOnes}
-use Rattle.blocks.specs.Keys.{rightFrom}
 use Rattle.blocks.proofs.Tests.{joined}
-use Rattle.blocks.proofs.Keys.{right-test}
 use Rattle.blocks.proofs.key_right.Statement.{statement}
 use Rattle.blocks.proofs.key_right.Tie as tie
 
--- with the flag of the first two tests
-told : (c : tie.Joined1) → (c .if1 .if2 && evenOnes 32 (c .before .args .key)) ≡ rightFrom (c .before .args .k) (c .before .args .least) (c .before .args .key)
-told c =
+-- the flag of the first two tests
+flag : (c : tie.Joined1) → c .if1 .if2 ≡ (leb (c .before .args .key) (c .before .args .mask) && leb (c .before .args .least) (c .before .args .key))
+flag c =
     let a = c .before .args in
-    ap (λ (t : Bool). t && evenOnes 32 (a .key))
-    (joined (leb (a .key) (a .mask)) (leb (a .least) (a .key)) (c .if1 .if2) (λ w. le-leb _ _ (w .taken)) (λ w. lt-leb _ _ (w .left)) (c .if1 .came))
-    ∙ right-test (a .k) (a .mask) (a .least) (a .key) (c .before .pre .0) (c .before .pre .1) (search needs)
+    joined (leb (a .key) (a .mask)) (leb (a .least) (a .key)) (c .if1 .if2) (λ w. le-leb _ _ (w .taken)) (λ w. lt-leb _ _ (w .left)) (c .if1 .came)
 
 parity-even-requires : tie.Need-parity-even-requires
 parity-even-requires c κs = search needs
 
 returns : tie.Need-returns
-returns c = c .parity-even .ensures ∙ ap (λ (t : Bool). t && evenOnes 32 (c .before .before .before .args .key)) (sym (c .before .if2 .taken)) ∙ told (c .before .before)
+returns c =
+    c .parity-even .ensures
+    ∙ ap (λ (t : Bool). t && evenOnes 32 (c .before .before .before .args .key)) (sym (c .before .if2 .taken) ∙ flag (c .before .before))
 
 returns-2 : tie.Need-returns-2
-returns-2 c = c .if2 .left ∙ ap (λ (t : Bool). t && evenOnes 32 (c .before .before .args .key)) (sym (c .if2 .left)) ∙ told (c .before)
+returns-2 c =
+    c .if2 .left ∙ ap (λ (t : Bool). t && evenOnes 32 (c .before .before .args .key)) (sym (c .if2 .left) ∙ flag (c .before))
 
 pub key-right-spec : {M : Type 1} → statement M
 key-right-spec = tie.close (tie.spec parity-even-requires returns returns-2)

@@ -1,15 +1,16 @@
 use Prim.Native.Nat.{_%_, _≤_}
 use native.Mathlib.Omega.{arith}
-use mathlib.Core.Path.{_≡_, sym, _∙_, subst}
+use mathlib.Core.Path.{_≡_, sym, ap, _∙_}
 use mathlib.Core.Bool.{true}
 use mathlib.Core.Logic.{⊎-elim}
 use lib.ListN.{length}
 use borrow.Author.Needs.{needs}
 use borrow.Author.Tests.{eqb-true, eqb-false, not-true, not-false}
-use Rattle.rules.specs.Set.{lengthRight}
-use Rattle.blocks.specs.declared.Opened.the-variants.{Set}
-use Rattle.blocks.specs.Opened.{Checked, wrongCheck}
-use Rattle.blocks.proofs.Opening.{length-right, length-zero, length-odd, refused-by, at-7, at-9, at-10, not-set, refuses, opens}
+use Rattle.rules.specs.Refusal.{atPlace}
+use Rattle.rules.specs.Set as Rules
+use Rattle.blocks.specs.declared.Opened.the-variants.{Header}
+use Rattle.blocks.proofs.First.{passed, failed}
+use Rattle.blocks.proofs.Opening.{length-right, length-zero, length-odd, refused-by, at-7, at-8, at-9, after-8}
 use Rattle.blocks.proofs.open.Statement.{statement}
 use Rattle.blocks.proofs.open.Tie as tie
 
@@ -19,57 +20,76 @@ whole c = eqb-true _ _ (not-false _ (c .if2 .left))
 long : (c : tie.Else2) → 512 ≤ length (c .before .before .before .args .set .now)
 long c = omega (arith, whole c)
 
-after-7 : (c : tie.Else2) → lengthRight (c .before .before .before .args .set .now) ≡ true
+after-7 : (c : tie.Else2) → Rules.lengthRight (c .before .before .before .args .set .now) ≡ true
 after-7 c = length-right _ (search needs) (whole c)
 
--- check 8 let pass
-after-8 : (c : tie.After-checked) → Checked (c .before .before .before .before .before .before .args .set .now)
-    (wrongCheck (c .before .before .before .before .before .before .args .set .now))
-    (Set (c .checked .given .0 .0) (c .checked .given .0 .1 .0))
-after-8 c = subst (Checked _ _) (c .checked .given .1) (c .before .before .check-blocks .ensures)
+first-right : (c : tie.Else3) → Rules.checkRight (c .before .before .before .before .before .args .set .now) 0 ≡ true
+first-right c = sym (c .before .check-right .ensures) ∙ not-false _ (c .if3 .left)
 
 returns : tie.Need-returns
 returns c =
     refused-by _ _ (at-7 _ (⊎-elim (λ w. length-zero _ (w .taken)) (λ w. length-odd _ (eqb-false _ _ (not-true _ (w .1 .taken)))) (c .if1 .came)))
 
-check-blocks-requires : tie.Need-check-blocks-requires
-check-blocks-requires c κs = long c
-
-enum-known-checked : tie.Need-enum-known-checked
-enum-known-checked c = search needs
+check-right-requires : tie.Need-check-right-requires
+check-right-requires c κs = long c
 
 returns-2 : tie.Need-returns-2
+unfolding atPlace Rules.blocks
 returns-2 c =
-    refuses _ (c .before .check-blocks .result) (after-7 (c .before .before)) (λ k n e. not-set (rw e at (c .match .keys2))) (c .before .check-blocks .ensures)
+    let e = c .before .before in
+    let l = long e in
+    let wrong = sym (c .before .check-right .ensures) ∙ not-true _ (c .if3 .taken) in
+    refused-by _ _ (at-8 _ (after-7 e) _ (ap (atPlace 8) (failed _ 0 _ (search needs) wrong)))
+
+block-word-requires : tie.Need-block-word-requires
+block-word-requires c κs = let l = long (c .before .before) in search needs
+
+block-word-requires-2 : tie.Need-block-word-requires-2
+block-word-requires-2 c κs = let l = long (c .before .before .before) in search needs
 
 header-right-requires : tie.Need-header-right-requires
-header-right-requires c κs = let t = after-8 (c .before) in (long (c .before .before .before .before), t .1, t .2)
+unfolding Rules.headerK Rules.headerN
+header-right-requires c κs = (long (c .before .before .before .before), c .before .block-word .ensures, c .block-word2 .ensures)
+
+check-blocks-requires : tie.Need-check-blocks-requires
+check-blocks-requires c κs = search needs
 
 returns-3 : tie.Need-returns-3
+unfolding Rules.blocks
 returns-3 c =
-    let e = c .before .before .before in
-    refused-by _ _ (at-9 _ (after-7 (e .before .before .before)) (after-8 e .0) (sym (c .before .header-right .ensures) ∙ not-true _ (c .if3 .taken)))
+    let t = c .before .before in
+    let f = t .before .before .before in
+    let e = f .before .before in
+    let l = long e in
+    let wrong = sym (t .header-right .ensures) ∙ not-true _ (c .before .if4 .taken) in
+    rw (c .check-blocks .ensures)
+    (after-8 _ (after-7 e) Header (λ right. refused-by _ _ (at-9 _ (after-7 e) right wrong)) _ (passed _ 0 _ (search needs) (first-right f)))
 
 check-keys-requires : tie.Need-check-keys-requires
+unfolding Rules.headerK Rules.headerN
 check-keys-requires c κs =
-    let t = after-8 (c .before .before .before) in
-    (sym (c .before .header-right .ensures) ∙ not-false _ (c .if3 .left), t .1, t .2)
+    let f = c .before .before .before .before in (
+      after-7 (f .before .before),
+      first-right f,
+      sym (c .before .header-right .ensures) ∙ not-false _ (c .if4 .left),
+      c .before .before .before .block-word .ensures,
+      c .before .before .block-word2 .ensures,
+    )
 
 returns-4 : tie.Need-returns-4
-returns-4 c =
-    let h = c .before .before in
-    let e = h .before .before in
-    opens _ (c .check-keys .result) (at-10 _ (after-7 (e .before .before .before)) (after-8 e .0) (sym (h .header-right .ensures) ∙ not-false _ (c .before .if3 .left))) (c .check-keys .ensures)
+returns-4 c = search needs
 
 pub open-spec : {M : Type 1} → statement M
 open-spec =
     tie.close
     (tie.spec
     returns
-    check-blocks-requires
-    enum-known-checked
+    check-right-requires
     returns-2
+    block-word-requires
+    block-word-requires-2
     header-right-requires
+    check-blocks-requires
     returns-3
     check-keys-requires
     returns-4)
