@@ -1,4 +1,5 @@
 pub mod Opened
 pub mod Narrowing
+pub mod Lines
 pub mod Table
 pub mod Ends

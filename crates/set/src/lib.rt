@@ -3,41 +3,223 @@ use kmer::Header;
 use kmer::Kmer;
 ghost use mathlib.Core.Path.{_≡_};
 ghost use mathlib.Core.Option.{none};
-ghost use Prim.Native.Nat.{ℕ, _+_, _-_, _*_, _≤_, _<_, max};
+ghost use mathlib.Core.Bool.{cond};
+ghost use Prim.Native.Nat.{ℕ, _+_, _-_, _*_, _≤_, _<_, max, min};
 ghost use lib.ListN.{length, getD};
-ghost use Rattle.rules.specs.Set.{maxK, maxKeys, headerK, headerN, keysFrom, among, setCheck, setOf, solid};
+ghost use Rattle.rules.specs.Set.{maxK, maxKeys, blocks, headerK, headerN, keyWord, keysFrom, among, setCheck, setOf, solid};
 ghost use Rattle.kmer.specs.Kmer.{Shifts, IsKmer};
 ghost use Rattle.set.specs.Ready.{tableLength, prefix, Below, Filled, Ready};
 ghost use Rattle.set.specs.Ends.{Marked, highest};
-ghost use Rattle.set.specs.Bracket.{Bracket};
+ghost use Rattle.set.specs.Bracket.{Bracket, NotBefore, NotBehind, Lines, lineOf, firstKey};
 
-// Any place in the range is right.
-fn probe(lo: usize, hi: usize) -> usize
-    requires { ⌜ lo < hi ⌝ }
-    ensures { λ r. ⌜ (lo ≤ r) × (r < hi) ⌝ }
+// Keys lie in lines of 64 bytes, each one access to memory: 8 words, of which the last in each block is its check word.
+fn line_of(i: usize) -> usize
+    requires { ⌜ i < maxKeys ⌝ }
+    ensures { λ r. ⌜ r ≡ lineOf i ⌝ }
 {
-    lo + (hi - lo) / 2
+    (i + i / 63) / 8
 }
 
-fn search(set: &[u8], key: u64, from: usize, end: usize) -> bool
-    requires { ⌜ (setCheck (now set) ≡ none) × Bracket (now set) key from end ⌝ }
-    ensures { λ r. ⌜ r ≡ among key (keysFrom (now (set .entry)) 0 (headerN (now (set .entry)))) ⌝ }
+fn first_key(line: usize) -> usize
+    requires { ⌜ line ≤ maxKeys ⌝ }
+    ensures { λ r. ⌜ r ≡ firstKey line ⌝ }
 {
-    let mut lo = from;
-    let mut hi = end;
-    while lo < hi {
-        let at = probe(lo, hi);
-        let word = blocks::key_at(set, at);
-        if word == key {
-            return true;
+    8 * line - line / 8
+}
+
+fn first_word(set: &[u8], line: usize) -> u64
+    requires { ⌜ (setCheck (now set) ≡ none) × (firstKey line < headerN (now set)) ⌝ }
+    ensures { λ r. ⌜ r ≡ keyWord (now (set .entry)) (firstKey line) ⌝ }
+{
+    blocks::word_at(set, 512 + 64 * line)
+}
+
+// From a line on while the next one starts at or below the key.
+fn up(set: &[u8], key: u64, line: usize, top: usize) -> usize
+    requires { ⌜ (setCheck (now set) ≡ none) × (line ≤ top) × (firstKey top < headerN (now set)) ⌝ }
+    ensures { λ r. ⌜ (line ≤ r) × (r ≤ top) × (line < r → NotBefore (now (set .entry)) key r) × (r < top → NotBehind (now (set .entry)) key r) ⌝ }
+{
+    let mut at = line;
+    while at < top {
+        if key < first_word(set, at + 1) {
+            return at;
         }
-        if word < key {
-            lo = at + 1;
+        at += 1;
+    }
+    at
+}
+
+// From a line back while it starts above the key.
+fn down(set: &[u8], key: u64, bottom: usize, line: usize) -> usize
+    requires { ⌜ (setCheck (now set) ≡ none) × (bottom ≤ line) × (firstKey line < headerN (now set)) ⌝ }
+    ensures { λ r. ⌜ (bottom ≤ r) × (r ≤ line) × (bottom < r → NotBefore (now (set .entry)) key r) × (r < line → NotBehind (now (set .entry)) key r) ⌝ }
+{
+    let mut at = line;
+    while bottom < at {
+        if first_word(set, at) <= key {
+            return at;
+        }
+        at -= 1;
+    }
+    at
+}
+
+// Any line of the range is right.
+fn middle(low: usize, high: usize) -> usize
+    requires { ⌜ low < high ⌝ }
+    ensures { λ r. ⌜ (low < r) × (r ≤ high) ⌝ }
+{
+    high - (high - low) / 2
+}
+
+fn bisect(set: &[u8], key: u64, from: usize, to: usize) -> usize
+    requires { ⌜ (setCheck (now set) ≡ none) × Lines (now set) key from to ⌝ }
+    ensures { λ r. ⌜ (r ≤ to) × Lines (now (set .entry)) key r r ⌝ }
+{
+    let mut low = from;
+    let mut high = to;
+    while low < high {
+        let line = middle(low, high);
+        if first_word(set, line) <= key {
+            low = line;
         } else {
-            hi = at;
+            high = line - 1;
         }
     }
-    false
+    low
+}
+
+// A few lines back from the guess, and a few on: any in the range are right.
+fn some_back(low: usize, guess: usize) -> usize
+    requires { ⌜ low ≤ guess ⌝ }
+    ensures { λ r. ⌜ (low ≤ r) × (r ≤ guess) ⌝ }
+{
+    if 8 < guess - low { guess - 8 } else { low }
+}
+
+fn some_on(guess: usize, high: usize) -> usize
+    requires { ⌜ guess ≤ high ⌝ }
+    ensures { λ r. ⌜ (guess ≤ r) × (r ≤ high) ⌝ }
+{
+    if 8 < high - guess { guess + 8 } else { high }
+}
+
+// The key's line. Nearly always it is close to the guess; if a few steps do not lead to it, a bisection of what is left does.
+fn find_line(set: &[u8], key: u64, low: usize, high: usize, guess: usize) -> usize
+    requires { ⌜ (setCheck (now set) ≡ none) × Lines (now set) key low high × (low ≤ guess) × (guess ≤ high) ⌝ }
+    ensures { λ r. ⌜ (r ≤ high) × Lines (now (set .entry)) key r r ⌝ }
+{
+    if key < first_word(set, guess) {
+        let bottom = some_back(low, guess);
+        let line = down(set, key, bottom, guess);
+        if line == bottom {
+            return bisect(set, key, low, bottom);
+        }
+        return line;
+    }
+    let top = some_on(guess, high);
+    let line = up(set, key, guess, top);
+    if line == top {
+        return bisect(set, key, top, high);
+    }
+    line
+}
+
+fn keys_in(line: usize, end: usize) -> usize
+    requires { ⌜ (firstKey line < end) × (end ≤ maxKeys) ⌝ }
+    ensures { λ r. ⌜ r ≡ min (firstKey (line + 1)) end - firstKey line ⌝ }
+{
+    let first = first_key(line);
+    let next = first_key(line + 1);
+    if next < end {
+        next - first
+    } else {
+        end - first
+    }
+}
+
+fn place_if(found: bool, at: usize, place: usize) -> usize
+    ensures { λ r. ⌜ r ≡ cond found at place ⌝ }
+{
+    if found { at } else { place }
+}
+
+// The first place of the key among the words of a line, from the last word down: no branch depends on them. Words behind the line's keys
+// are its check word or spare zeros.
+fn in_line(set: &[u8], key: u64, line: usize, count: usize) -> bool
+    requires { ⌜ (setCheck (now set) ≡ none) × (firstKey line < headerN (now set)) × (firstKey line + count ≤ firstKey (line + 1)) ⌝ }
+    ensures { λ r. ⌜ r ≡ among key (keysFrom (now (set .entry)) (firstKey line) count) ⌝ }
+{
+    let mut place = 8;
+    for t in 0..8usize {
+        let at = 7 - t;
+        let word = blocks::word_at(set, 512 + 64 * line + 8 * at);
+        place = place_if(key == word, at, place);
+    }
+    place < count
+}
+
+// The 16 bits of the key below its prefix.
+fn fraction(key: u64, shift: u32) -> usize
+    requires { ⌜ shift < 64 ⌝ }
+    ensures { λ r. ⌜ r < 65536 ⌝ }
+{
+    let bits = if shift < 16 {
+        key << (16 - shift)
+    } else {
+        key >> (shift - 16)
+    };
+    (bits % 65536) as usize
+}
+
+// Where the key stands if the keys of its prefix are spread evenly: any place in the range is right.
+fn guess(key: u64, shift: u32, from: usize, end: usize) -> usize
+    requires { ⌜ (shift < 64) × (from < end) × (end ≤ maxKeys) ⌝ }
+    ensures { λ r. ⌜ (from ≤ r) × (r < end) ⌝ }
+{
+    from + fraction(key, shift) * (end - from) / 65536
+}
+
+fn lesser(a: usize, b: usize) -> usize
+    ensures { λ r. ⌜ r ≡ min a b ⌝ }
+{
+    if a < b { a } else { b }
+}
+
+// Up to four keys, all of them compared: where a prefix has few, a branch on each would often be guessed wrong.
+fn in_few(set: &[u8], key: u64, from: usize, end: usize) -> bool
+    requires { ⌜ (from < end) × (end ≤ from + 4) × (end ≤ 63 * (blocks (now set) - 1)) × (end ≤ maxKeys) ⌝ }
+    ensures { λ r. ⌜ r ≡ among key (keysFrom (now (set .entry)) from (end - from)) ⌝ }
+{
+    let last = end - 1;
+    let second = lesser(from + 1, last);
+    let third = lesser(from + 2, last);
+    (key == blocks::key_at(set, from))
+        | (key == blocks::key_at(set, second))
+        | (key == blocks::key_at(set, third))
+        | (key == blocks::key_at(set, last))
+}
+
+fn search_lines(set: &[u8], key: u64, shift: u32, from: usize, end: usize) -> bool
+    requires { ⌜ (setCheck (now set) ≡ none) × (shift < 64) × (from < end) × Bracket (now set) key from end ⌝ }
+    ensures { λ r. ⌜ r ≡ among key (keysFrom (now (set .entry)) 0 (headerN (now (set .entry)))) ⌝ }
+{
+    let near = line_of(guess(key, shift, from, end));
+    let line = find_line(set, key, line_of(from), line_of(end - 1), near);
+    in_line(set, key, line, keys_in(line, end))
+}
+
+fn search(set: &[u8], key: u64, shift: u32, from: usize, end: usize) -> bool
+    requires { ⌜ (setCheck (now set) ≡ none) × (shift < 64) × Bracket (now set) key from end ⌝ }
+    ensures { λ r. ⌜ r ≡ among key (keysFrom (now (set .entry)) 0 (headerN (now (set .entry)))) ⌝ }
+{
+    if end <= from {
+        return false;
+    }
+    if end - from <= 4 {
+        return in_few(set, key, from, end);
+    }
+    search_lines(set, key, shift, from, end)
 }
 
 fn wide(x: u32) -> usize
@@ -64,9 +246,20 @@ pub fn get(set: &[u8], starts: &[u32], head: Header, kmer: Kmer) -> bool
     requires { ⌜ Ready (now set) (now starts) head × IsKmer (head .k) kmer ⌝ }
     ensures { λ r. ⌜ r ≡ solid (setOf (now (set .entry))) (kmer .code) ⌝ }
 {
-    let key = kmer::canonical(kmer, head);
+    // Both codes are read, so that no branch chooses between them.
+    let both = Kmer {
+        code: kmer.code,
+        rev: kmer.rev,
+    };
+    let key = kmer::canonical(both, head);
     let prefix = prefix_of(key, head.shift);
-    search(set, key, start(starts, prefix), start(starts, prefix + 1))
+    search(
+        set,
+        key,
+        head.shift,
+        start(starts, prefix),
+        start(starts, prefix + 1),
+    )
 }
 
 // How many bits a prefix has: at most 16, at most a key's 2k, and no more than four prefixes to a key.

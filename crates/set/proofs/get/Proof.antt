@@ -32,7 +32,7 @@ start-requires-2 c κs = omega (arith, entries (c .before) .room)
 search-requires : tie.Need-search-requires
 search-requires c κs =
     let p = c .before .before in
-    (p .before .before .before .before .pre .0 .opens, rw (c .before .start .ensures, c .start2 .ensures) (entries p .bracket))
+    (p .before .before .before .before .pre .0 .opens, search needs, rw (c .before .start .ensures, c .start2 .ensures) (entries p .bracket))
 
 returns : tie.Need-returns
 unfolding solid setOf
