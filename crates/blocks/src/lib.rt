@@ -90,8 +90,7 @@ fn check_right(set: &[u8], block: usize) -> bool
 fn check_blocks(set: &[u8], from: usize, later: Opened) -> Opened
     ensures { λ r. ⌜ r ≡ checkFirst later (firstWrong (now (set .entry)) from) ⌝ }
 {
-    let blocks = set.len() / 512;
-    for block in from..blocks {
+    for block in from..set.len() / 512 {
         if !check_right(set, block) {
             return Opened::Check(block);
         }
@@ -173,9 +172,8 @@ fn check_keys(set: &[u8], k: usize, n: usize) -> Opened
     ensures { λ r. ⌜ Opens (now (set .entry)) r ⌝ }
 {
     let mask = kmer::mask(k);
-    let blocks = set.len() / 512;
     let mut least: u64 = 0;
-    for block in 1..blocks {
+    for block in 1..set.len() / 512 {
         if !check_right(set, block) {
             return Opened::Check(block);
         }

@@ -9,11 +9,11 @@ use Rattle.blocks.proofs.check_blocks.Statement.{statement}
 use Rattle.blocks.proofs.check_blocks.Tie as tie
 
 abbrev Inv-loop : tie.InvT-loop
-Inv-loop set from later blocks block₀ block =
+Inv-loop set from later block₀ block-end block =
     firstWrong set from ≡ firstWrong set block
 
 abbrev μ-loop : tie.MeasureT-loop
-μ-loop set from later blocks block₀ block = blocks - block
+μ-loop set from later block₀ block-end block = block-end - block
 
 loop-holds : tie.Need-loop-holds Inv-loop μ-loop
 unfolding Rules.blocks

@@ -17,15 +17,15 @@ use Rattle.blocks.proofs.check_keys.Tie as tie
 
 -- the blocks before this one are checked, and their keys are looked at
 abbrev Inv-loop : tie.InvT-loop
-Inv-loop set k n mask blocks least₀ block₀ least block =
+Inv-loop set k n mask least₀ block₀ block-end least block =
     (1 ≤ block)
-    × (block ≤ blocks)
+    × (block ≤ block-end)
     × (least ≡ leastKey set (min n (63 * (block - 1))))
     × (firstWrong set 0 ≡ firstWrong set block)
     × (wrongKey set 0 ≡ wrongKey set (min n (63 * (block - 1))))
 
 abbrev μ-loop : tie.MeasureT-loop
-μ-loop set k n mask blocks least₀ block₀ least block = blocks - block
+μ-loop set k n mask least₀ block₀ block-end least block = block-end - block
 
 header : (c : tie.Start Inv-loop μ-loop) → Sized (c .args .set .now) (c .args .k) (c .args .n)
 header c = sized (c .args .set .now) (c .args .k) (c .args .n) (c .pre .3) (c .pre .4) (c .pre .2)
