@@ -246,12 +246,7 @@ pub fn get(set: &[u8], starts: &[u32], head: Header, kmer: Kmer) -> bool
     requires { ⌜ Ready (now set) (now starts) head × IsKmer (head .k) kmer ⌝ }
     ensures { λ r. ⌜ r ≡ solid (setOf (now (set .entry))) (kmer .code) ⌝ }
 {
-    // Both codes are read, so that no branch chooses between them.
-    let both = Kmer {
-        code: kmer.code,
-        rev: kmer.rev,
-    };
-    let key = kmer::canonical(both, head);
+    let key = kmer::canonical(kmer, head);
     let prefix = prefix_of(key, head.shift);
     search(
         set,
