@@ -86,7 +86,7 @@ fn check_right(set: &[u8], block: usize) -> bool
     block_word(set, block, 63) == check_word(set, block)
 }
 
-// Refusal 8 for the blocks from one on, and without it a later refusal.
+// Refusal 8 for the blocks from one on; where their checks are right, a refusal that comes later.
 fn check_blocks(set: &[u8], from: usize, later: Opened) -> Opened
     ensures { λ r. ⌜ r ≡ checkFirst later (firstWrong (now (set .entry)) from) ⌝ }
 {
