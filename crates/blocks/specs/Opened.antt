@@ -37,6 +37,11 @@ abbrev pub Looked : List ℕ → ℕ → ℕ → Look → Type 0
 Looked bytes i e (Right least) = (wrongKey bytes i ≡ wrongKey bytes e) × (least ≡ leastKey bytes e)
 Looked bytes i e (Wrong w) = wrongKey bytes i ≡ some (record { number = 10; place = w })
 
+-- The refusal of a wrong key.
+abbrev pub keyRefused : Look → Opened
+keyRefused (Wrong w) = Key w
+keyRefused (Right least) = Header
+
 -- A wrong check is answered before a later refusal.
 abbrev pub checkFirst : Opened → Option ℕ → Opened
 checkFirst later none = later

@@ -9,7 +9,7 @@ ghost use Rattle.rules.specs.Refusal.{firstFailing};
 ghost use Rattle.rules.specs.Letters;
 ghost use Rattle.blocks.specs.Flat.{flat};
 ghost use Rattle.blocks.specs.Keys.{leastKey};
-ghost use Rattle.blocks.specs.Opened.{Checked, Opens, Looked, checkFirst, firstWrong, wrongKey};
+ghost use Rattle.blocks.specs.Opened.{Checked, Opens, Looked, keyRefused, checkFirst, firstWrong, wrongKey};
 
 // A set's k and n, or why it is refused: its length, the check of a block, its header, or a word of the key blocks.
 pub enum Opened {
@@ -151,6 +151,16 @@ fn look_at_keys(set: &[u8], block: usize, n: usize, first: u64, mask: u64) -> Lo
     Look::Right(least)
 }
 
+// Refusal 10 for a key. Keys that are right are not asked.
+fn key_refused(look: Look) -> Opened
+    ensures { λ r. ⌜ r ≡ keyRefused look ⌝ }
+{
+    match look {
+        Look::Wrong(i) => Opened::Key(i),
+        Look::Right(_) => Opened::Header,
+    }
+}
+
 // Refusal 10 for the words behind the keys.
 fn check_spare(set: &[u8], k: usize, n: usize) -> Opened
     requires { ⌜ (512 ≤ length (now set)) × (n ≤ 63 * (Rules.blocks (now set) - 1)) × (k ≡ Rules.headerK (now set)) × (n ≡ Rules.headerN (now set)) ⌝ }
@@ -178,10 +188,10 @@ fn check_keys(set: &[u8], k: usize, n: usize) -> Opened
             return Opened::Check(block);
         }
         let look = look_at_keys(set, block, n, least, mask);
-        match look {
-            Look::Right(next) => least = next,
-            Look::Wrong(i) => return check_blocks(set, block + 1, Opened::Key(i)),
-        }
+        let Look::Right(next) = look else {
+            return check_blocks(set, block + 1, key_refused(look));
+        };
+        least = next;
     }
     check_spare(set, k, n)
 }

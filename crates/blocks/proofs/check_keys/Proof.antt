@@ -80,25 +80,29 @@ look-at-keys-requires c κs =
 enum-known-look : tie.Need-enum-known-look Inv-loop μ-loop
 enum-known-look c = search needs
 
-enum-known-look-2 : tie.Need-enum-known-look-2 Inv-loop μ-loop
-enum-known-look-2 c = search needs
+enum-told : tie.Need-enum-told Inv-loop μ-loop
+enum-told c = search needs
 
 add-check-blocks : tie.Need-add-check-blocks Inv-loop μ-loop
 add-check-blocks c = search needs
+
+key-refused-requires : tie.Need-key-refused-requires Inv-loop μ-loop
+key-refused-requires c κs = search needs
 
 check-blocks-requires : tie.Need-check-blocks-requires Inv-loop μ-loop
 check-blocks-requires c κs = search needs
 
 returns-2 : tie.Need-returns-2 Inv-loop μ-loop
 returns-2 c =
-    let g = c .before .before in
-    let k = g .before .before in
+    let t = c .before .before in
+    let k = t .before .before in
     let e = k .before in
     let l = e .before .before .before in
     let b = l .before .before .before in
-    let wrong = subst (Looked _ _ _) (g .look2 .given .1) (k .look-at-keys .ensures) in
+    let wrong = subst (Looked _ _ _) (t .enum-told .given .1) (k .look-at-keys .ensures) in
     let key = (rw (starts (e .before .before)) at (l .loop .inv .4)) ∙ wrong in
-    rw (c .check-blocks .ensures) (after-8 _ (b .pre .0) _ (λ right. refused-by _ _ (at-10 _ (b .pre .0) right (b .pre .2) ∙ key)) _ (checked e))
+    rw (c .check-blocks .ensures, c .before .key-refused .ensures, t .enum-told .given .1)
+    (after-8 _ (b .pre .0) _ (λ right. refused-by _ _ (at-10 _ (b .pre .0) right (b .pre .2) ∙ key)) _ (checked e))
 
 add-block : tie.Need-add-block Inv-loop μ-loop
 add-block c = search needs
@@ -145,8 +149,9 @@ check-keys-spec =
     returns
     look-at-keys-requires
     enum-known-look
-    enum-known-look-2
+    enum-told
     add-check-blocks
+    key-refused-requires
     check-blocks-requires
     returns-2
     add-block
