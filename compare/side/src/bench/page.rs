@@ -46,6 +46,7 @@ pub fn write(results: &Results, chart: &str) -> String {
          *Rust* is natir/br's `correct` read by read over its `FxHashSet`, which was filled before. *Ratio* is Rust's time by ours, so more than 1 is faster. \
          *Floor* is a plain loop of as many lookups as document 01 counts.\n"
     );
+    summary(&mut page, &results.cells);
     for method in METHODS {
         method_table(&mut page, method, &results.cells);
     }
@@ -53,6 +54,43 @@ pub fn write(results: &Results, chart: &str) -> String {
     gap_table(&mut page, &results.gaps);
     peak_table(&mut page, &results.peaks);
     page
+}
+
+/// Rust's time by ours: of the whole call, and less opening the set.
+fn ratios(cell: &Cell) -> (f64, f64) {
+    (cell.rust / cell.ours, cell.rust / (cell.ours - cell.opening).max(1e-9))
+}
+
+/// How the cells of each size compare, and why some fall short.
+fn summary(page: &mut String, cells: &[Cell]) {
+    let _ = writeln!(
+        page,
+        "## In short\n\n| keys | cells | at least Rust's speed | ratio from | to | less opening from | to |\n|--:|--:|--:|--:|--:|--:|--:|"
+    );
+    let mut sizes: Vec<String> = cells.iter().map(|cell| short(cell.keys)).collect();
+    sizes.dedup();
+    for size in sizes {
+        let of_size: Vec<(f64, f64)> = cells.iter().filter(|cell| short(cell.keys) == size).map(ratios).collect();
+        let least = |ratio: fn(&(f64, f64)) -> f64| of_size.iter().map(ratio).fold(f64::MAX, f64::min);
+        let most = |ratio: fn(&(f64, f64)) -> f64| of_size.iter().map(ratio).fold(0.0, f64::max);
+        let _ = writeln!(
+            page,
+            "| {size} | {} | {} | {:.2} | {:.2} | {:.2} | {:.2} |",
+            of_size.len(),
+            of_size.iter().filter(|ratio| ratio.0 >= 1.0).count(),
+            least(|ratio| ratio.0),
+            most(|ratio| ratio.0),
+            least(|ratio| ratio.1),
+            most(|ratio| ratio.1)
+        );
+    }
+    let _ = writeln!(
+        page,
+        "\nWhere a cell falls short, the set is larger than the near caches. The Rust's hash table answers a k-mer that is not solid from one line of memory, and it was built \
+         beforehand. A lookup in the set's own sorted bytes reads one to three lines, each only when the one before has said where to go on, and each call opens the set and fills its \
+         table of starts anew. So sets of millions of keys lose most where errors make most k-mers not solid, and least, or nothing, where a walk's moves prevail. An index beside the set, offered \
+         by the caller, would leave one line to a lookup.\n"
+    );
 }
 
 fn method_table(page: &mut String, method: Method, cells: &[Cell]) {
