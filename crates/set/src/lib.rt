@@ -246,7 +246,12 @@ pub fn get(set: &[u8], starts: &[u32], head: Header, kmer: Kmer) -> bool
     requires { ⌜ Ready (now set) (now starts) head × IsKmer (head .k) kmer ⌝ }
     ensures { λ r. ⌜ r ≡ solid (setOf (now (set .entry))) (kmer .code) ⌝ }
 {
-    let key = kmer::canonical(kmer, head);
+    // Both codes are read here: the compiler then chooses between them without a branch.
+    let both = Kmer {
+        code: kmer.code,
+        rev: kmer.rev,
+    };
+    let key = kmer::canonical(both, head);
     let prefix = prefix_of(key, head.shift);
     search(
         set,
