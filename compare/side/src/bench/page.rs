@@ -88,8 +88,7 @@ fn summary(page: &mut String, cells: &[Cell]) {
         page,
         "\nWhere a cell falls short, the set is larger than the near caches. The Rust's hash table answers a k-mer that is not solid from one line of memory, and it was built \
          beforehand. A lookup in the set's own sorted bytes reads one to three lines, each only when the one before has said where to go on, and each call opens the set and fills its \
-         table of starts anew. So sets of millions of keys lose most where errors make most k-mers not solid, and least, or nothing, where a walk's moves prevail. An index beside the set, offered \
-         by the caller, would leave one line to a lookup.\n"
+         table of starts anew. So sets of millions of keys lose most where errors make most k-mers not solid, and least, or nothing, where a walk's moves prevail.\n"
     );
 }
 
