@@ -73,6 +73,10 @@ enum {
     CORRECTOR_K = 2,
     CORRECTOR_N = 3,
     CORRECTOR_OPEN_NUMBERS = 4, /* how many there are */
+    /* corrector_count_solid */
+    CORRECTOR_KMERS = 2, /* of the read */
+    CORRECTOR_SOLID = 3, /* those of them that are solid */
+    CORRECTOR_SOLID_NUMBERS = 4, /* how many there are */
     /* corrector_read and corrector_batch */
     CORRECTOR_WRITTEN = 2, /* bytes of the output */
     CORRECTOR_TURNS = 3,
@@ -122,10 +126,11 @@ uint64_t corrector_batch(
     uint8_t *work, size_t work_length,
     uint64_t *answer, size_t answer_length);
 
-/* How many of a read's k-mers are solid; 0 if the set is refused or the read is shorter than k. The read may have any length. */
+/* The k-mers of a read, and how many of them are solid; none where it is shorter than k. Returns 0, or refusal 1 or 7 to 10. */
 uint64_t corrector_count_solid(
     const uint8_t *set, size_t set_length,
-    const uint8_t *read, size_t read_length);
+    const uint8_t *read, size_t read_length,
+    uint64_t *answer, size_t answer_length);
 
 #ifdef __cplusplus
 }

@@ -280,15 +280,33 @@ static void test_answers(const uint8_t *set)
     check("answers of a refused batch", short_answers(corrector_batch, set, 1, "AACGC"));
 }
 
-static uint64_t count(const uint8_t *set, const char *read)
+static int counts(const uint8_t *set, size_t length, const char *read, uint64_t kmers, uint64_t solid)
 {
-    return corrector_count_solid(set, SET, (const uint8_t *)read, strlen(read));
+    uint64_t answer[CORRECTOR_SOLID_NUMBERS];
+    uint64_t number = corrector_count_solid(set, length, (const uint8_t *)read, strlen(read), answer, CORRECTOR_SOLID_NUMBERS);
+    return number == answer[CORRECTOR_NUMBER] && number == CORRECTOR_NOT_REFUSED && answer[CORRECTOR_PLACE] == 0
+        && answer[CORRECTOR_KMERS] == kmers && answer[CORRECTOR_SOLID] == solid;
+}
+
+static int not_counted(const uint8_t *set, size_t length, const uint8_t *read, size_t read_length, uint64_t refusal, uint64_t place)
+{
+    uint64_t answer[CORRECTOR_SOLID_NUMBERS];
+    uint64_t number = corrector_count_solid(set, length, read, read_length, answer, CORRECTOR_SOLID_NUMBERS);
+    return number == refusal && answer[CORRECTOR_NUMBER] == refusal && answer[CORRECTOR_PLACE] == place && answer[CORRECTOR_KMERS] == 0
+        && answer[CORRECTOR_SOLID] == 0;
 }
 
 static void test_count(const uint8_t *set)
 {
-    check("solid k-mers", count(set, "AACTCCG") == 5 && count(set, "AACGC") == 1 && count(set, "AAC") == 1 && count(set, "ACGT") == 0);
-    check("no k-mers", count(set, "AA") == 0 && count(set, "") == 0);
+    static uint8_t long_read[CORRECTOR_MAX_INPUT + 1];
+    uint8_t wrong[SET];
+    memcpy(wrong, set, SET);
+    wrong[SET - 1]++;
+    check("solid k-mers", counts(set, SET, "AACTCCG", 5, 5) && counts(set, SET, "AACGC", 3, 1) && counts(set, SET, "AAC", 1, 1)
+        && counts(set, SET, "ACGT", 2, 0));
+    check("no k-mers", counts(set, SET, "AA", 0, 0) && counts(set, SET, "", 0, 0));
+    check("a count is refused", not_counted(set, SET, long_read, sizeof long_read, CORRECTOR_INPUT_LENGTH, 0)
+        && not_counted(set, SET - 1, long_read, 3, CORRECTOR_SET_LENGTH, 0) && not_counted(wrong, SET, long_read, 3, CORRECTOR_SET_CHECK, 1));
 }
 
 /* ---- threads: the set is shared, the buffers are each thread's own, and its stack is what the header asks for */

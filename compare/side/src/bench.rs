@@ -5,3 +5,8 @@ pub mod inputs;
 pub mod measure;
 pub mod memory;
 pub mod page;
+pub mod rounds;
+pub mod split;
+pub mod summary;
+pub mod symbols;
+pub mod system;

@@ -23,7 +23,7 @@ impl Library for Linked {
     }
 
     fn count_solid(&self, set: &[u8], read: &[u8]) -> Option<u64> {
-        Some(corrector::count_solid(set, read))
+        Some(corrector::count_solid(set, read).expect("a set that opens").solid)
     }
 }
 

@@ -8,7 +8,8 @@
 //! Bytes are compared on all three; turns, attempts and corrections too; lookups of the corrector with the referee's, and the Rust's
 //! with the referee's plus what the referee says the Rust asks again.
 
-#![forbid(unsafe_code)]
+// But for bench/system.rs.
+#![deny(unsafe_code)]
 
 pub mod bench;
 #[cfg(feature = "linked")]

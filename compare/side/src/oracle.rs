@@ -29,6 +29,11 @@ impl Keys {
     pub fn k(&self) -> usize {
         self.k as usize
     }
+
+    /// An address in the table.
+    pub fn address(&self) -> Option<usize> {
+        self.keys.iter().next().map(|key| std::ptr::from_ref(key) as usize)
+    }
 }
 
 impl KmerSet for &Keys {

@@ -1,4 +1,5 @@
 // Document 01, "Set": blocks of little-endian words with check words, and opening a set, with refusals 7 to 10.
+use refusal::Refusal;
 ghost use mathlib.Core.Path.{_≡_};
 ghost use mathlib.Core.Bool.{true, _&&_};
 ghost use lib.Dec.{eqb, leb};
@@ -9,15 +10,12 @@ ghost use Rattle.rules.specs.Refusal.{firstFailing};
 ghost use Rattle.rules.specs.Letters;
 ghost use Rattle.blocks.specs.Flat.{flat};
 ghost use Rattle.blocks.specs.Keys.{leastKey};
-ghost use Rattle.blocks.specs.Opened.{Checked, Opens, Looked, keyRefused, checkFirst, firstWrong, wrongKey};
+ghost use Rattle.blocks.specs.Opened.{Opens, IsRefused, Looked, IsWrong, checkFirst, firstWrong, wrongKey};
 
-// A set's k and n, or why it is refused: its length, the check of a block, its header, or a word of the key blocks.
+// A set's k and n, or why it is refused.
 pub enum Opened {
     Set(usize, usize),
-    Length,
-    Check(usize),
-    Header,
-    Key(usize),
+    Refused(Refusal),
 }
 
 // Of a block's keys: all are right, with the least that the next key may be; or the first that is wrong.
@@ -26,25 +24,19 @@ enum Look {
     Wrong(usize),
 }
 
-fn wide(x: u8) -> u64
-    ensures { λ r. ⌜ (r ≡ x) × (r < 256) ⌝ }
-{
-    x as u64
-}
-
 // Written flat, this compiles to one load.
 fn flat_word(set: &[u8], at: usize) -> u64
     requires { ⌜ at + 8 ≤ length (now set) ⌝ }
     ensures { λ r. ⌜ r ≡ flat (now (set .entry)) at ⌝ }
 {
-    wide(set[at])
-        + wide(set[at + 1]) * 256
-        + wide(set[at + 2]) * 65536
-        + wide(set[at + 3]) * 16777216
-        + wide(set[at + 4]) * 4294967296
-        + wide(set[at + 5]) * 1099511627776
-        + wide(set[at + 6]) * 281474976710656
-        + wide(set[at + 7]) * 72057594037927936
+    number::wide(set[at])
+        + number::wide(set[at + 1]) * 256
+        + number::wide(set[at + 2]) * 65536
+        + number::wide(set[at + 3]) * 16777216
+        + number::wide(set[at + 4]) * 4294967296
+        + number::wide(set[at + 5]) * 1099511627776
+        + number::wide(set[at + 6]) * 281474976710656
+        + number::wide(set[at + 7]) * 72057594037927936
 }
 
 pub fn word_at(set: &[u8], at: usize) -> u64
@@ -87,12 +79,12 @@ fn check_right(set: &[u8], block: usize) -> bool
 }
 
 // Refusal 8 for the blocks from one on; where their checks are right, a refusal that comes later.
-fn check_blocks(set: &[u8], from: usize, later: Opened) -> Opened
+fn check_blocks(set: &[u8], from: usize, later: Refusal) -> Refusal
     ensures { λ r. ⌜ r ≡ checkFirst later (firstWrong (now (set .entry)) from) ⌝ }
 {
     for block in from..set.len() / 512 {
         if !check_right(set, block) {
-            return Opened::Check(block);
+            return Refusal::Check(block);
         }
     }
     later
@@ -126,19 +118,13 @@ fn key_right(key: u64, least: u64, mask: u64) -> bool
     key <= mask && least <= key && kmer::parity_even(key)
 }
 
-fn fewer(a: usize, b: usize) -> usize
-    ensures { λ r. ⌜ r ≡ min a b ⌝ }
-{
-    if a < b { a } else { b }
-}
-
 fn look_at_keys(set: &[u8], block: usize, n: usize, first: u64, mask: u64) -> Look
     requires { ⌜ (Rules.headerRight (now set) ≡ true) × (n ≡ Rules.headerN (now set)) × (mask ≡ Letters.mask (Rules.headerK (now set)))
         × (1 ≤ block) × (block < Rules.blocks (now set)) × (first ≡ leastKey (now set) (63 * (block - 1))) ⌝ }
     ensures { λ r. ⌜ Looked (now (set .entry)) (63 * (block - 1)) (min n (63 * block)) r ⌝ }
 {
     let from = 63 * (block - 1);
-    let end = fewer(n, 63 * block);
+    let end = number::lesser(n, 63 * block);
     // The least that the next key may be.
     let mut least = first;
     for i in from..end {
@@ -151,25 +137,27 @@ fn look_at_keys(set: &[u8], block: usize, n: usize, first: u64, mask: u64) -> Lo
     Look::Right(least)
 }
 
-// Refusal 10 for a key. Keys that are right are not asked.
-fn key_refused(look: Look) -> Opened
-    ensures { λ r. ⌜ r ≡ keyRefused look ⌝ }
+// The key that a look found wrong.
+fn wrong_key(look: Look) -> usize
+    requires { ⌜ IsWrong look ⌝ }
+    ensures { λ r. ⌜ look ≡ Look.Wrong r ⌝ }
 {
     match look {
-        Look::Wrong(i) => Opened::Key(i),
-        Look::Right(_) => Opened::Header,
+        Look::Wrong(i) => i,
+        Look::Right(_) => 0,
     }
 }
 
-// Refusal 10 for the words behind the keys.
+// Refusal 10 for the words behind the keys, where all else is right.
 fn check_spare(set: &[u8], k: usize, n: usize) -> Opened
-    requires { ⌜ (512 ≤ length (now set)) × (n ≤ 63 * (Rules.blocks (now set) - 1)) × (k ≡ Rules.headerK (now set)) × (n ≡ Rules.headerN (now set)) ⌝ }
-    ensures { λ r. ⌜ Checked (now (set .entry)) (wrongKey (now (set .entry)) n) r ⌝ }
+    requires { ⌜ (512 ≤ length (now set)) × (n ≤ 63 * (Rules.blocks (now set) - 1)) × (k ≡ Rules.headerK (now set)) × (n ≡ Rules.headerN (now set))
+        × (Rules.setCheck (now set) ≡ wrongKey (now set) n) ⌝ }
+    ensures { λ r. ⌜ Opens (now (set .entry)) r ⌝ }
 {
     let words = 63 * (set.len() / 512 - 1);
     for word in n..words {
         if key_at(set, word) != 0 {
-            return Opened::Key(word);
+            return Opened::Refused(Refusal::Key(word));
         }
     }
     Opened::Set(k, n)
@@ -185,11 +173,12 @@ fn check_keys(set: &[u8], k: usize, n: usize) -> Opened
     let mut least: u64 = 0;
     for block in 1..set.len() / 512 {
         if !check_right(set, block) {
-            return Opened::Check(block);
+            return Opened::Refused(Refusal::Check(block));
         }
         let look = look_at_keys(set, block, n, least, mask);
         let Look::Right(next) = look else {
-            return check_blocks(set, block + 1, key_refused(look));
+            let key = Refusal::Key(wrong_key(look));
+            return Opened::Refused(check_blocks(set, block + 1, key));
         };
         least = next;
     }
@@ -200,15 +189,26 @@ pub fn open(set: &[u8]) -> Opened
     ensures { λ r. ⌜ Opens (now (set .entry)) r ⌝ }
 {
     if set.len() == 0 || set.len() % 512 != 0 {
-        return Opened::Length;
+        return Opened::Refused(Refusal::Length);
     }
     if !check_right(set, 0) {
-        return Opened::Check(0);
+        return Opened::Refused(Refusal::Check(0));
     }
     let k = block_word(set, 0, 0) as usize;
     let n = block_word(set, 0, 1) as usize;
     if !header_right(set, k, n) {
-        return check_blocks(set, 1, Opened::Header);
+        return Opened::Refused(check_blocks(set, 1, Refusal::Header));
     }
     check_keys(set, k, n)
+}
+
+// Why a set was refused.
+pub fn refused(opened: Opened) -> Refusal
+    requires { ⌜ IsRefused opened ⌝ }
+    ensures { λ r. ⌜ opened ≡ Opened.Refused r ⌝ }
+{
+    match opened {
+        Opened::Refused(refusal) => refusal,
+        Opened::Set(_, _) => Refusal::Header,
+    }
 }

@@ -2,8 +2,8 @@
 // each: the answer, and how many lent bytes are as they were and how many are zero.
 ghost use mathlib.Core.Path.{_≡_};
 ghost use lib.ListN.{length};
-use job::Answer;
 use libc::STDOUT_FILENO;
+use report::Answer;
 
 // What the lent bytes are before a call.
 const FILL: u8 = 170;
@@ -31,8 +31,8 @@ fn print_answer(answer: Answer) {
             print(b" lookups ", report.lookups);
         }
         Answer::Refused(refusal) => {
-            print(b": refused ", job::number_of(refusal));
-            print(b" place ", job::place_of(refusal));
+            print(b": refused ", refusal::number_of(refusal));
+            print(b" place ", refusal::place_of(refusal));
         }
     }
 }

@@ -10,7 +10,7 @@ use lib.ListN.{length, drop, length-drop}
 use lib.Seq.{length-take-le}
 use Rattle.rules.specs.Counted.{Try}
 use Rattle.turn.proofs.Ends.{turnsOf-keeps, turnsOf-within}
-use Rattle.correct.specs.Pass.{unchanged}
+use Rattle.correct.specs.Pass.{returned}
 use Rattle.rules.specs.Exist.{Mend}
 use Rattle.rules.specs.Driver.{Pass, State, keepBase, mendBase, turnsOf, begin, drive}
 use Rattle.rules.proofs.Driver.{finish}
@@ -28,7 +28,7 @@ module _ (k : ℕ) (sol : ℕ → Bool) (ce : List ℕ → ℕ → Try Mend) whe
       (λ st b s y p a l le h. record { attempts = omega (arith, h .attempts); accepted = omega (arith, h .accepted) })
       (λ st s y m l h. record { attempts = omega (arith, h .attempts); accepted = omega (arith, h .accepted) })
 
-  pub drive-short-is : (read : List ℕ) → length read < k → drive k sol ce read ≡ unchanged read
+  pub drive-short-is : (read : List ℕ) → length read < k → drive k sol ce read ≡ returned read
   unfolding drive
   drive-short-is read lt = rw (drive, lt-ltb (length read) k lt)
 

@@ -17,7 +17,7 @@ use Rattle.kmer.specs.Kmer.{HasCode}
 use Rattle.set.specs.Ready.{Ready}
 use Rattle.turn.specs.declared.Place.{Place}
 use Rattle.rules.specs.Calls.{maxRead}
-use Rattle.correct.specs.Pass.{unchanged}
+use Rattle.correct.specs.Pass.{returned}
 use Rattle.turn.specs.Turn.{stateOf, Countable, attemptOf, endOf}
 use Rattle.turn.proofs.Turns.{set-k}
 use Rattle.correct.proofs.Drives.{drive-short-is, drive-is, drive-long}
@@ -42,7 +42,7 @@ module _ (bytes starts : List ℕ) (head : Header) (ready : Ready bytes starts h
   unfolding pass
   pass-is = ap (λ (k : ℕ). drive k (solid (setOf bytes)) (attemptOf bytes method c) read) (set-k ready)
 
-  pub pass-short : length read < head .k → pass (setOf bytes) c (methodOf method) read ≡ unchanged read
+  pub pass-short : length read < head .k → pass (setOf bytes) c (methodOf method) read ≡ returned read
   pass-short lt = pass-is ∙ drive-short-is (head .k) (solid (setOf bytes)) (attemptOf bytes method c) read lt
 
   pub pass-long : head .k ≤ length read → head .k ≤ length (pass (setOf bytes) c (methodOf method) read .bytes)

@@ -13,7 +13,7 @@ use Rattle.rules.specs.Calls.{maxRead, longest}
 use Rattle.correct.specs.declared.Counts.{Counts}
 use Rattle.correct.specs.declared.Pass.{Pass}
 use Rattle.correct.specs.declared.Pass.the-variants.{Done, Full}
-use Rattle.correct.specs.Pass.{passOf, unchanged, PassIs}
+use Rattle.correct.specs.Pass.{passOf, returned, PassIs}
 use Rattle.correct.specs.Through.{joined, through, held, ThroughIs}
 use Rattle.correct.proofs.InTurn.{held-even, held-length, methods-next, methods-over, both, goOn, begun, next, over, fits, long, longest-end}
 use Rattle.correct.proofs.Limits.{Limited, Totals, one-total, add-total}
@@ -24,7 +24,7 @@ module _ (set : KmerSet) (c : ℕ) (methods read : List ℕ) where
 
   -- without methods
   pub none-done : (output output′ : List ℕ) (r : Pass) → length methods ≡ 0 → length output′ ≡ length output
-      → PassIs (length output) output′ (unchanged read) r → ThroughIs set c ms read (length output) output′ r
+      → PassIs (length output) output′ (returned read) r → ThroughIs set c ms read (length output) output′ r
   unfolding through passesOf sum result longest
   none-done output output′ (Done r) none o d =
       let end : ms ≡ [] = methods-over methods 0 (omega arith) in

@@ -13,8 +13,8 @@ abbrev pub passOf : Counts → List ℕ → rules.Pass
 passOf n out = record { bytes = take (n .written) out; turns = n .turns; lookups = n .lookups; attempts = n .attempts; accepted = n .accepted }
 
 -- A read returned unchanged, counts zero.
-abbrev pub unchanged : List ℕ → rules.Pass
-unchanged read = record { bytes = read; turns = 0; lookups = 0; attempts = 0; accepted = 0 }
+abbrev pub returned : List ℕ → rules.Pass
+returned read = record { bytes = read; turns = 0; lookups = 0; attempts = 0; accepted = 0 }
 
 -- The answer to the rules' pass n: its counts, and its bytes at the front of the output; Full where they are more than its room.
 abbrev pub PassIs : ℕ → List ℕ → rules.Pass → Pass → Type 0

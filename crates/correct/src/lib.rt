@@ -10,7 +10,7 @@ ghost use Rattle.rules.specs.Set.{setOf};
 ghost use Rattle.rules.specs.Job.{methodOf, pass};
 ghost use Rattle.set.specs.Ready.{Ready};
 ghost use Rattle.rules.specs.Calls.{maxRead, maxOutput, maxMethods};
-ghost use Rattle.correct.specs.Pass.{unchanged, PassIs, Passed};
+ghost use Rattle.correct.specs.Pass.{returned, PassIs, Passed};
 ghost use Rattle.turn.specs.Turn.{stateOf, Stands, Countable, endOf};
 ghost use Rattle.correct.specs.Through.{held, Through, joined};
 
@@ -75,7 +75,7 @@ fn turns_of(
 
 // The read as it is, with nothing counted.
 fn copied(read: &[u8], out: &mut [u8]) -> Pass
-    ensures { λ r. ⌜ PassIs (length (now (out .entry))) (now (out .exit)) (unchanged (now (read .entry))) r ⌝ }
+    ensures { λ r. ⌜ PassIs (length (now (out .entry))) (now (out .exit)) (returned (now (read .entry))) r ⌝ }
 {
     if out.len() < read.len() {
         return Pass::Full;
@@ -181,7 +181,7 @@ fn next_pass(
 }
 
 // The counts of the passes so far and of the next.
-fn added(done: Counts, next: Counts) -> Counts
+fn join(done: Counts, next: Counts) -> Counts
     requires { ⌜
         (done .turns + next .turns < 2 ^ 64) × (done .lookups + next .lookups < 2 ^ 64)
         × (done .attempts + next .attempts < 2 ^ 64) × (done .accepted + next .accepted < 2 ^ 64) ⌝ }
@@ -239,7 +239,7 @@ pub fn through(
         ) else {
             return Pass::Full;
         };
-        counts = added(counts, next);
+        counts = join(counts, next);
     }
     Pass::Done(counts)
 }

@@ -12,11 +12,11 @@ use Rattle.rules.specs.Report as Reports
 use Rattle.rules.specs.Set.{KmerSet, opened}
 use Rattle.rules.specs.Job.{Method, methodsOf, lines}
 use Rattle.rules.specs.Calls.{Given, After, unchanged, noRoom, tooLong, results, report, corrected, call, batchRight, givenCheck, correctBatch}
-use Rattle.job.proofs.Calls.{corrected-full, corrected-fits, call-refused, call-not-opened, call-opened}
-use Rattle.job.specs.declared.Report.{Report}
-use Rattle.job.specs.declared.Answer.{Answer}
-use Rattle.job.specs.declared.Answer.the-variants.{Report as Reported}
-use Rattle.job.specs.Answer.{reportOf, answerOf, Exact}
+use Rattle.report.proofs.Calls.{corrected-full, corrected-fits, call-refused, call-not-opened, call-opened}
+use Rattle.report.specs.declared.Report.{Report}
+use Rattle.report.specs.declared.Answer.{Answer}
+use Rattle.report.specs.declared.Answer.the-variants.{Report as Reported}
+use Rattle.report.specs.Answer.{reportOf, answerOf, Exact}
 
 abbrev Within : After → Type 0
 Within after = (r : Report) → accepted (reportOf r) ≡ after .answer → r .written ≤ length (after .output)

@@ -1,11 +1,11 @@
 // The program of document 01, "Sample reads": reads solid.set and job from its folder and a batch on input, and prints the corrected
 // lines and the counts, or the refusal.
 ghost use Rattle.io.specs.Counts.{Counts};
-use job::Answer;
-use job::Refusal;
-use job::Report;
 use libc::STDIN_FILENO;
 use libc::STDOUT_FILENO;
+use refusal::Refusal;
+use report::Answer;
+use report::Report;
 
 // How many bytes were read, and whether they are the whole file.
 struct Got {
@@ -51,8 +51,8 @@ fn print_report(report: Report, output: &[u8])
 }
 
 fn print_refusal(refusal: Refusal) {
-    print(b"refused ", job::number_of(refusal));
-    print(b" place ", job::place_of(refusal));
+    print(b"refused ", refusal::number_of(refusal));
+    print(b" place ", refusal::place_of(refusal));
     io::write_all(STDOUT_FILENO, b"\n");
 }
 

@@ -15,33 +15,37 @@ use Rattle.scan.proofs.Laws.{alternative-is, sole-lookups}
 use Rattle.scan.specs.Attempt.{Attempted}
 use Rattle.scan.specs.declared.Attempt.the-variants.{Mend as Mended, Refused, Full}
 use Rattle.scenario.specs.declared.Mend.{Mend}
-use Rattle.scenario.specs.Scenario.{mendOf}
+use Rattle.scenario.specs.Scenario.{spelledOut}
 use Rattle.scenario.proofs.Trials.{refused-bind, given-bind}
 use Rattle.exist.specs.declared.Scenarii.{Scenarii}
 use Rattle.exist.specs.Exist.{mendsOf, KeptIs}
 use Rattle.exist.proofs.Letters.{last-length}
 
-module _ (k : ℕ) (sol : ℕ → Bool) (c : ℕ) (s : List ℕ) (scs : ℕ → List ℕ → List Scenario) (y : ℕ) where
+-- made lookups before it
+module _ (k : ℕ) (sol : ℕ → Bool) (c : ℕ) (s : List ℕ) (scs : ℕ → List ℕ → List Scenario) (y made : ℕ) where
+  abbrev attempt : Try rules.Mend
+  attempt = after made (exist k sol c s scs y)
+
   -- the 4 lookups of the alternative, and its answer
   with-answer : {o : Option ℕ} → alternative k sol y .answer ≡ o → alternative k sol y ≡ record { answer = o; lookups = 4 }
   with-answer e =
       let four = ap (λ (t : Try ℕ). t .lookups) (alternative-is k sol y) ∙ sole-lookups k sol (y / 4) in
       λ i. record { answer = e i; lookups = four i }
 
-  pub exist-none : alternative k sol y .answer ≡ none → exist k sol c s scs y ≡ record { answer = none; lookups = 4 }
-  unfolding exist
-  exist-none e = refused-bind _ (with-answer e)
+  pub exist-none : alternative k sol y .answer ≡ none → attempt ≡ record { answer = none; lookups = made + 4 }
+  unfolding exist after
+  exist-none e = ap (after made) (refused-bind _ (with-answer e))
 
   module _ {x : ℕ} (a : alternative k sol y .answer ≡ some x) (r : Scenarii) (q : KeptIs (kept k sol c s (scs x s)) r) where
-    chosen : exist k sol c s scs y ≡ after 4 (after (r .lookups) (choose k sol c s y (mendsOf r)))
+    chosen : attempt ≡ after made (after 4 (after (r .lookups) (choose k sol c s y (mendsOf r))))
     unfolding exist
-    chosen = given-bind _ (with-answer a) ∙ rw (q .answer, q .lookups)
+    chosen = ap (after made) (given-bind _ (with-answer a) ∙ rw (q .answer, q .lookups))
 
-    pub exist-answer : exist k sol c s scs y .answer ≡ choose k sol c s y (mendsOf r) .answer
+    pub exist-answer : attempt .answer ≡ choose k sol c s y (mendsOf r) .answer
     unfolding after
     exist-answer = ap (λ (t : Try rules.Mend). t .answer) chosen
 
-    pub exist-lookups : {l : ℕ} → choose k sol c s y (mendsOf r) .lookups ≡ l → exist k sol c s scs y .lookups ≡ 4 + r .lookups + l
+    pub exist-lookups : {l : ℕ} → choose k sol c s y (mendsOf r) .lookups ≡ l → attempt .lookups ≡ made + 4 + r .lookups + l
     unfolding after
     exist-lookups e = ap (λ (t : Try rules.Mend). t .lookups) chosen ∙ omega arith
 
@@ -51,15 +55,15 @@ module _ {index : ℕ} {out : List ℕ} {t : Try rules.Mend} where
   pub refused : {l : ℕ} → t .answer ≡ none → t .lookups ≡ l → Attempted index out out t (Refused l)
   refused e p = record { is = (e, p); room = refl }
 
-  module _ (m : Mend) (e : t .answer ≡ some (mendOf m)) where
+  module _ (m : Mend) (e : t .answer ≡ some (spelledOut m)) where
     pub full : length out < m .letters → Attempted index out out t Full
     full h =
         record {
           is = (
             λ d f.
-                let same = Option·some-injective (mendOf m) d (sym e ∙ f) in
+                let same = Option·some-injective (spelledOut m) d (sym e ∙ f) in
                 omega (arith, last-length (m .letters) (m .code), ap (λ (w : rules.Mend). length (w .letters)) same),
-            λ f. absurd (Option·none-ne-some (mendOf m) (sym f ∙ e)),
+            λ f. absurd (Option·none-ne-some (spelledOut m) (sym f ∙ e)),
           );
           room = refl;
         }

@@ -17,7 +17,7 @@ use Rattle.rules.specs.Scan.{only, isSolid}
 use Rattle.rules.specs.Exist.{Mend, cons, oneMore, oneMoreOf, choose}
 use Rattle.scenario.proofs.Trials.{solid-yes, solid-no, refused-then, given-then}
 use Rattle.scenario.specs.declared.Mend.{Mend as Kept}
-use Rattle.scenario.specs.Scenario.{mendOf, Small}
+use Rattle.scenario.specs.Scenario.{spelledOut, Small}
 use Rattle.exist.specs.declared.More.{More}
 use Rattle.exist.specs.Exist.{blank, moreOf}
 
@@ -47,23 +47,23 @@ module _ (k : ℕ) (sol : ℕ → Bool) (c : ℕ) (s : List ℕ) (y : ℕ) (m : 
 
 module _ (l : List Kept) (n : ℕ) (h : n ≤ length l) where
   abbrev mends : List Mend
-  mends = map mendOf (take n l)
+  mends = map spelledOut (take n l)
 
   pub mends-length : length mends ≡ n
-  mends-length = length-map (take n l) mendOf ∙ length-take-le n l h
+  mends-length = length-map (take n l) spelledOut ∙ length-take-le n l h
 
-  pub mends-cons : (i : ℕ) → i < n → drop i mends ≡ mendOf (getD l i blank) ∷ drop (i + 1) mends
+  pub mends-cons : (i : ℕ) → i < n → drop i mends ≡ spelledOut (getD l i blank) ∷ drop (i + 1) mends
   mends-cons i g =
-      let e : getD mends i (mendOf blank) ≡ mendOf (getD l i blank) = List·getD-map mendOf (take n l) i blank ∙ ap mendOf (getD-take n l i blank g) in
-      drop-cons mends i (mendOf blank) (omega (arith, mends-length)) ∙ rw (e, add-one)
+      let e : getD mends i (spelledOut blank) ≡ spelledOut (getD l i blank) = List·getD-map spelledOut (take n l) i blank ∙ ap spelledOut (getD-take n l i blank g) in
+      drop-cons mends i (spelledOut blank) (omega (arith, mends-length)) ∙ rw (e, add-one)
 
-  pub mends-one : n ≡ 1 → mends ≡ mendOf (getD l 0 blank) ∷ []
+  pub mends-one : n ≡ 1 → mends ≡ spelledOut (getD l 0 blank) ∷ []
   mends-one e = mends-cons 0 (omega arith) ∙ rw (drop-of-length-le mends {i = 0 + 1} (omega (arith, mends-length)))
 
 -- one more stored behind the n of the group
 module _ (l : List Kept) (n : ℕ) (m : Kept) (h : n < length l) where
-  pub mends-store : map mendOf (take (n + 1) (set l n m)) ≡ map mendOf (take n l) ++ (mendOf m ∷ [])
-  mends-store = rw (add-one, take-suc-set l n m h) (map-append mendOf (take n l) (m ∷ []))
+  pub mends-store : map spelledOut (take (n + 1) (set l n m)) ≡ map spelledOut (take n l) ++ (spelledOut m ∷ [])
+  mends-store = rw (add-one, take-suc-set l n m h) (map-append spelledOut (take n l) (m ∷ []))
 
   pub small-store : Small m → ((i : ℕ) → i < n → Small (getD l i blank)) → (i : ℕ) → i < n + 1 → Small (getD (set l n m) i blank)
   small-store q r i g = let le : i ≤ n = omega arith in go (eq-or-lt-of-le le)

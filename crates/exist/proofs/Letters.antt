@@ -5,10 +5,10 @@ use native.Mathlib.Nat.{pow-succ', div-div-eq-div-mul, div-one}
 use native.Mathlib.Numerals.{add-one}
 use mathlib.Core.Path.{_≡_, refl, sym, ap, _∙_}
 use mathlib.Core.List.{List, [], _∷_}
-use lib.ListN.{length, getD, take, drop, set, length-append, List·getD-append, drop-of-length-le}
-use lib.Seq.{getD-at, drop-cons, take-suc, take-suc-set, take-all}
+use lib.ListN.{length, getD, take, set, length-append, List·getD-append}
+use lib.Seq.{getD-at, take-suc, take-suc-set, take-all}
 use lib.Bits.{bitAnd, and-mask}
-use Rattle.rules.specs.Letters.{code, letter, lastLetter, last, addBase, addAll, inPlace}
+use Rattle.rules.specs.Letters.{code, letter, lastLetter, last, addAll, inPlace}
 use Rattle.rules.proofs.Kmer.{two-four, code-letter}
 use Rattle.scenario.specs.declared.Mend.{Mend}
 use Rattle.exist.specs.Exist.{LetterIs}
@@ -49,17 +49,6 @@ write-next out l i h g e q = rw (add-one, take-suc-set out i _ h, take-suc l i 0
 
 pub write-end : (out l : List ℕ) (i n : ℕ) → i ≡ n → length l ≤ i → take i out ≡ take i l → take n out ≡ l
 write-end out l i n e h q = rw (← e) (q ∙ take-all i l h)
-
--- ---- bases added one by one
-
-module _ (k z : ℕ) (bs : List ℕ) (i : ℕ) where
-  pub add-next : {z′ : ℕ} → i < length bs → z′ ≡ addBase k z (getD bs i 0) → addAll k z (drop i bs) ≡ addAll k z′ (drop (i + 1) bs)
-  unfolding addAll
-  add-next h e = rw (drop-cons bs i 0 h, add-one, e)
-
-  pub add-end : length bs ≤ i → addAll k z (drop i bs) ≡ z
-  unfolding addAll
-  add-end h = rw (drop-of-length-le bs h)
 
 pub placed : (k y : ℕ) (l : List ℕ) {z z′ : ℕ} → z ≡ y / 4 → addAll k z l ≡ z′ → z′ ≡ inPlace k y l
 unfolding inPlace

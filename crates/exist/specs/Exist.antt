@@ -15,7 +15,7 @@ use Rattle.scan.specs.declared.Next.{Next}
 use Rattle.scan.specs.declared.Next.the-variants.{Kmer, Refused}
 use Rattle.scenario.specs.declared.Trial.{Trial}
 use Rattle.scenario.specs.declared.Mend.{Mend}
-use Rattle.scenario.specs.Scenario.{mendOf, Small}
+use Rattle.scenario.specs.Scenario.{spelledOut, Small}
 use Rattle.exist.specs.declared.Scenarii.{Scenarii}
 use Rattle.exist.specs.declared.More.{More}
 use Rattle.exist.specs.declared.Pick.{Pick}
@@ -49,13 +49,13 @@ pub record LetterIs (m : Mend) (i a : ℕ) : Type 0 where
 
 -- ---- the choice
 
--- What no scenario is kept as yet.
+-- The entry of a place of the group where no scenario is kept yet.
 abbrev pub blank : Mend
 blank = record { code = 0; letters = 0; resume = 0 }
 
 -- The mends of the group.
 abbrev pub mendsOf : Scenarii → List rules.Mend
-mendsOf r = map mendOf (take (r .count) (r .kept))
+mendsOf r = map spelledOut (take (r .count) (r .kept))
 
 -- The group has room for all scenarios, and what is kept is small.
 pub record Held (r : Scenarii) : Type 0 where
@@ -80,7 +80,7 @@ pub record MoreIs (m : rules.Mend) (t : Try rules.Mend) (r : More) : Type 0 wher
 
 -- The mend of the answer o, or a refusal.
 abbrev pub PickIs : Option rules.Mend → Pick → Type 0
-PickIs o (Use m) = (o ≡ some (mendOf m)) × Small m
+PickIs o (Use m) = (o ≡ some (spelledOut m)) × Small m
 PickIs o NoUse = o ≡ none
 
 pub record ChoiceIs (t : Try rules.Mend) (r : Choice) : Type 0 where

@@ -6,16 +6,17 @@ use scan::Next;
 use scenario::Mend;
 use scenario::Trial;
 ghost use mathlib.Core.Path.{_≡_};
-ghost use Prim.Native.Nat.{_≤_, _<_};
+ghost use Prim.Native.Nat.{_≤_, _<_, _^_};
 ghost use lib.ListN.{length, take};
-ghost use Rattle.rules.specs.Letters.{last, inPlace, addAll};
+ghost use Rattle.rules.specs.Letters.{last, inPlace};
 ghost use Rattle.rules.specs.Set.{solid, setOf};
+ghost use Rattle.rules.specs.Counted.{after};
 ghost use Rattle.rules.specs.Scan.{errorLen};
 ghost use Rattle.rules.specs.Exist as rules;
 ghost use Rattle.kmer.specs.Kmer.{Shifts, IsKmer, HasCode};
 ghost use Rattle.set.specs.Ready.{Ready};
 ghost use Rattle.scan.specs.Attempt.{Attempted};
-ghost use Rattle.scenario.specs.Scenario.{numberOf, scenarios, nth, mendOf, Small};
+ghost use Rattle.scenario.specs.Scenario.{numberOf, scenarios, nth, spelledOut, Small};
 ghost use Rattle.exist.specs.Exist.{Eligible, mendsOf, Held, KeptIs, LetterIs, MoreIs, ChoiceIs};
 
 // The scenarios kept, the first `count` of the group, and the lookups of all scenarios.
@@ -159,17 +160,6 @@ fn in_place(kmer: Kmer, mend: Mend, head: Header) -> Kmer
     placed
 }
 
-fn add_all(kmer: Kmer, bases: &[u8], head: Header) -> Kmer
-    requires { ⌜ Shifts head × IsKmer (head .k) kmer ⌝ }
-    ensures { λ r. ⌜ HasCode (head .k) (addAll (head .k) (kmer .code) (now (bases .entry))) r ⌝ }
-{
-    let mut last = kmer;
-    for i in 0..bases.len() {
-        last = scan::add_base(last, bases[i], head);
-    }
-    last
-}
-
 fn one_more(
     set: &[u8],
     starts: &[u32],
@@ -180,7 +170,7 @@ fn one_more(
     mend: Mend,
 ) -> More
     requires { ⌜ Ready (now set) (now starts) head × IsKmer (head .k) kmer × (c < 256) × Small mend ⌝ }
-    ensures { λ r. ⌜ MoreIs (mendOf mend) (rules.oneMore (head .k) (solid (setOf (now (set .entry)))) c (now (s .entry)) (kmer .code) (mendOf mend)) r ⌝ }
+    ensures { λ r. ⌜ MoreIs (spelledOut mend) (rules.oneMore (head .k) (solid (setOf (now (set .entry)))) c (now (s .entry)) (kmer .code) (spelledOut mend)) r ⌝ }
 {
     let resume = mend.resume;
     let end = c + resume + 1;
@@ -190,7 +180,7 @@ fn one_more(
             lookups: 0,
         };
     }
-    let after = add_all(in_place(kmer, mend, head), &s[resume..end], head);
+    let after = scan::add_all(in_place(kmer, mend, head), &s[resume..end], head);
     More {
         solid: set::get(set, starts, head, after),
         lookups: 1,
@@ -247,28 +237,29 @@ fn choose(
     }
 }
 
-// An attempt by One or by Two at the bad k-mer, s the rest of the read at its bad base.
+// An attempt by One or by Two at the bad k-mer, s the rest of the read at its bad base; `made` are the lookups before it, of GapSize's scan.
 pub fn correct_error(
     set: &[u8],
     starts: &[u32],
     head: Header,
     two: bool,
     c: u8,
+    made: u64,
     kmer: Kmer,
     s: &[u8],
     out: &mut [u8],
 ) -> Attempt
-    requires { ⌜ Ready (now set) (now starts) head × IsKmer (head .k) kmer × (1 ≤ c) ⌝ }
+    requires { ⌜ Ready (now set) (now starts) head × IsKmer (head .k) kmer × (1 ≤ c) × (made < 2 ^ 63) ⌝ }
     ensures { λ r. ⌜ Attempted (errorLen (head .k) (solid (setOf (now (set .entry)))) (kmer .code) (now (s .entry)) .index) (now (out .entry)) (now (out .exit))
-        (rules.exist (head .k) (solid (setOf (now (set .entry)))) c (now (s .entry)) (scenarios two (head .k) (solid (setOf (now (set .entry))))) (kmer .code)) r ⌝ }
+        (after made (rules.exist (head .k) (solid (setOf (now (set .entry)))) c (now (s .entry)) (scenarios two (head .k) (solid (setOf (now (set .entry))))) (kmer .code))) r ⌝ }
 {
     let Next::Kmer(x) = scan::sole_alt(set, starts, head, kmer) else {
-        return Attempt::Refused(4);
+        return Attempt::Refused(made + 4);
     };
     let confirm = c as usize;
     let scenarii = get_scenarii(set, starts, head, two, confirm, x, s);
     let choice = choose(set, starts, head, confirm, kmer, s, scenarii);
-    let lookups = 4 + scenarii.lookups + choice.lookups;
+    let lookups = made + 4 + scenarii.lookups + choice.lookups;
     let pick = choice.pick;
     let Pick::Mend(mend) = pick else {
         return Attempt::Refused(lookups);

@@ -5,9 +5,9 @@ use native.Mathlib.Numerals.{add-one}
 use mathlib.Core.Bool.{Bool, true, false}
 use mathlib.Core.Path.{_≡_, refl, _∙_}
 use mathlib.Core.List.{List, [], _++_, append-assoc}
-use lib.Dec.{ltb, leb}
-use borrow.Author.Tests.{ltb-true, ltb-false, leb-true, leb-false}
-use lib.ListN.{length, getD, take, drop, set, length-append, length-take, length-drop, drop-of-length-le, List·getD-append, List·getD-eq-default}
+use lib.Dec.{leb}
+use borrow.Author.Tests.{leb-true, leb-false}
+use lib.ListN.{length, getD, take, drop, set, length-append, length-take, length-drop, drop-of-length-le, List·getD-append}
 use lib.Seq.{take-all, take-suc, drop-cons, set-at, length-take-le, getD-take}
 use Rattle.exports.specs.Numbers.{laid}
 
@@ -37,21 +37,13 @@ module _ (ns old : List ℕ) (i : ℕ) where
       go true h = let l = leb-true (length ns) (length old) h in begun-whole (omega arith) l
       go false h = let l = leb-false (length ns) (length old) h in begun-short (omega arith) (omega arith)
 
-  laid-there : i < length ns → i < length old → getD (laid ns old) i 0 ≡ getD ns i 0
+  -- What is laid at i is number i.
+  pub laid-there : i < length ns → i < length old → getD (laid ns old) i 0 ≡ getD ns i 0
   unfolding laid
   laid-there h l =
       let n : i < length (take (length old) ns) = simp length-take (omega arith) in
       List·getD-append (take (length old) ns) (drop (length ns) old) 0 i n ∙ getD-take (length old) ns i 0 l
 
-  laid-beyond : length old ≤ i → getD (laid ns old) i 0 ≡ 0
-  unfolding laid
-  laid-beyond l =
-      List·getD-eq-default (laid ns old) 0 (simp (length-append, length-take, length-drop) (omega arith))
-
-  -- What is laid at i is number i, or there is no i.
-  pub laid-le : i < length ns → getD (laid ns old) i 0 ≤ getD ns i 0
-  laid-le h = go (ltb i (length old)) refl
-    where
-      go : (t : Bool) → ltb i (length old) ≡ t → getD (laid ns old) i 0 ≤ getD ns i 0
-      go true l = omega (arith, laid-there h (ltb-true i (length old) l))
-      go false l = omega (arith, laid-beyond (ltb-false i (length old) l))
+pub laid-length : (ns old : List ℕ) → length (laid ns old) ≡ length old
+unfolding laid
+laid-length ns old = simp (length-append, length-take, length-drop) (omega arith)

@@ -1,3 +1,2 @@
 pub mod Laid
-pub mod Solids
 pub mod Told

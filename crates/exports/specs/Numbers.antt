@@ -1,34 +1,40 @@
 -- What a host is told: a call's answer as numbers in a lent slice.
-use Prim.Native.Nat.{ℕ, _*_, _≤_}
+use Prim.Native.Nat.{ℕ, _≤_}
 use mathlib.Core.Path.{_≡_}
 use mathlib.Core.List.{List, [], _∷_, _++_}
 use lib.ListN.{length, getD, take, drop}
-use Rattle.rules.specs.Refusal.{Outcome, accepted, refused}
+use Rattle.rules.specs.Refusal.{Refusal, Outcome, accepted, refused}
 use Rattle.rules.specs.Report.{Report}
-use Rattle.rules.specs.Set.{KmerSet}
+use Rattle.rules.specs.Set.{KmerSet, opened}
 use Rattle.rules.specs.Job.{Method}
-use Rattle.rules.specs.Counts.{sum, allPasses, W, ceiling}
+use Rattle.rules.specs.Counts.{Demand3}
 use Rattle.rules.specs.Calls.{After}
+use Rattle.rules.specs.Solid.{Solids}
 use Rattle.blocks.specs.declared.Opened.{Opened}
-use Rattle.blocks.specs.declared.Opened.the-variants as Openings
+use Rattle.blocks.specs.Opened.{Opens}
 
 -- A call: the refusal's number (0: accepted), its place, then written, turns, lookups, attempts, accepted, yield. What does not apply is 0.
 unfoldable pub numbersOf : Outcome Report → List ℕ
 numbersOf (accepted r) = 0 ∷ 0 ∷ r .written ∷ r .turns ∷ r .lookups ∷ r .attempts ∷ r .accepted ∷ r .yield ∷ []
 numbersOf (refused r) = r .number ∷ r .place ∷ 0 ∷ 0 ∷ 0 ∷ 0 ∷ 0 ∷ 0 ∷ []
 
+-- Where a call answers two numbers: of its refusal, number and place.
+abbrev pub refusedNumbers : Refusal → List ℕ
+refusedNumbers r = r .number ∷ r .place ∷ 0 ∷ 0 ∷ []
+
 -- Opening: the refusal's number (0: none), its place, k, n.
 unfoldable pub openNumbers : Outcome KmerSet → List ℕ
 openNumbers (accepted set) = 0 ∷ 0 ∷ set .k ∷ length (set .keys) ∷ []
-openNumbers (refused r) = r .number ∷ r .place ∷ 0 ∷ 0 ∷ []
+openNumbers (refused r) = refusedNumbers r
 
--- The same of what the code answers.
-abbrev pub openNumbersOf : Opened → List ℕ
-openNumbersOf (Openings.Set k n) = 0 ∷ 0 ∷ k ∷ n ∷ []
-openNumbersOf Openings.Length = 7 ∷ 0 ∷ 0 ∷ 0 ∷ []
-openNumbersOf (Openings.Check block) = 8 ∷ block ∷ 0 ∷ 0 ∷ []
-openNumbersOf Openings.Header = 9 ∷ 0 ∷ 0 ∷ 0 ∷ []
-openNumbersOf (Openings.Key word) = 10 ∷ word ∷ 0 ∷ 0 ∷ []
+-- What opening answered, told as the rules' numbers: of any bytes that open so.
+abbrev pub OpenNumbers : Opened → List ℕ → Type 0
+OpenNumbers o ns = (bytes : List ℕ) → Opens bytes o → ns ≡ openNumbers (opened bytes)
+
+-- Counting: the refusal's number (0: none), its place, the read's k-mers, the solid ones among them.
+unfoldable pub solidNumbers : Outcome Solids → List ℕ
+solidNumbers (accepted count) = 0 ∷ 0 ∷ count .kmers ∷ count .solid ∷ []
+solidNumbers (refused r) = refusedNumbers r
 
 -- As many of the numbers as there is room for, from the start; the rest stays as it was.
 unfoldable pub laid : List ℕ → List ℕ → List ℕ
@@ -45,8 +51,6 @@ pub record Exact (after : After) (old : List ℕ) (r : ℕ) (o w new : List ℕ)
   pub output : o ≡ after .output
   pub work : w ≡ after .work
 
--- Demand 3's ceilings, of an accepted call: turns and lookups are numbers 3 and 4 of the answer, if it has so many.
+-- Demand 3, of an accepted call: turns and lookups are numbers 3 and 4 of an answer that has so many.
 abbrev pub Ceiling : KmerSet → ℕ → List Method → List (List ℕ) → ℕ → List ℕ → Type 0
-Ceiling set c ms reads r new =
-    r ≡ 0
-    → (getD new 3 0 ≤ 2 * sum (W set c) (allPasses set c ms reads)) × (getD new 4 0 ≤ sum (ceiling set c) (allPasses set c ms reads))
+Ceiling set c ms reads r new = r ≡ 0 → 5 ≤ length new → Demand3 set c ms reads (getD new 3 0) (getD new 4 0)

@@ -1,22 +1,21 @@
 // The calls of document 01 for C and Rust: a slice passes as pointer and length, and what a call answers stands as numbers in a lent slice.
 // corrector.h says the same for a host.
 use blocks::Opened;
-use job::Answer;
-use kmer::Header;
+use refusal::Refusal;
+use report::Answer;
+use solid::Count;
 ghost use mathlib.Core.Path.{_≡_};
 ghost use mathlib.Core.List.{[], _∷_};
-ghost use Prim.Native.Nat.{_≤_, _<_, min};
+ghost use Prim.Native.Nat.{_<_};
 ghost use lib.ListN.{length};
 ghost use Rattle.rules.specs.Set.{setOf, opened};
 ghost use Rattle.rules.specs.Job.{methodsOf, lines};
 ghost use Rattle.rules.specs.Calls.{correctRead, correctBatch};
-ghost use Rattle.set.specs.Ready.{Ready};
-ghost use Rattle.job.specs.Answer.{given, answerOf};
-ghost use Rattle.exports.specs.Numbers.{numbersOf, openNumbers, openNumbersOf, Told, Exact, Ceiling};
-ghost use Rattle.exports.specs.Solid.{solids, countSolid};
-
-// The entries of the table that set::prepare fills.
-const STARTS: usize = 65537;
+ghost use Rattle.rules.specs.Solid.{countSolid};
+ghost use Rattle.refusal.specs.Refusal.{refusalOf};
+ghost use Rattle.report.specs.Answer.{given, answerOf};
+ghost use Rattle.solid.specs.Solid.{countOf};
+ghost use Rattle.exports.specs.Numbers.{numbersOf, refusedNumbers, openNumbers, OpenNumbers, solidNumbers, Told, Exact, Ceiling};
 
 // The numbers of a call.
 fn numbers_of(answer: Answer) -> [u64; 8]
@@ -34,8 +33,8 @@ fn numbers_of(answer: Answer) -> [u64; 8]
             report.yield_,
         ],
         Answer::Refused(refusal) => [
-            job::number_of(refusal),
-            job::place_of(refusal),
+            refusal::number_of(refusal),
+            refusal::place_of(refusal),
             0,
             0,
             0,
@@ -46,23 +45,36 @@ fn numbers_of(answer: Answer) -> [u64; 8]
     }
 }
 
+// The four numbers of a call that answers two.
+fn refused_numbers(refusal: Refusal) -> [u64; 4]
+    ensures { λ r. ⌜ r ≡ refusedNumbers (refusalOf refusal) ⌝ }
+{
+    [
+        refusal::number_of(refusal),
+        refusal::place_of(refusal),
+        0,
+        0,
+    ]
+}
+
 // The numbers of opening.
 fn open_numbers(opened: Opened) -> [u64; 4]
-    ensures { λ r. ⌜ r ≡ openNumbersOf opened ⌝ }
+    ensures { λ r. ⌜ OpenNumbers opened r ⌝ }
 {
     match opened {
         Opened::Set(k, n) => [0, 0, k as u64, n as u64],
-        Opened::Length => [7, 0, 0, 0],
-        Opened::Check(block) => [8, block as u64, 0, 0],
-        Opened::Header => [9, 0, 0, 0],
-        Opened::Key(word) => [10, word as u64, 0, 0],
+        Opened::Refused(refusal) => refused_numbers(refusal),
     }
 }
 
-fn lesser(a: usize, b: usize) -> usize
-    ensures { λ r. ⌜ r ≡ min a b ⌝ }
+// The numbers of counting.
+fn solid_numbers(count: Count) -> [u64; 4]
+    ensures { λ r. ⌜ r ≡ solidNumbers (countOf count) ⌝ }
 {
-    if a < b { a } else { b }
+    match count {
+        Count::Solid(kmers, solid) => [0, 0, kmers, solid],
+        Count::Refused(refusal) => refused_numbers(refusal),
+    }
 }
 
 // Writes as many numbers as there is room for, and returns the first.
@@ -70,11 +82,19 @@ fn tell(numbers: &[u64], answer: &mut [u64]) -> u64
     requires { ⌜ 0 < length (now numbers) ⌝ }
     ensures { λ r. ⌜ Told (now (numbers .entry)) (now (answer .entry)) r (now (answer .exit)) ⌝ }
 {
-    let end = lesser(numbers.len(), answer.len());
+    let end = number::lesser(numbers.len(), answer.len());
     for i in 0..end {
         answer[i] = numbers[i];
     }
     numbers[0]
+}
+
+// What a call that corrects tells.
+fn tell_answer(done: Answer, answer: &mut [u64]) -> u64
+    ensures { λ r. ⌜ Told (numbersOf (answerOf done)) (now (answer .entry)) r (now (answer .exit)) ⌝ }
+{
+    let numbers = numbers_of(done);
+    tell(&numbers, answer)
 }
 
 // Refusals 7 to 10, or k and n.
@@ -103,8 +123,10 @@ pub extern "C" fn corrector_read(
     ensures ceiling { λ r. ⌜
         Ceiling (setOf (now (set .entry))) confirm (methodsOf (now (methods .entry))) (now (read .entry) ∷ []) r (now (answer .exit)) ⌝ }
 {
-    let numbers = numbers_of(job::correct_read(set, confirm, methods, read, output, work));
-    tell(&numbers, answer)
+    tell_answer(
+        job::correct_read(set, confirm, methods, read, output, work),
+        answer,
+    )
 }
 
 // The batch call.
@@ -124,38 +146,17 @@ pub extern "C" fn corrector_batch(
     ensures ceiling { λ r. ⌜
         Ceiling (setOf (now (set .entry))) confirm (methodsOf (now (methods .entry))) (lines (now (batch .entry))) r (now (answer .exit)) ⌝ }
 {
-    let numbers = numbers_of(job::correct_batch(set, confirm, methods, batch, output, work));
-    tell(&numbers, answer)
+    tell_answer(
+        job::correct_batch(set, confirm, methods, batch, output, work),
+        answer,
+    )
 }
 
-// A plain loop of lookups.
-fn count_solid(set: &[u8], starts: &[u32], head: Header, read: &[u8]) -> u64
-    requires { ⌜ Ready (now set) (now starts) head × (head .k ≤ length (now read)) ⌝ }
-    ensures { λ r. ⌜ r ≡ solids (setOf (now (set .entry))) (now (read .entry)) ⌝ }
-{
-    let k = head.k;
-    let mut kmer = kmer::seq2bit(read, head);
-    let mut count = set::get(set, starts, head, kmer) as u64;
-    for i in k..read.len() {
-        kmer = scan::add_base(kmer, read[i], head);
-        count += set::get(set, starts, head, kmer) as u64;
-    }
-    count
-}
-
-// How many of a read's k-mers are solid: the least that a pass over it asks.
+// The k-mers of a read, and the solid ones among them. Refusals 1 and 7 to 10.
 #[no_mangle]
-pub extern "C" fn corrector_count_solid(set: &[u8], read: &[u8]) -> u64
-    ensures { λ r. ⌜ r ≡ countSolid (opened (now (set .entry))) (now (read .entry)) ⌝ }
+pub extern "C" fn corrector_count_solid(set: &[u8], read: &[u8], answer: &mut [u64]) -> u64
+    ensures { λ r. ⌜ Told (solidNumbers (countSolid (now (set .entry)) (now (read .entry)))) (now (answer .entry)) r (now (answer .exit)) ⌝ }
 {
-    let opened = blocks::open(set);
-    let Opened::Set(k, n) = opened else {
-        return 0;
-    };
-    if read.len() < k {
-        return 0;
-    }
-    let mut starts = [0u32; STARTS];
-    let head = set::prepare(set, k, n, &mut starts);
-    count_solid(set, &starts, head, read)
+    let numbers = solid_numbers(solid::count_solid(set, read));
+    tell(&numbers, answer)
 }

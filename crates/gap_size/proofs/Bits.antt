@@ -19,8 +19,7 @@ use Rattle.rules.proofs.Scan.{sole-is}
 use Rattle.rules.specs.Scan.{sole}
 use Rattle.kmer.specs.declared.Header.{Header}
 use Rattle.kmer.specs.Kmer.{Shifts}
-use Rattle.gap_size.specs.declared.Met.{Met}
-use Rattle.gap_size.specs.Filter.{prefix, suffix, hashOf, slotOf, bitsOf, Has, In, Marked, Noted, Covers, Begun, Asked}
+use Rattle.gap_size.specs.Filter.{allButLast, suffix, hashOf, slotOf, bitsOf, Has, In, BitsSet, Noted, Covers, Begun, Asked}
 
 within : (k w m b : ℕ) → b < 2 ^ k → bitAnd w b ≡ b → bitAnd (bitOr w m) b ≡ b
 within zero w m b lt h = let z : b ≡ 0 = omega arith in rw z (and-zero-r (bitOr w m))
@@ -56,7 +55,7 @@ kept-at filter at m lt j b h = elim (ℕ-discrete j at) [
 
 -- bits of a word set
 pub marked : (filter : List ℕ) (hash bits at : ℕ) → at ≡ slotOf hash (length filter) → at < length filter
-    → Marked filter (set filter at (bitOr (getD filter at 0) bits)) hash bits (eqb (bitAnd (getD filter at 0) bits) bits)
+    → BitsSet filter (set filter at (bitOr (getD filter at 0) bits)) hash bits (eqb (bitAnd (getD filter at 0) bits) bits)
 unfolding Has
 marked filter hash bits at a-is lt =
     record {
@@ -69,7 +68,7 @@ marked filter hash bits at a-is lt =
 -- a code put in, where the answer is no only if one of the two is
 module _ {filter mid filter′ : List ℕ} {code h b b′ : ℕ} {r r′ q : Bool} (h-is : h ≡ hashOf code) (b-is : b ≡ bitsOf (h / 2 ^ 18))
     (b′-is : b′ ≡ bitsOf (h / 2 ^ 30)) where
-  pub noted : Marked filter mid (h / 2 ^ 42) b r → Marked mid filter′ h b′ r′ → (q ≡ false → (r ≡ false) ⊎ (r′ ≡ false)) → Noted filter filter′ code q
+  pub noted : BitsSet filter mid (h / 2 ^ 42) b r → BitsSet mid filter′ h b′ r′ → (q ≡ false → (r ≡ false) ⊎ (r′ ≡ false)) → Noted filter filter′ code q
   noted v₀ w₀ told =
       let v = rw (b-is, h-is) at v₀ in
       let w = rw (b′-is, h-is) at w₀ in
@@ -105,28 +104,28 @@ pub suffix-is : {head : Header} → Shifts head → (y : ℕ) → bitAnd y (head
 suffix-is {head} s y = rw (s .top-is, ← two-four (head .k - 1)) (and-mask y (2 * (head .k - 1)))
 
 -- a successor begins as the k-mer before it ends
-pub prefix-is : (k : ℕ) (sol : ℕ → Bool) (y z : ℕ) → 1 ≤ k → sole k sol y .answer ≡ some z → prefix z ≡ suffix k y
-prefix-is zero sol y z l e = absurd (omega arith)
-prefix-is (suc j) sol y z l e =
+pub move-begins : (k : ℕ) (sol : ℕ → Bool) (y z : ℕ) → 1 ≤ k → sole k sol y .answer ≡ some z → allButLast z ≡ suffix k y
+move-begins zero sol y z l e = absurd (omega arith)
+move-begins (suc j) sol y z l e =
     let o = sole-is (suc j) sol y z e in
     let e′ : suc j - 1 ≡ j = omega arith in
     rw (o .is, add-is j y (o .by) (o .by-lt), e′) (omega (arith, o .by-lt))
 
-pub begun : (k x : ℕ) {filter mid filter′ : List ℕ} {r r′ : Bool} → Noted filter mid (prefix x) r → Noted mid filter′ (suffix k x) r′
+pub begun : (k x : ℕ) {filter mid filter′ : List ℕ} {r r′ : Bool} → Noted filter mid (allButLast x) r → Noted mid filter′ (suffix k x) r′
     → Begun k filter filter′ x r′
 begun k x {filter} {mid} {filter′} v w =
     record {
       same = w .same ∙ v .same;
       covers =
           record {
-            begins = λ z h. subst (λ (y : ℕ). In filter′ (prefix y)) (sym (among-one z x h)) (w .kept (prefix x) (v .now-in));
+            begins = λ z h. subst (λ (y : ℕ). In filter′ (allButLast y)) (sym (among-one z x h)) (w .kept (allButLast x) (v .now-in));
             ends = λ z h. subst (λ (y : ℕ). In filter′ (suffix k y)) (sym (among-one z x h)) (w .now-in);
             latest = w .now-in;
-            new = λ e z h p. w .new e (subst (In mid) (sym (ap prefix (among-one z x h)) ∙ p) (v .now-in));
+            new = λ e z h p. w .new e (subst (In mid) (sym (ap allButLast (among-one z x h)) ∙ p) (v .now-in));
           };
     }
 
-module _ (k y : ℕ) {filter filter′ ys : List ℕ} {before maybe : Bool} (h : Covers k filter ys (prefix y) before)
+module _ (k y : ℕ) {filter filter′ ys : List ℕ} {before maybe : Bool} (h : Covers k filter ys (allButLast y) before)
     (w : Noted filter filter′ (suffix k y) maybe) where
   -- the next k-mer is passed
   pub asked : {q : Bool} → q ≡ among y ys → Asked k filter filter′ ys y (record { repeats = q; maybe = maybe })
@@ -136,7 +135,7 @@ module _ (k y : ℕ) {filter filter′ ys : List ℕ} {before maybe : Bool} (h :
         same = w .same;
         covers =
             record {
-              begins = λ z g. w .kept (prefix z) (had z (among-snoc z y ys g));
+              begins = λ z g. w .kept (allButLast z) (had z (among-snoc z y ys g));
               ends =
                   λ z g. ⊎-elim (λ a. w .kept (suffix k z) (h .ends z a)) (λ a. subst (λ (y′ : ℕ). In filter′ (suffix k y′)) (sym a) (w .now-in))
                   (among-snoc z y ys g);
@@ -145,8 +144,8 @@ module _ (k y : ℕ) {filter filter′ ys : List ℕ} {before maybe : Bool} (h :
             };
       }
     where
-      had : (z : ℕ) → (among z ys ≡ true) ⊎ (z ≡ y) → In filter (prefix z)
-      had z = ⊎-elim (h .begins z) (λ a. subst (λ (y′ : ℕ). In filter (prefix y′)) (sym a) (h .latest))
+      had : (z : ℕ) → (among z ys ≡ true) ⊎ (z ≡ y) → In filter (allButLast z)
+      had z = ⊎-elim (h .begins z) (λ a. subst (λ (y′ : ℕ). In filter (allButLast y′)) (sym a) (h .latest))
 
   -- it is new where either answer was no
   pub not-passed : (before ≡ false) ⊎ (maybe ≡ false) → false ≡ among y ys

@@ -1,11 +1,10 @@
 -- GapSize by its scan: below k, at k and above.
-use Prim.Native.Nat.{ℕ, _+_, _-_, _≤_, _<_}
-use native.Mathlib.Omega.{arith}
+use Prim.Native.Nat.{ℕ, _-_, _≤_, _<_}
 use borrow.Author.Tests.{lt-ltb, le-ltb, eq-eqb, ne-eqb}
-use mathlib.Core.Path.{_≡_, refl, sym, ap, _∙_, subst}
+use mathlib.Core.Path.{_≡_, sym, ap, _∙_, subst}
 use mathlib.Core.Bool.{Bool}
 use mathlib.Core.List.{List}
-use Rattle.rules.specs.Counted.{Counted, Try, after}
+use Rattle.rules.specs.Counted.{Try, after}
 use Rattle.rules.specs.Scan as rules
 use Rattle.rules.specs.Scan.{errorLen}
 use Rattle.rules.specs.Exist.{Mend, exist, one}
@@ -13,32 +12,8 @@ use Rattle.rules.specs.Graph.{graphFrom}
 use Rattle.rules.specs.GapSize.{gapFrom, gapSize}
 use Rattle.scan.specs.declared.Scan.{Scan}
 use Rattle.scan.specs.declared.Attempt.{Attempt}
-use Rattle.scan.specs.declared.Attempt.the-variants as attempt
 use Rattle.scan.specs.Scan.{scanOf}
-use Rattle.scan.specs.Attempt.{AttemptIs, Attempted}
-use Rattle.gap_size.specs.Gap.{later, cost}
-
--- ---- an answer after lookups made before it
-
-module _ {index : ℕ} {out out′ : List ℕ} {t : Try Mend} where
-  pub cost-le : {a : Attempt} (l : ℕ) → Attempted index out out′ t a → t .lookups ≤ l → cost a ≤ l
-  cost-le {a} l h le = go a (h .is)
-    where
-      go : (a′ : Attempt) → AttemptIs index out out′ t a′ → cost a′ ≤ l
-      go (attempt.Mend n r m) i = omega (arith, i .2)
-      go (attempt.Refused m) i = omega (arith, i .1)
-      go attempt.Full i = omega arith
-
-  attempted-later : {a : Attempt} (l : ℕ) → Attempted index out out′ t a → Attempted index out out′ (after l t) (later l a)
-  unfolding after
-  attempted-later {a} l h = record { is = go a (h .is); room = h .room }
-    where
-      go : (a′ : Attempt) → AttemptIs index out out′ t a′ → AttemptIs index out out′ (after l t) (later l a′)
-      go (attempt.Mend n r m) i = (i .0, i .1, ap (λ (x : ℕ). l + x) (i .2))
-      go (attempt.Refused m) i = (i .0, ap (λ (x : ℕ). l + x) (i .1))
-      go attempt.Full i = i
-
--- ---- the three ways
+use Rattle.scan.specs.Attempt.{Attempted}
 
 module _ (k n : ℕ) (sol : ℕ → Bool) (c : ℕ) (s : List ℕ) (y : ℕ) {r : Scan} (e : scanOf r ≡ errorLen k sol y s) where
   abbrev sc : rules.Scan
@@ -58,12 +33,12 @@ module _ (k n : ℕ) (sol : ℕ → Bool) (c : ℕ) (s : List ℕ) (y : ℕ) {r 
     unfolding gapSize
     gap-below lt h = rw (gapSize, lt-ltb (sc .index) k (rw (← index-is) lt)) (by-scan (λ w. graphFrom k n sol w y) h)
 
-    pub gap-at : k ≤ r .index → r .index ≡ k → Attempted (sc .index) out out′ (exist k sol c s (one k sol) y) a
-        → Attempted (sc .index) out out′ (gapSize k n sol c s y) (later (r .lookups) a)
+    pub gap-at : k ≤ r .index → r .index ≡ k → Attempted (sc .index) out out′ (after (r .lookups) (exist k sol c s (one k sol) y)) a
+        → Attempted (sc .index) out out′ (gapSize k n sol c s y) a
     unfolding gapSize
     gap-at le q h =
-        rw (gapSize, le-ltb (sc .index) k (rw (← index-is) le), eq-eqb (sc .index) k (sym index-is ∙ q), ap (λ (w : rules.Scan). w .lookups) e)
-        (attempted-later (sc .lookups) h)
+        rw (gapSize, le-ltb (sc .index) k (rw (← index-is) le), eq-eqb (sc .index) k (sym index-is ∙ q))
+        (rw (ap (λ (w : rules.Scan). w .lookups) e) at h)
 
     pub gap-above : k ≤ r .index → (r .index ≡ k → ⊥) → Attempted (r .index) out out′ (after (r .lookups) (gapFrom k sol (r .index - k) y)) a
         → Attempted (sc .index) out out′ (gapSize k n sol c s y) a

@@ -4,15 +4,15 @@ use native.Mathlib.Omega.{arith}
 use native.Mathlib.Nat.{sub-zero}
 use native.Mathlib.Numerals.{add-one}
 use borrow.Author.Tests.{eq-eqb, ne-eqb}
-use mathlib.Core.Path.{_≡_, refl, sym, ap, _∙_, subst}
+use mathlib.Core.Path.{_≡_, refl, sym, ap, _∙_}
 use mathlib.Core.Bool.{Bool, true, false}
 use mathlib.Core.Option.{Option, none, some, Option·some-injective}
 use mathlib.Core.List.{List, [], _∷_, _++_}
-use lib.ListN.{length, take, drop, set, getD, length-append, length-set, length-take}
-use lib.Seq.{slice, slice-empty, slice-cons, length-slice, take-suc-set, drop-append-le, length-take-le}
-use Rattle.rules.specs.Letters.{add, addBase, addAll, code, last, lastLetter}
+use lib.ListN.{length, take, set, getD}
+use lib.Seq.{slice, slice-empty, slice-cons, take-suc-set, drop-append-le, length-take-le}
+use Rattle.rules.specs.Letters.{addBase, addAll, last, lastLetter}
 use Rattle.rules.specs.Set.{among, maxKeys, headerK, setOf, solid}
-use Rattle.rules.specs.Counted.{Counted, Try, after, refuse, give, next, _>>=_}
+use Rattle.rules.specs.Counted.{Try, after, refuse, give, next, _>>=_}
 use Rattle.rules.specs.Scan.{sole, alternative}
 use Rattle.rules.specs.Exist.{Mend}
 use Rattle.rules.specs.Graph.{end, also, end-distinct, also-distinct, spell}
@@ -26,7 +26,7 @@ use Rattle.kmer.specs.declared.Header.{Header}
 use Rattle.set.specs.Ready.{Ready}
 use Rattle.set.proofs.Opened.{opened-n-le, set-count}
 use Rattle.graph.proofs.Laws.{bind-none, bind-some, alternative-lookups}
-use Rattle.gap_size.specs.Gap.{mendFrom, onward, passed}
+use Rattle.gap_size.specs.Gap.{gapMend, onward, passed}
 
 -- ---- the k-mers that letters lead through
 
@@ -174,16 +174,16 @@ gap-room {k} {sol} {m} {x} {at} {i} {out} f h =
 
 module _ (k : ℕ) (sol : ℕ → Bool) (m x l : ℕ) where
   abbrev tried : Try Mend
-  tried = after l (mendFrom k sol m x)
+  tried = after l (gapMend k sol m x)
 
   pub gap-refused : (i l′ : ℕ) → gap k sol m (x ∷ []) x 0 ≡ record { answer = none; lookups = 4 * i + 4 } → l′ ≡ l + 4 * i + 4
       → (tried .answer ≡ none) × (tried .lookups ≡ l′)
-  unfolding after mendFrom _>>=_ next refuse
-  gap-refused i l′ e q = (rw (e, mendFrom), rw (e, mendFrom) (omega arith))
+  unfolding after gapMend _>>=_ next refuse
+  gap-refused i l′ e q = (rw (e, gapMend), rw (e, gapMend) (omega arith))
 
   pub gap-mends : {at i : ℕ} {out : List ℕ} → Filling k sol m x at i out → m ≤ i → i ≤ m → m < length out → (l′ : ℕ) → l′ ≡ l + 4 * i
       → (tried .answer ≡ some (record { letters = take (m + 1) out; resume = m + 1 })) × (m + 1 ≤ length out) × (tried .lookups ≡ l′)
-  unfolding after mendFrom _>>=_ next give gap
+  unfolding after gapMend _>>=_ next give gap
   gap-mends {at} {i} {out} f le ge room l′ q =
       let none-left : m - i ≡ 0 = omega arith in
       let all : i ≡ m = omega arith in
@@ -191,9 +191,9 @@ module _ (k : ℕ) (sol : ℕ → Bool) (m x l : ℕ) where
       let count : length (passed k x i out) ≡ m + 1 =
       gap-any k sol m (x ∷ []) x 0 .1 (passed k x i out) (ap (λ (t : Try (List ℕ)). t .answer) w) ∙ omega arith in
       let letters : spell (passed k x i out) ≡ take (m + 1) out = f .spelled ∙ ap (λ (n : ℕ). take (n + 1) out) all in (
-        rw (w, mendFrom) (λ j. some (record { letters = letters j; resume = count j })),
+        rw (w, gapMend) (λ j. some (record { letters = letters j; resume = count j })),
         omega arith,
-        rw (w, mendFrom) (omega arith),
+        rw (w, gapMend) (omega arith),
       )
 
 -- ---- from the bad k-mer to x
@@ -228,6 +228,6 @@ module _ (k : ℕ) (sol : ℕ → Bool) (m y l : ℕ) where
   unfolding gapFrom
   no-alternative e = let w = bind-none (alternative k sol y) _ l e in (w .0, w .1 ∙ rw (alternative-lookups k sol y))
 
-  pub from-alternative : (x : ℕ) → alternative k sol y .answer ≡ some x → attempt ≡ after (l + 4) (mendFrom k sol m x)
-  unfolding gapFrom mendFrom
+  pub from-alternative : (x : ℕ) → alternative k sol y .answer ≡ some x → attempt ≡ after (l + 4) (gapMend k sol m x)
+  unfolding gapFrom gapMend
   from-alternative x e = bind-some (alternative k sol y) _ l x e ∙ rw (alternative-lookups k sol y)

@@ -9,8 +9,8 @@ use Rattle.rules.specs.Set.{among}
 use Rattle.gap_size.specs.declared.Met.{Met}
 
 -- A k-mer's first k − 1 letters, and its last.
-abbrev pub prefix : ℕ → ℕ
-prefix y = y / 4
+abbrev pub allButLast : ℕ → ℕ
+allButLast y = y / 4
 
 abbrev pub suffix : ℕ → ℕ → ℕ
 suffix k y = y % 4 ^ (k - 1)
@@ -40,7 +40,7 @@ pub record In (filter : List ℕ) (code : ℕ) : Type 0 where
   pub other : Has filter (hashOf code) (bitsOf (hashOf code / 2 ^ 30))
 
 -- Bits are set, and none is cleared. The answer is no only where they were not all set.
-pub record Marked (filter filter′ : List ℕ) (hash bits : ℕ) (r : Bool) : Type 0 where
+pub record BitsSet (filter filter′ : List ℕ) (hash bits : ℕ) (r : Bool) : Type 0 where
   pub same : length filter′ ≡ length filter
   pub now-has : Has filter′ hash bits
   pub kept : (h b : ℕ) → Has filter h b → Has filter′ h b
@@ -56,10 +56,10 @@ pub record Noted (filter filter′ : List ℕ) (code : ℕ) (r : Bool) : Type 0 
 -- The filter has the first and the last k − 1 letters of all k-mers passed, and w, the last of the latest; before is false only if none of
 -- them begins with w.
 pub record Covers (k : ℕ) (filter ys : List ℕ) (w : ℕ) (before : Bool) : Type 0 where
-  pub begins : (z : ℕ) → among z ys ≡ true → In filter (prefix z)
+  pub begins : (z : ℕ) → among z ys ≡ true → In filter (allButLast z)
   pub ends : (z : ℕ) → among z ys ≡ true → In filter (suffix k z)
   pub latest : In filter w
-  pub new : before ≡ false → (z : ℕ) → among z ys ≡ true → prefix z ≡ w → ⊥
+  pub new : before ≡ false → (z : ℕ) → among z ys ≡ true → allButLast z ≡ w → ⊥
 
 -- x is the only k-mer passed.
 pub record Begun (k : ℕ) (filter filter′ : List ℕ) (x : ℕ) (before : Bool) : Type 0 where

@@ -17,13 +17,12 @@ use Rattle.kmer.specs.Kmer.{IsKmer}
 use Rattle.set.specs.Ready.{Ready}
 use Rattle.scan.specs.declared.Scan.{Scan}
 use Rattle.scan.specs.declared.Attempt.{Attempt}
-use Rattle.scan.specs.declared.Attempt.the-variants as attempt
 use Rattle.scan.specs.Attempt.{Attempted}
 
 -- That many moves from x; resume is the count of letters.
-unfoldable pub mendFrom : ℕ → (ℕ → Bool) → ℕ → ℕ → Try Mend
+unfoldable pub gapMend : ℕ → (ℕ → Bool) → ℕ → ℕ → Try Mend
 unfolding gap spell _>>=_ give
-mendFrom k sol moves x = gap k sol moves (x ∷ []) x 0 >>= (λ seen. give (record { letters = spell seen; resume = length seen }))
+gapMend k sol moves x = gap k sol moves (x ∷ []) x 0 >>= (λ seen. give (record { letters = spell seen; resume = length seen }))
 
 -- The k-mers after y that bases lead through.
 unfoldable pub onward : ℕ → ℕ → List ℕ → List ℕ
@@ -45,19 +44,8 @@ pub record Fillable (bytes starts : List ℕ) (head : Header) (scan : Scan) (x :
   pub few : scan .lookups < 2 ^ 63
 
 -- What they give.
-abbrev pub Filled : List ℕ → Header → Scan → Kmer → List ℕ → List ℕ → Attempt → Type 0
-Filled bytes head scan x out out′ r =
+abbrev pub GapIs : List ℕ → Header → Scan → Kmer → List ℕ → List ℕ → Attempt → Type 0
+GapIs bytes head scan x out out′ r =
     Attempted (scan .index) out out′
-    (after (scan .lookups + 4) (mendFrom (head .k) (solid (setOf bytes)) (scan .index - head .k) (x .code)))
+    (after (scan .lookups + 4) (gapMend (head .k) (solid (setOf bytes)) (scan .index - head .k) (x .code)))
     r
-
--- The same answer, after l lookups more; and the lookups of an answer.
-abbrev pub later : ℕ → Attempt → Attempt
-later l (attempt.Mend n r m) = attempt.Mend n r (l + m)
-later l (attempt.Refused m) = attempt.Refused (l + m)
-later l attempt.Full = attempt.Full
-
-abbrev pub cost : Attempt → ℕ
-cost (attempt.Mend n r l) = l
-cost (attempt.Refused l) = l
-cost attempt.Full = 0

@@ -3,7 +3,7 @@
 ghost use mathlib.Core.Path.{_≡_};
 ghost use Prim.Native.Nat.{_<_};
 ghost use lib.ListN.{length};
-ghost use Rattle.gap_size.specs.Filter.{hashOf, slotOf, bitsOf, Marked, Noted};
+ghost use Rattle.gap_size.specs.Filter.{hashOf, slotOf, bitsOf, BitsSet, Noted};
 
 // Products that fit, so that nothing wraps; the second spreads out the codes of few letters.
 fn hash(code: u64) -> u64
@@ -29,7 +29,7 @@ fn bits(hash: u64) -> u64
 // Sets bits of a word; whether all were set before.
 fn mark(filter: &mut [u64], hash: u64, marks: u64) -> bool
     requires { ⌜ 0 < length (now filter) ⌝ }
-    ensures { λ r. ⌜ Marked (now (filter .entry)) (now (filter .exit)) hash marks r ⌝ }
+    ensures { λ r. ⌜ BitsSet (now (filter .entry)) (now (filter .exit)) hash marks r ⌝ }
 {
     let at = slot(hash, filter.len());
     let word = filter[at];

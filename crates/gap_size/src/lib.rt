@@ -6,6 +6,7 @@ use kmer::Kmer;
 use scan::Attempt;
 use scan::Next;
 use scan::Scan;
+use scan::Sole;
 ghost use mathlib.Core.Path.{_≡_};
 ghost use mathlib.Core.Bool.{true};
 ghost use Prim.Native.Nat.{_+_, _-_, _^_, _≤_, _<_};
@@ -16,10 +17,9 @@ ghost use Rattle.rules.specs.Scan.{errorLen};
 ghost use Rattle.rules.specs.GapSize.{gapFrom, gapSize};
 ghost use Rattle.kmer.specs.Kmer.{Shifts, IsKmer};
 ghost use Rattle.set.specs.Ready.{Ready};
-ghost use Rattle.scan.specs.Scan.{scanOf};
 ghost use Rattle.scan.specs.Attempt.{Attempted};
-ghost use Rattle.gap_size.specs.Gap.{passed, Fillable, Filled, later, cost};
-ghost use Rattle.gap_size.specs.Filter.{prefix, suffix, Covers, Begun, Asked};
+ghost use Rattle.gap_size.specs.Gap.{passed, Fillable, GapIs};
+ghost use Rattle.gap_size.specs.Filter.{allButLast, suffix, Covers, Begun, Asked};
 
 // Whether a k-mer is x or one of those that the letters of that many moves lead through.
 fn seen(head: Header, x: Kmer, letters: &[u8], moves: usize, code: u64) -> bool
@@ -75,7 +75,7 @@ fn meet(
     filter: &mut [u64],
 ) -> Met
     requires { ⌜ Shifts head × IsKmer (head .k) x × (moves < length (now letters)) × (0 < length (now filter)) ⌝ }
-    requires { ⌜ Covers (head .k) (now filter) (passed (head .k) (x .code) moves (now letters)) (prefix (next .code)) before ⌝ }
+    requires { ⌜ Covers (head .k) (now filter) (passed (head .k) (x .code) moves (now letters)) (allButLast (next .code)) before ⌝ }
     ensures { λ r. ⌜ Asked (head .k) (now (filter .entry)) (now (filter .exit)) (passed (head .k) (x .code) moves (now (letters .entry))) (next .code) r ⌝ }
 {
     let maybe = filter::note(filter, suffix_of(head, next));
@@ -94,7 +94,7 @@ fn fill(
     out: &mut [u8],
 ) -> Attempt
     requires { ⌜ Fillable (now set) (now starts) head scan x (now out) × (0 < length (now filter)) ⌝ }
-    ensures { λ r. ⌜ Filled (now (set .entry)) head scan x (now (out .entry)) (now (out .exit)) r ⌝ }
+    ensures { λ r. ⌜ GapIs (now (set .entry)) head scan x (now (out .entry)) (now (out .exit)) r ⌝ }
 {
     let mut lookups = scan.lookups + 4;
     graph::write_last(out, 0, x);
@@ -103,9 +103,10 @@ fn fill(
     let moves = scan.index - head.k;
     for i in 0..moves {
         lookups += 4;
-        let Next::Kmer(next) = scan::sole_next(set, starts, head, at) else {
+        let Sole::Nuc(nuc) = scan::sole_nuc(scan::next_nucs(set, starts, head, at)) else {
             return Attempt::Refused(lookups);
         };
+        let next = kmer::add_nuc_to_end(at, nuc, head);
         let met = meet(head, x, out, i, before, next, filter);
         if met.repeats {
             return Attempt::Refused(lookups);
@@ -127,7 +128,7 @@ fn fill_short(
     out: &mut [u8],
 ) -> Attempt
     requires { ⌜ Fillable (now set) (now starts) head scan x (now out) ⌝ }
-    ensures { λ r. ⌜ Filled (now (set .entry)) head scan x (now (out .entry)) (now (out .exit)) r ⌝ }
+    ensures { λ r. ⌜ GapIs (now (set .entry)) head scan x (now (out .entry)) (now (out .exit)) r ⌝ }
 {
     let mut filter = [0u64; 64];
     fill(set, starts, head, scan, x, &mut filter, out)
@@ -142,7 +143,7 @@ fn fill_long(
     out: &mut [u8],
 ) -> Attempt
     requires { ⌜ Fillable (now set) (now starts) head scan x (now out) ⌝ }
-    ensures { λ r. ⌜ Filled (now (set .entry)) head scan x (now (out .entry)) (now (out .exit)) r ⌝ }
+    ensures { λ r. ⌜ GapIs (now (set .entry)) head scan x (now (out .entry)) (now (out .exit)) r ⌝ }
 {
     let mut filter = [0u64; 4096];
     fill(set, starts, head, scan, x, &mut filter, out)
@@ -157,7 +158,7 @@ fn fill_longest(
     out: &mut [u8],
 ) -> Attempt
     requires { ⌜ Fillable (now set) (now starts) head scan x (now out) ⌝ }
-    ensures { λ r. ⌜ Filled (now (set .entry)) head scan x (now (out .entry)) (now (out .exit)) r ⌝ }
+    ensures { λ r. ⌜ GapIs (now (set .entry)) head scan x (now (out .entry)) (now (out .exit)) r ⌝ }
 {
     let mut filter = [0u64; 131072];
     fill(set, starts, head, scan, x, &mut filter, out)
@@ -172,7 +173,7 @@ fn fill_by_length(
     out: &mut [u8],
 ) -> Attempt
     requires { ⌜ Fillable (now set) (now starts) head scan x (now out) ⌝ }
-    ensures { λ r. ⌜ Filled (now (set .entry)) head scan x (now (out .entry)) (now (out .exit)) r ⌝ }
+    ensures { λ r. ⌜ GapIs (now (set .entry)) head scan x (now (out .entry)) (now (out .exit)) r ⌝ }
 {
     let length = scan.index - head.k;
     if length <= 128 {
@@ -209,18 +210,6 @@ fn ins_sub_correction(
     fill_by_length(set, starts, head, scan, x, out)
 }
 
-// The same answer, after lookups made before it.
-fn after(lookups: u64, attempt: Attempt) -> Attempt
-    requires { ⌜ lookups + cost attempt < 2 ^ 64 ⌝ }
-    ensures { λ r. ⌜ r ≡ later lookups attempt ⌝ }
-{
-    match attempt {
-        Attempt::Mend(letters, resume, more) => Attempt::Mend(letters, resume, lookups + more),
-        Attempt::Refused(more) => Attempt::Refused(lookups + more),
-        Attempt::Full => Attempt::Full,
-    }
-}
-
 // kmer is the bad k-mer, s the rest of the read at its bad base. The scan decides, and is made and counted once.
 pub fn correct_error(
     set: &[u8],
@@ -242,8 +231,7 @@ pub fn correct_error(
         return graph::from_scan(set, starts, head, scan, kmer, out);
     }
     if scan.index == head.k {
-        let one = exist::correct_error(set, starts, head, false, c, kmer, s, out);
-        return after(scan.lookups, one);
+        return exist::correct_error(set, starts, head, false, c, scan.lookups, kmer, s, out);
     }
     ins_sub_correction(set, starts, head, scan, kmer, out)
 }

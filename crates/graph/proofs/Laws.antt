@@ -7,7 +7,7 @@ use native.Mathlib.Numerals.{add-one}
 use borrow.Author.Tests.{eq-eqb, ne-eqb}
 use mathlib.Core.Path.{_≡_, refl, sym, ap, _∙_, subst}
 use mathlib.Core.Bool.{Bool, true, false}
-use mathlib.Core.Option.{Option, none, some, Option·some-injective, Option·none-ne-some}
+use mathlib.Core.Option.{none, some, Option·some-injective, Option·none-ne-some}
 use mathlib.Core.List.{List, [], _∷_, _++_}
 use lib.ListN.{length, take, drop, set, length-drop, length-append, length-set}
 use lib.Seq.{take-append-le, take-all, take-nil, take-suc-set, set-out}
@@ -23,7 +23,7 @@ use Rattle.scan.specs.declared.Scan.{Scan}
 use Rattle.scan.specs.Scan.{scanOf}
 use Rattle.scan.specs.Attempt.{Attempted}
 use Rattle.scan.proofs.Laws.{sole-lookups, alternative-is}
-use Rattle.graph.specs.Walk.{Holds, mendFrom}
+use Rattle.graph.specs.Walk.{Holds, walkMend}
 
 -- ---- letters in a lent output
 
@@ -164,29 +164,29 @@ walk-over {n = n} {i = i} g e =
 
 module _ (k n : ℕ) (sol : ℕ → Bool) (sc : rules.Scan) (x m : ℕ) where
   abbrev tried : Try Mend
-  tried = after m (mendFrom k n sol sc x)
+  tried = after m (walkMend k n sol sc x)
 
   pub walk-refused : (l l′ : ℕ) → walkFrom k n sol (sc .end) x ≡ halted l → l′ ≡ m + l → (tried .answer ≡ none) × (tried .lookups ≡ l′)
-  unfolding after mendFrom _>>=_ next refuse
-  walk-refused l l′ e q = (rw (e, mendFrom), rw (e, mendFrom) (omega arith))
+  unfolding after walkMend _>>=_ next refuse
+  walk-refused l l′ e q = (rw (e, walkMend), rw (e, walkMend) (omega arith))
 
   module _ {l many : ℕ} {out : List ℕ} (w : Arrived k n sol (sc .end) x l many out) where
     pub walk-mends : (l′ : ℕ) → l′ ≡ m + l → many ≤ length out
         → (tried .answer ≡ some (record { letters = take many out; resume = sc .index + 1 })) × (many ≤ length out) × (tried .lookups ≡ l′)
-    unfolding after mendFrom _>>=_ next give
+    unfolding after walkMend _>>=_ next give
     walk-mends l′ q h =
         let c = w .count in (
-          rw (w .is, mendFrom, add-one, ← c)
+          rw (w .is, walkMend, add-one, ← c)
               (ap (λ (ls : List ℕ). some (record { letters = ls; resume = suc (sc .index) })) (holds-all (w .letters) out (omega arith) (w .holds))),
           h,
-          rw (w .is, mendFrom) (omega arith),
+          rw (w .is, walkMend) (omega arith),
         )
 
     pub walk-full : (room : ℕ) → room < many
         → ((d : Mend) → tried .answer ≡ some d → room < length (d .letters)) × (tried .answer ≡ none → room < sc .index)
-    unfolding after mendFrom _>>=_ next give
+    unfolding after walkMend _>>=_ next give
     walk-full room h =
-        let a : tried .answer ≡ some (record { letters = w .letters; resume = suc (sc .index) }) = rw (w .is, mendFrom) in (
+        let a : tried .answer ≡ some (record { letters = w .letters; resume = suc (sc .index) }) = rw (w .is, walkMend) in (
           λ d b. rw (← (Option·some-injective _ d (sym a ∙ b))) (omega (arith, w .count)),
           λ b. absurd (Option·none-ne-some _ (sym b ∙ a)),
         )
@@ -215,8 +215,8 @@ module _ (k n : ℕ) (sol : ℕ → Bool) (sc : rules.Scan) (y : ℕ) where
   no-alternative e = let w = bind-none (alternative k sol y) _ (sc .lookups) e in (w .0, w .1 ∙ rw (alternative-lookups k sol y))
 
   pub from-alternative : (x : ℕ) → alternative k sol y .answer ≡ some x
-      → after (sc .lookups) (graphFrom k n sol sc y) ≡ after (sc .lookups + 4) (mendFrom k n sol sc x)
-  unfolding graphFrom mendFrom
+      → after (sc .lookups) (graphFrom k n sol sc y) ≡ after (sc .lookups + 4) (walkMend k n sol sc x)
+  unfolding graphFrom walkMend
   from-alternative x e = bind-some (alternative k sol y) _ (sc .lookups) x e ∙ rw (alternative-lookups k sol y)
 
 -- ---- the scan

@@ -10,9 +10,9 @@ use Rattle.rules.specs.Exist.{Mend}
 use Rattle.rules.specs.Graph.{walkFrom}
 
 -- Graph from x on: letters are x's last and each move's; resume scan index + 1.
-unfoldable pub mendFrom : ℕ → ℕ → (ℕ → Bool) → Scan → ℕ → Try Mend
+unfoldable pub walkMend : ℕ → ℕ → (ℕ → Bool) → Scan → ℕ → Try Mend
 unfolding walkFrom _>>=_ give
-mendFrom k n sol sc x = walkFrom k n sol (sc .end) x >>= (λ letters. give (record { letters = letters; resume = suc (sc .index) }))
+walkMend k n sol sc x = walkFrom k n sol (sc .end) x >>= (λ letters. give (record { letters = letters; resume = suc (sc .index) }))
 
 -- The letters stand at the start of out, as many of them as it has room for.
 abbrev pub Holds : List ℕ → List ℕ → Type 0

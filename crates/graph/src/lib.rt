@@ -4,6 +4,7 @@ use kmer::Kmer;
 use scan::Attempt;
 use scan::Next;
 use scan::Scan;
+use scan::Sole;
 ghost use mathlib.Core.Path.{_≡_};
 ghost use Prim.Native.Nat.{_+_, _^_, _≤_, _<_};
 ghost use lib.ListN.{length, set as put};
@@ -16,7 +17,7 @@ ghost use Rattle.kmer.specs.Kmer.{IsKmer};
 ghost use Rattle.set.specs.Ready.{Ready};
 ghost use Rattle.scan.specs.Scan.{scanOf};
 ghost use Rattle.scan.specs.Attempt.{Attempted};
-ghost use Rattle.graph.specs.Walk.{mendFrom};
+ghost use Rattle.graph.specs.Walk.{walkMend};
 
 // The last letter of a k-mer, written where there is room.
 pub fn write_last(out: &mut [u8], at: usize, kmer: Kmer)
@@ -33,7 +34,7 @@ fn walk(set: &[u8], starts: &[u32], head: Header, scan: Scan, x: Kmer, out: &mut
     requires { ⌜ Ready (now set) (now starts) head × IsKmer (head .k) x × (scan .index < 2 ^ 63) × (scan .lookups < 2 ^ 63) ⌝ }
     ensures { λ r. ⌜
         Attempted (scan .index) (now (out .entry)) (now (out .exit))
-        (after (scan .lookups + 4) (mendFrom (head .k) (head .n) (solid (setOf (now (set .entry)))) (scanOf scan) (x .code)))
+        (after (scan .lookups + 4) (walkMend (head .k) (head .n) (solid (setOf (now (set .entry)))) (scanOf scan) (x .code)))
         r ⌝ }
 {
     let end = scan.end;
@@ -53,9 +54,10 @@ fn walk(set: &[u8], starts: &[u32], head: Header, scan: Scan, x: Kmer, out: &mut
             return Attempt::Refused(lookups);
         }
         lookups += 4;
-        let Next::Kmer(next) = scan::sole_next(set, starts, head, at) else {
+        let Sole::Nuc(nuc) = scan::sole_nuc(scan::next_nucs(set, starts, head, at)) else {
             return Attempt::Refused(lookups);
         };
+        let next = kmer::add_nuc_to_end(at, nuc, head);
         write_last(out, moves + 1, next);
         let code = next.code;
         if code == end {

@@ -6,15 +6,13 @@ use borrow.Author.Tests.{le-leb, lt-leb, leb-true, leb-false}
 use mathlib.Core.Path.{_≡_, refl}
 use mathlib.Core.Bool.{Bool, true, false}
 use mathlib.Core.Option.{none, some}
-use mathlib.Core.List.{[], _∷_}
-use mathlib.Core.Logic.{inl, inr}
-use types.Run.{OneOf}
 use lib.Dec.{leb}
 use Rattle.rules.specs.Refusal.{Check, _orElse_, firstFailing}
 use Rattle.rules.specs.Calls.{maxOutput, maxWork, buffersRight}
+use Rattle.refusal.specs.declared.Refusal.{Refusal}
 use Rattle.input.specs.declared.Input.{Input}
-use Rattle.input.specs.declared.Input.the-variants.{Fine, Long, Methods, Unknown, Confirm, Buffers}
-use Rattle.input.specs.Input.{checkOf}
+use Rattle.input.specs.declared.Input.the-variants.{Refused}
+use Rattle.input.specs.Input.{checkOf, IsRefused}
 
 -- The first failing index from i on, of n.
 module _ (ok : ℕ → Bool) (n i : ℕ) where
@@ -33,23 +31,13 @@ module _ (ok : ℕ → Bool) (n i : ℕ) where
   unfolding firstFailing
   none-left h = let e : n - i ≡ 0 = omega arith in rw (e, firstFailing)
 
--- A refusal is no `Fine`, by the variants' tags.
-pub not-fine : OneOf (1 ∷ 2 ∷ 3 ∷ 4 ∷ 5 ∷ []) 0 → ⊥
-not-fine (inl e) = omega arith
-not-fine (inr (inl e)) = omega arith
-not-fine (inr (inr (inl e))) = omega arith
-not-fine (inr (inr (inr (inl e)))) = omega arith
-not-fine (inr (inr (inr (inr e)))) = omega arith
+pub is-refused : {checked : Input} {r : Refusal} → checked ≡ Refused r → IsRefused checked
+is-refused e = rw e tt
 
--- It stands whatever the later checks say.
-pub refuses : (r : Input) (later : Check) → (r ≡ Fine → ⊥) → checkOf r ≡ (checkOf r orElse later)
+-- A refusal stands whatever the later checks say.
+pub refuses : {checked : Input} {r : Refusal} (later : Check) → checked ≡ Refused r → checkOf checked ≡ (checkOf checked orElse later)
 unfolding _orElse_
-refuses Fine later h = absurd (h refl)
-refuses Long later h = refl
-refuses Methods later h = refl
-refuses (Unknown i) later h = refl
-refuses Confirm later h = refl
-refuses Buffers later h = refl
+refuses later e = rw e
 
 module _ (input output work : ℕ) where
   pub long-output : maxOutput < output → buffersRight input output work ≡ false

@@ -1,25 +1,35 @@
 -- What the answers mean in the rules' terms.
-use Prim.Native.Nat.{ℕ, _+_, _-_, _≤_, _<_}
+use Prim.Native.Nat.{ℕ, _+_, _*_, _-_, _≤_, _<_}
 use mathlib.Core.Path.{_≡_}
 use mathlib.Core.Option.{none, some}
 use mathlib.Core.List.{List, _∷_}
 use lib.ListN.{length, take, drop}
 use Rattle.rules.specs.Refusal.{Check}
 use Rattle.rules.specs.Job.{lines}
+use Rattle.rules.specs.Calls.{maxRead, maxMethods, maxOutput}
+use Rattle.refusal.specs.Refusal.{refusalOf}
 use Rattle.input.specs.declared.Input.{Input}
-use Rattle.input.specs.declared.Input.the-variants.{Fine, Long, Methods, Unknown, Confirm, Buffers}
+use Rattle.input.specs.declared.Input.the-variants.{Fine, Refused}
 
--- Document 01's number and place for each case.
+-- The rules' check.
 abbrev pub checkOf : Input → Check
 checkOf Fine = none
-checkOf Long = some (record { number = 1; place = 0 })
-checkOf Methods = some (record { number = 2; place = 0 })
-checkOf (Unknown i) = some (record { number = 3; place = i })
-checkOf Confirm = some (record { number = 4; place = 0 })
-checkOf Buffers = some (record { number = 5; place = 0 })
+checkOf (Refused r) = some (refusalOf r)
+
+abbrev pub IsRefused : Input → Type 0
+IsRefused Fine = ⊥
+IsRefused (Refused r) = Unit
 
 -- The line from `from` on ends before `end`; the other lines follow.
 pub record LineAt (batch : List ℕ) (from end : ℕ) : Type 0 where
   pub after : from ≤ end
   pub inside : end < length batch
   pub is : lines (drop from batch) ≡ take (end - from) (drop from batch) ∷ lines (drop (end + 1) batch)
+
+-- What checks 1 to 5 leave, by the lengths of input, output and work.
+pub record Within (c : ℕ) (ms : List ℕ) (i o w : ℕ) : Type 0 where
+  pub input : i ≤ maxRead
+  pub methods : length ms ≤ maxMethods
+  pub confirm : 1 ≤ c
+  pub output : o ≤ maxOutput
+  pub work : 2 * o ≤ w

@@ -1,12 +1,14 @@
 // What a call is given, looked at before any set: checks 1 to 6 of document 01, the lines of a batch, and clearing a lent buffer.
+use refusal::Refusal;
 ghost use mathlib.Core.Path.{_≡_};
 ghost use mathlib.Core.List.{_++_};
 ghost use Prim.Native.Nat.{_-_, _≤_, _<_};
 ghost use lib.ListN.{length, getD, take, replicate};
-ghost use Rattle.rules.specs.Refusal.{atPlace, firstFailing};
+ghost use lib.Dec.{leb};
+ghost use Rattle.rules.specs.Refusal.{unless, atPlace, firstFailing};
 ghost use Rattle.rules.specs.Job.{known, lines};
 ghost use Rattle.rules.specs.Calls.{maxRead, buffersRight, inputCheck, batchRight};
-ghost use Rattle.input.specs.Input.{checkOf, LineAt};
+ghost use Rattle.input.specs.Input.{checkOf, IsRefused, LineAt};
 
 const MAX_READ: usize = 1048576;
 
@@ -18,14 +20,20 @@ const MAX_WORK: usize = 2097152;
 
 const MAX_LINES: usize = 1024;
 
-// Fine, or refusal 1, 2, 3 with the method's index, 4 or 5.
+// What a check says of the input.
 pub enum Input {
     Fine,
-    Long,
-    Methods,
-    Unknown(usize),
-    Confirm,
-    Buffers,
+    Refused(Refusal),
+}
+
+// Check 1, by the length.
+pub fn check_length(input: usize) -> Input
+    ensures { λ r. ⌜ checkOf r ≡ unless (leb input maxRead) 1 ⌝ }
+{
+    if MAX_READ < input {
+        return Input::Refused(Refusal::Long);
+    }
+    Input::Fine
 }
 
 fn is_known(method: u8) -> bool
@@ -40,7 +48,7 @@ fn check_methods(methods: &[u8]) -> Input
 {
     for i in 0..methods.len() {
         if !is_known(methods[i]) {
-            return Input::Unknown(i);
+            return Input::Refused(Refusal::Method(i));
         }
     }
     Input::Fine
@@ -63,23 +71,35 @@ fn buffers_right(input: usize, output: usize, work: usize) -> bool
 pub fn check_input(input: usize, methods: &[u8], confirm: u8, output: usize, work: usize) -> Input
     ensures { λ r. ⌜ checkOf r ≡ inputCheck input (now (methods .entry)) confirm output work ⌝ }
 {
-    if MAX_READ < input {
-        return Input::Long;
-    }
+    let length_checked = check_length(input);
+    let Input::Fine = length_checked else {
+        return length_checked;
+    };
     if MAX_METHODS < methods.len() {
-        return Input::Methods;
+        return Input::Refused(Refusal::Methods);
     }
     let methods_checked = check_methods(methods);
     let Input::Fine = methods_checked else {
         return methods_checked;
     };
     if confirm == 0 {
-        return Input::Confirm;
+        return Input::Refused(Refusal::Confirm);
     }
     if !buffers_right(input, output, work) {
-        return Input::Buffers;
+        return Input::Refused(Refusal::Buffers);
     }
     Input::Fine
+}
+
+// Why an input was refused.
+pub fn refused(checked: Input) -> Refusal
+    requires { ⌜ IsRefused checked ⌝ }
+    ensures { λ r. ⌜ checked ≡ Input.Refused r ⌝ }
+{
+    match checked {
+        Input::Refused(refusal) => refusal,
+        Input::Fine => Refusal::Long,
+    }
 }
 
 fn count_lines(batch: &[u8]) -> usize

@@ -1,9 +1,2 @@
-pub mod Calls
-pub mod Checked
-pub mod Refused
-pub mod Exact
-pub mod Totals
-pub mod Single
-pub mod Line
-pub mod Batch
 pub mod Opening
+pub mod Single

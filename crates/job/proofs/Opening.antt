@@ -6,31 +6,17 @@ use mathlib.Core.Option.{none, some}
 use mathlib.Core.List.{List, [], _∷_}
 use lib.ListN.{length}
 use Rattle.rules.specs.Refusal.{Check, accepted, refused, _orElse_, unless}
-use Rattle.rules.specs.Set.{setCheck, headerK, headerN, setOf, opened}
+use Rattle.rules.specs.Set.{setOf, opened}
 use Rattle.rules.specs.Job.{methodsOf, lines}
 use Rattle.rules.specs.Calls.{Given, After, inputCheck, batchRight, givenCheck, corrected, correctRead, correctBatch}
-use Rattle.rules.proofs.Opened.{opened-check}
-use Rattle.blocks.specs.declared.Opened.{Opened}
-use Rattle.blocks.specs.declared.Opened.the-variants.{Set}
-use Rattle.blocks.specs.Opened.{Opens}
-use Rattle.job.specs.declared.Refusal.{Refusal}
-use Rattle.job.specs.declared.Refusal.the-variants.{Batch}
-use Rattle.job.specs.declared.Answer.{Answer}
-use Rattle.job.specs.declared.Answer.the-variants.{Refused}
-use Rattle.job.specs.Answer.{refusalOf, Exact, Ceiling}
-use Rattle.job.proofs.Calls.{call-refused, call-not-opened, call-opened}
-use Rattle.job.proofs.Exact.{refused-exact, under-ceiling}
-
--- What is known of a set that opened.
-module _ (bytes : List ℕ) (o : Opened) (k n : ℕ) (e : o ≡ Set k n) (h : Opens bytes o) where
-  told : Opens bytes (Set k n)
-  told = subst (Opens bytes) e h
-
-  pub set-opened : opened bytes ≡ accepted (setOf bytes)
-  set-opened = told .0
-
-  pub set-checked : (setCheck bytes ≡ none) × (k ≡ headerK bytes) × (n ≡ headerN bytes)
-  set-checked = (opened-check bytes (setOf bytes) set-opened, told .1, told .2)
+use Rattle.refusal.specs.declared.Refusal.{Refusal}
+use Rattle.refusal.specs.declared.Refusal.the-variants.{Batch}
+use Rattle.report.specs.declared.Answer.{Answer}
+use Rattle.report.specs.declared.Answer.the-variants.{Refused}
+use Rattle.report.specs.Answer.{Exact, Ceiling}
+use Rattle.refusal.specs.Refusal.{refusalOf}
+use Rattle.report.proofs.Calls.{call-refused, call-not-opened, call-opened}
+use Rattle.report.proofs.Exact.{refused-exact, under-ceiling}
 
 -- ---- the two calls, by what the checks of the input say
 

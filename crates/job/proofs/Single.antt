@@ -14,16 +14,17 @@ use Rattle.rules.specs.Calls.{longest, tooLong, results, corrected}
 use Rattle.correct.specs.declared.Counts.{Counts}
 use Rattle.correct.specs.declared.Pass.{Pass}
 use Rattle.correct.specs.declared.Pass.the-variants.{Done, Full}
-use Rattle.job.specs.declared.Refusal.the-variants.{NoRoom}
-use Rattle.job.specs.declared.Answer.{Answer}
-use Rattle.job.specs.declared.Answer.the-variants.{Report as Reported, Refused}
+use Rattle.refusal.specs.declared.Refusal.the-variants.{NoRoom}
+use Rattle.report.specs.declared.Answer.{Answer}
+use Rattle.report.specs.declared.Answer.the-variants.{Report as Reported, Refused}
 use Rattle.correct.specs.Through.{through, ThroughIs, Through}
-use Rattle.job.specs.Answer.{given, Exact}
-use Rattle.job.specs.Reads.{Checked, Cleared, reportOn}
+use Rattle.report.specs.Answer.{given, Exact}
+use Rattle.input.specs.Input.{Within}
+use Rattle.report.specs.Ending.{Cleared, reportOn}
 use Rattle.correct.proofs.Limits.{pass-limited}
-use Rattle.job.proofs.Totals.{methods-length, read-small}
-use Rattle.job.proofs.Calls.{too-long-here, too-long-later}
-use Rattle.job.proofs.Exact.{throughAll, full-exact, fits-exact}
+use Rattle.report.proofs.Totals.{methods-length, read-small}
+use Rattle.report.proofs.Calls.{too-long-here, too-long-later}
+use Rattle.report.proofs.Exact.{throughAll, full-exact, fits-exact}
 
 module _ (set : KmerSet) (c : ℕ) (ms : List Method) (read : List ℕ) where
   passes-are : allPasses set c ms (read ∷ []) ≡ passesOf set c ms read
@@ -70,7 +71,7 @@ module _ (bytes : List ℕ) (c : ℕ) (methods read output o₁ : List ℕ) (wor
     is : ThroughIs (setOf bytes) c (methodsOf methods) read (length output) o₁ (Done done)
     is = subst (ThroughIs (setOf bytes) c (methodsOf methods) read (length output) o₁) e (t .is)
 
-    pub single-small : setCheck bytes ≡ none → c < 256 → Checked c methods (length read) (length output) (length work)
+    pub single-small : setCheck bytes ≡ none → c < 256 → Within c methods (length read) (length output) (length work)
         → (done .written ≤ length o₁) × (done .accepted < 2 ^ 54)
     single-small opens high h =
         let limits = pass-limited bytes opens c (h .confirm) high in

@@ -2,7 +2,8 @@
 ghost use Prim.Native.Nat.{_<_};
 use crate::list::number;
 use blocks::Opened;
-use job::Answer;
+use refusal::Refusal;
+use report::Answer;
 
 fn pair_is(record: &[u8; 64], i: usize, first: u64, second: u64) -> bool
     requires { ⌜ i < 15 ⌝ }
@@ -10,13 +11,19 @@ fn pair_is(record: &[u8; 64], i: usize, first: u64, second: u64) -> bool
     number(record, i) == first && number(record, i + 1) == second
 }
 
+fn refusal_agrees(refusal: Refusal, record: &[u8; 64]) -> bool {
+    pair_is(
+        record,
+        8,
+        refusal::number_of(refusal),
+        refusal::place_of(refusal),
+    )
+}
+
 pub fn open_agrees(set: &[u8], record: &[u8; 64]) -> bool {
     match blocks::open(set) {
         Opened::Set(k, n) => pair_is(record, 8, 0, 0) && pair_is(record, 10, k as u64, n as u64),
-        Opened::Length => pair_is(record, 8, 7, 0),
-        Opened::Check(block) => pair_is(record, 8, 8, block as u64),
-        Opened::Header => pair_is(record, 8, 9, 0),
-        Opened::Key(word) => pair_is(record, 8, 10, word as u64),
+        Opened::Refused(refusal) => refusal_agrees(refusal, record),
     }
 }
 
@@ -28,12 +35,7 @@ fn answer_agrees(answer: Answer, record: &[u8; 64]) -> bool {
                 && pair_is(record, 12, report.lookups, report.attempts)
                 && pair_is(record, 14, report.accepted, report.yield_)
         }
-        Answer::Refused(refusal) => pair_is(
-            record,
-            8,
-            job::number_of(refusal),
-            job::place_of(refusal),
-        ),
+        Answer::Refused(refusal) => refusal_agrees(refusal, record),
     }
 }
 

@@ -9,22 +9,16 @@ pub struct Part {
     pub whole: bool,
 }
 
-fn wide(byte: u8) -> u64
-    ensures { λ r. ⌜ r < 256 ⌝ }
-{
-    byte as u64
-}
-
 // The i-th number of a record: 32 bits, little-endian.
 pub fn number(record: &[u8; 64], i: usize) -> u64
     requires { ⌜ i < 16 ⌝ }
     ensures { λ r. ⌜ r < 2 ^ 32 ⌝ }
 {
     let at = 4 * i;
-    wide(record[at])
-        + wide(record[at + 1]) * 256
-        + wide(record[at + 2]) * 65536
-        + wide(record[at + 3]) * 16777216
+    number::wide(record[at])
+        + number::wide(record[at + 1]) * 256
+        + number::wide(record[at + 2]) * 65536
+        + number::wide(record[at + 3]) * 16777216
 }
 
 pub fn part_of(buffer: &[u8], length: usize) -> Part

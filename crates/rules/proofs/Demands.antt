@@ -13,17 +13,17 @@ use Rattle.rules.specs.Refusal.{accepted}
 use Rattle.rules.specs.Set.{KmerSet, solid, opened}
 use Rattle.rules.specs.Counted.{Try, refuse}
 use Rattle.rules.specs.Scan.{alternative, errorLen}
-use Rattle.rules.specs.Graph.{moveCost, start, walk, walkFrom}
+use Rattle.rules.specs.Graph.{moveCost, start, walk, walkFrom, Exactly}
 use Rattle.rules.specs.Driver.{State, turn, turnsOf, begin}
 use Rattle.rules.specs.Job.{Method, One, Two, Graph, GapSize, correctError, pass}
-use Rattle.rules.specs.Counts.{Fed, sum, allPasses, turns, lookups, W, F, ceiling}
+use Rattle.rules.specs.Counts.{Fed, sum, allPasses, turns, lookups, W, F, ceiling, Demand3}
 use Rattle.rules.proofs.Opened.{opened-odd}
 use Rattle.rules.proofs.Few.{few}
 use Rattle.rules.proofs.Driver.{Steady, drive-turns, turns-fuel, takes-base, turnsOf-grows, refused-kept}
 use Rattle.rules.proofs.Lookups.{Fair, fair-steady, drive-lookups, drive-short}
 use Rattle.rules.proofs.Walk.{walk-cost, walk-fuel}
 use Rattle.rules.proofs.Correctors.{one-fair, two-fair, graph-fair, gap-fair}
-use Rattle.rules.proofs.Exactly.{Exactly, x-good, graph-exactly, gapSize-exactly}
+use Rattle.rules.proofs.Exactly.{x-good, graph-exactly, gapSize-exactly}
 
 -- ---- every method is fair to its F
 
@@ -78,7 +78,7 @@ module _ (bytes : List ℕ) (set : KmerSet) (o : opened bytes ≡ accepted set) 
 
   -- ---- the theorem `ceilings`: demand 3
 
-  pass-turns : (p : Fed) → turns set c p ≤ 2 * W set c p
+  pass-turns : (p : Fed) → turns set c p ≤ 2 * W set p
   unfolding turns pass W
   pass-turns p = drive-turns k (solid set) (correctError set c (p .method)) (steady set k-pos c c-pos (p .method)) (p .bytes)
 
@@ -93,16 +93,16 @@ module _ (bytes : List ℕ) (set : KmerSet) (o : opened bytes ≡ accepted set) 
       go true e = rw (e, ceiling) (omega (arith, drive-short k (solid set) ce (F set c (p .method)) (p .bytes) (ltb-true _ _ e)))
       go false e = rw (e, ceiling) (drive-lookups k (solid set) ce (F set c (p .method)) (fair set k-pos c c-pos (p .method)) (p .bytes) (ltb-false _ _ e))
 
-  -- Turns ≤ 2 × the sum of W. Lookups ≤ the sum over passes of 1 + W × F; a pass shorter than k adds nothing.
-  -- One statement about the whole list of reads through the whole list of methods.
   pub ceilings : (ms : List Method) (reads : List (List ℕ))
-      → (let ps : List Fed = allPasses set c ms reads in
-      (sum (turns set c) ps ≤ 2 * sum (W set c) ps) × (sum (lookups set c) ps ≤ sum (ceiling set c) ps))
+      → (let ps : List Fed = allPasses set c ms reads in Demand3 set c ms reads (sum (turns set c) ps) (sum (lookups set c) ps))
   ceilings ms reads =
-      let ps = allPasses set c ms reads in (
-        subst (λ (l : ℕ). sum (turns set c) ps ≤ l) (sum-twice (W set c) ps) (sum-le (turns set c) (λ p. 2 * W set c p) pass-turns ps),
-        sum-le (lookups set c) (ceiling set c) pass-lookups ps,
-      )
+      let ps = allPasses set c ms reads in
+      record {
+        turns-are = refl;
+        lookups-are = refl;
+        turns-under = subst (λ (l : ℕ). sum (turns set c) ps ≤ l) (sum-twice (W set) ps) (sum-le (turns set c) (λ p. 2 * W set p) pass-turns ps);
+        lookups-under = sum-le (lookups set c) (ceiling set c) pass-lookups ps;
+      }
 
   -- ---- the theorem `exactly`: demand 2, at each attempt, s the rest of the read and y the bad k-mer
 

@@ -1,4 +1,4 @@
--- At each attempt a Graph correction is made exactly when a chain exists, and then its letters and resume are the chain's.
+-- Demand 2's `Exactly`, shown of Graph and of GapSize.
 use Prim.Native.Nat.{ℕ, suc, _/_, _<_}
 use borrow.Author.Tests.{lt-ltb}
 use mathlib.Core.Path.{_≡_, sym, ap, _∙_}
@@ -8,27 +8,12 @@ use mathlib.Core.List.{List, _∷_}
 use Rattle.rules.specs.Counted.{Try, after, give}
 use Rattle.rules.specs.Scan.{Scan, alternative, errorLen}
 use Rattle.rules.specs.Exist.{Mend}
-use Rattle.rules.specs.Graph.{Chain, spell, walkFrom, graphFrom, graph}
+use Rattle.rules.specs.Graph.{spell, walkFrom, graphFrom, graph, chainMend, Exactly}
 use Rattle.rules.specs.GapSize.{gapSize}
 use Rattle.rules.proofs.Counted.{bind-some, bind-is}
 use Rattle.rules.proofs.Scan.{sole-is, sole-lt}
 use Rattle.rules.proofs.Few.{SolidKmer, Few}
 use Rattle.rules.proofs.Walk.{chain-found, found-chain}
-
--- From the bad k-mer y with s the rest of the read: x, and a chain from x to the scan's last k-mer T.
-pub record Bridge (k : ℕ) (sol : ℕ → Bool) (s : List ℕ) (y : ℕ) : Type 0 where
-  pub x : ℕ
-  pub starts : alternative k sol y .answer ≡ some x
-  pub chain : Chain k sol x (errorLen k sol y s .end)
-
--- Letters are x's last and each move's; resume scan index + 1.
-unfoldable pub mendOf : (k : ℕ) (sol : ℕ → Bool) (s : List ℕ) (y : ℕ) → Bridge k sol s y → Mend
-mendOf k sol s y b = record { letters = spell (b .x ∷ b .chain .via); resume = suc (errorLen k sol y s .index) }
-
--- An attempt gives a mend if and only if there is such a chain, and then it is the chain's.
-pub record Exactly (k : ℕ) (sol : ℕ → Bool) (s : List ℕ) (y : ℕ) (t : Try Mend) : Type 0 where
-  pub if-chain : (b : Bridge k sol s y) → t .answer ≡ some (mendOf k sol s y b)
-  pub only-if : (m : Mend) → t .answer ≡ some m → (b : Bridge k sol s y) × (m ≡ mendOf k sol s y b)
 
 -- the alternative is a solid k-mer
 pub x-good : (k : ℕ) (sol : ℕ → Bool) (y x : ℕ) → alternative k sol y .answer ≡ some x → SolidKmer k sol x
@@ -37,7 +22,7 @@ x-good k sol y x e = (sole-lt k sol (y / 4) x e, sole-is k sol (y / 4) x e .is-s
 
 module _ (k n : ℕ) (sol : ℕ → Bool) (few : Few k n sol) (s : List ℕ) (y : ℕ) where
   graphFrom-exactly : Exactly k sol s y (graphFrom k n sol (errorLen k sol y s) y)
-  unfolding graphFrom mendOf give
+  unfolding graphFrom chainMend give
   graphFrom-exactly =
       record {
         if-chain = λ b.

@@ -5,21 +5,31 @@ use mathlib.Core.Option.{Option, none, some}
 use mathlib.Core.List.{List, [], _∷_, _++_, map}
 use lib.ListN.{replicate, set}
 use Rattle.rules.specs.Refusal.{accepted, refused}
-use Rattle.rules.specs.Set.{check, opened}
+use Rattle.rules.specs.Set.{KmerSet, check, opened}
 use Rattle.rules.specs.Driver.{Pass}
 use Rattle.rules.specs.Job.{pass}
 use Rattle.rules.specs.Calls.{Given, After, correctRead, correctBatch}
 use Rattle.rules.specs.Samples.{A, C, T, G, sampleSet, sampleBytes, Sample, line, table}
+use Rattle.rules.specs.Scenarios.{OnSet, on, scenarioTable}
 
 -- A line as the rules have it: its bytes, turns and lookups computed.
-pub byRules : Sample → Sample
-unfolding pass sampleSet line
-byRules s = (let p : Pass = pass sampleSet (s .confirm) (s .method) (s .read) in line (s .method) (s .confirm) (s .read) (p .bytes) (p .turns) (p .lookups))
+pub byRules : KmerSet → Sample → Sample
+unfolding pass line
+byRules set s = (let p : Pass = pass set (s .confirm) (s .method) (s .read) in line (s .method) (s .confirm) (s .read) (p .bytes) (p .turns) (p .lookups))
 
 -- Every line of the table is as the rules have it.
-pub samples : map byRules table ≡ table
-unfolding byRules table
+pub samples : map (byRules sampleSet) table ≡ table
+unfolding byRules table sampleSet
 samples = refl
+
+pub byRulesOn : OnSet → OnSet
+unfolding byRules
+byRulesOn o = record { set = o .set; sample = byRules (o .set) (o .sample) }
+
+-- Every line of the second table too.
+pub scenarios : map byRulesOn scenarioTable ≡ scenarioTable
+unfolding byRulesOn scenarioTable
+scenarios = refl
 
 -- The set's bytes open with k = 3 and those five keys; the check words are 9 and 200.
 pub sampleOpens : (opened sampleBytes ≡ accepted sampleSet) × (check sampleBytes 0 ≡ 9) × (check sampleBytes 1 ≡ 200)

@@ -126,3 +126,21 @@ module _ (k n : ℕ) (sol : ℕ → Bool) where
   unfoldable pub graph : List ℕ → ℕ → Try Mend
   unfolding graphFrom errorLen after
   graph s y = (let sc : Scan = errorLen k sol y s in after (sc .lookups) (graphFrom sc y))
+
+-- ---- demand 2: a Graph correction is made exactly when a chain exists
+
+-- At an attempt, s the rest of the read and y the bad k-mer: x, and a chain from x to the scan's last k-mer T.
+pub record ChainAt (k : ℕ) (sol : ℕ → Bool) (s : List ℕ) (y : ℕ) : Type 0 where
+  pub x : ℕ
+  pub starts : alternative k sol y .answer ≡ some x
+  pub chain : Chain k sol x (errorLen k sol y s .end)
+
+-- Letters are x's last and each move's; resume scan index + 1.
+unfoldable pub chainMend : (k : ℕ) (sol : ℕ → Bool) (s : List ℕ) (y : ℕ) → ChainAt k sol s y → Mend
+unfolding spell errorLen
+chainMend k sol s y at = record { letters = spell (at .x ∷ at .chain .via); resume = suc (errorLen k sol y s .index) }
+
+-- An attempt gives a mend if and only if there is such a chain, and then it is the chain's.
+pub record Exactly (k : ℕ) (sol : ℕ → Bool) (s : List ℕ) (y : ℕ) (t : Try Mend) : Type 0 where
+  pub if-chain : (at : ChainAt k sol s y) → t .answer ≡ some (chainMend k sol s y at)
+  pub only-if : (m : Mend) → t .answer ≡ some m → (at : ChainAt k sol s y) × (m ≡ chainMend k sol s y at)

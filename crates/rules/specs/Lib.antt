@@ -13,4 +13,6 @@ pub mod Graph
 pub mod GapSize
 pub mod Driver
 pub mod Calls
+pub mod Solid
 pub mod Samples
+pub mod Scenarios

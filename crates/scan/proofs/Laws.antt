@@ -1,4 +1,4 @@
--- Laws of the sole successor and the scan in the code's terms.
+-- Laws of bases added, the sole successor and the scan in the code's terms.
 use Prim.Native.Nat.{ℕ, zero, suc, _+_, _*_, _/_, _≤_, _<_}
 use native.Mathlib.Omega.{arith}
 use native.Mathlib.Numerals.{add-one}
@@ -9,13 +9,26 @@ use mathlib.Core.List.{List, [], _∷_}
 use lib.ListN.{length, drop, getD, drop-of-length-le}
 use lib.Seq.{drop-cons}
 use mir.Val.{boolByte as bit}
-use Rattle.rules.specs.Letters.{add, addBase}
+use Rattle.rules.specs.Letters.{add, addBase, addAll}
 use Rattle.rules.specs.Counted.{Try, give, _>>=_, next, after, refuse}
 use Rattle.rules.specs.Scan.{only, yesFrom, successors, u, sole, alternative, scanFrom}
 use Rattle.rules.proofs.Scan.{only-yes}
+use Rattle.kmer.specs.declared.Kmer.{Kmer}
+use Rattle.kmer.specs.Kmer.{IsKmer, Added}
 use Rattle.scan.specs.declared.Sole.{Sole}
 use Rattle.scan.specs.declared.Sole.the-variants.{Nuc, Refused}
 use Rattle.scan.specs.Scan.{nucOf}
+
+-- ---- bases added one by one
+
+module _ (k z : ℕ) (bs : List ℕ) (i : ℕ) where
+  pub add-next : {z′ : ℕ} → i < length bs → z′ ≡ addBase k z (getD bs i 0) → addAll k z (drop i bs) ≡ addAll k z′ (drop (i + 1) bs)
+  unfolding addAll
+  add-next h e = rw (drop-cons bs i 0 h, add-one, e)
+
+  pub add-end : length bs ≤ i → addAll k z (drop i bs) ≡ z
+  unfolding addAll
+  add-end h = rw (drop-of-length-le bs h)
 
 -- ---- the sole successor
 
@@ -115,6 +128,10 @@ module _ (k : ℕ) (sol : ℕ → Bool) (y : ℕ) where
     pub next-is : (a : ℕ) → r ≡ Nuc a → sole k sol y .answer ≡ some (add k y a)
     unfolding soleBy next after give
     next-is a e = ap (λ (t : Try ℕ). t .answer) (sole-is ∙ ap soleBy (by ∙ ap nucOf e))
+
+    -- y′ is y and that letter
+    pub next-kmer : (a : ℕ) {y′ : Kmer} → r ≡ Nuc a → Added k y a y′ → (sole k sol y .answer ≡ some (y′ .code)) × IsKmer k y′
+    next-kmer a e h = (next-is a e ∙ ap {B = Option ℕ} some (sym (h .is)), h .kmer)
 
     pub nuc-lt : (a : ℕ) → r ≡ Nuc a → a < 4
     unfolding successors

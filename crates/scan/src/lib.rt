@@ -5,7 +5,7 @@ use kmer::Kmer;
 ghost use mathlib.Core.Path.{_≡_};
 ghost use Prim.Native.Nat.{_/_, _≤_};
 ghost use lib.ListN.{length};
-ghost use Rattle.rules.specs.Letters.{addBase};
+ghost use Rattle.rules.specs.Letters.{addBase, addAll};
 ghost use Rattle.rules.specs.Set.{solid, setOf};
 ghost use Rattle.rules.specs.Scan as rules;
 ghost use Rattle.kmer.specs.Kmer.{Shifts, IsKmer, HasCode};
@@ -46,6 +46,17 @@ pub fn add_base(kmer: Kmer, base: u8, head: Header) -> Kmer
     kmer::add_nuc_to_end(kmer, kmer::nuc2bit(base), head)
 }
 
+pub fn add_all(kmer: Kmer, bases: &[u8], head: Header) -> Kmer
+    requires { ⌜ Shifts head × IsKmer (head .k) kmer ⌝ }
+    ensures { λ r. ⌜ HasCode (head .k) (addAll (head .k) (kmer .code) (now (bases .entry))) r ⌝ }
+{
+    let mut last = kmer;
+    for i in 0..bases.len() {
+        last = add_base(last, bases[i], head);
+    }
+    last
+}
+
 pub fn next_nucs(set: &[u8], starts: &[u32], head: Header, kmer: Kmer) -> [bool; 4]
     requires { ⌜ Ready (now set) (now starts) head × IsKmer (head .k) kmer ⌝ }
     ensures { λ r. ⌜ r ≡ rules.successors (head .k) (solid (setOf (now (set .entry)))) (kmer .code) ⌝ }
@@ -57,11 +68,12 @@ pub fn next_nucs(set: &[u8], starts: &[u32], head: Header, kmer: Kmer) -> [bool;
     [a, c, t, g]
 }
 
-pub fn alt_nucs(set: &[u8], starts: &[u32], head: Header, kmer: Kmer) -> [bool; 4]
+fn alt_nucs(set: &[u8], starts: &[u32], head: Header, kmer: Kmer) -> [bool; 4]
     requires { ⌜ Ready (now set) (now starts) head × IsKmer (head .k) kmer ⌝ }
     ensures { λ r. ⌜ r ≡ rules.successors (head .k) (solid (setOf (now (set .entry)))) (kmer .code / 4) ⌝ }
 {
-    next_nucs(set, starts, head, kmer::drop_last(kmer, head))
+    let shifted = kmer::drop_last(kmer, head);
+    next_nucs(set, starts, head, shifted)
 }
 
 // The letter of the only yes among the four answers: each yes adds 1 to the count and its own code to the sum.
@@ -87,7 +99,8 @@ pub fn sole_next(set: &[u8], starts: &[u32], head: Header, kmer: Kmer) -> Next
     let Sole::Nuc(nuc) = sole_nuc(next_nucs(set, starts, head, kmer)) else {
         return Next::Refused;
     };
-    Next::Kmer(kmer::add_nuc_to_end(kmer, nuc, head))
+    let next = kmer::add_nuc_to_end(kmer, nuc, head);
+    Next::Kmer(next)
 }
 
 // The bad k-mer with its last letter replaced by the sole solid alternative.
@@ -98,7 +111,8 @@ pub fn sole_alt(set: &[u8], starts: &[u32], head: Header, kmer: Kmer) -> Next
     let Sole::Nuc(nuc) = sole_nuc(alt_nucs(set, starts, head, kmer)) else {
         return Next::Refused;
     };
-    Next::Kmer(kmer::add_nuc_to_end(kmer::drop_last(kmer, head), nuc, head))
+    let shifted = kmer::drop_last(kmer, head);
+    Next::Kmer(kmer::add_nuc_to_end(shifted, nuc, head))
 }
 
 // s is the rest of the read at its bad base s0, kmer the bad k-mer: s1, s2, .. are added up to the first solid k-mer or the end.

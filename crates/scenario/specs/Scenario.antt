@@ -89,9 +89,9 @@ pub record LettersAre (sc : Scenario) (x t n : ℕ) : Type 0 where
   pub are : lettersOf n x t ≡ sc .letters t
   pub few : n ≤ 3
 
--- The mend by the rules.
-abbrev pub mendOf : Mend → rules.Mend
-mendOf m = record { letters = last (m .letters) (m .code); resume = m .resume }
+-- A mend by the rules: its letters spelled out.
+abbrev pub spelledOut : Mend → rules.Mend
+spelledOut m = record { letters = last (m .letters) (m .code); resume = m .resume }
 
 -- At most 3 letters, and a resume of at most 4.
 pub record Small (m : Mend) : Type 0 where
@@ -100,5 +100,5 @@ pub record Small (m : Mend) : Type 0 where
 
 -- What a scenario gives where t is its tried k-mer.
 pub record Gives (sc : Scenario) (t : ℕ) (m : Mend) : Type 0 where
-  pub is : mendOf m ≡ record { letters = sc .letters t; resume = sc .r }
+  pub is : spelledOut m ≡ record { letters = sc .letters t; resume = sc .r }
   pub small : Small m

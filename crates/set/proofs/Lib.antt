@@ -1,5 +1,4 @@
 pub mod Opened
-pub mod Narrowing
-pub mod Lines
+pub mod Among
 pub mod Table
 pub mod Ends

@@ -1,12 +1,14 @@
 -- An attempt under each method byte, told of the header's k and n.
 use Prim.Native.Nat.{ℕ}
+use native.Mathlib.Nat.{zero-add}
 use mathlib.Core.Path.{_≡_, sym, ap, ap₂, _∙_}
 use mathlib.Core.Bool.{Bool}
 use mathlib.Core.List.{List}
 use borrow.Author.Tests.{ne-eqb}
 use lib.ListN.{length}
 use Rattle.rules.specs.Set.{setOf, solid}
-use Rattle.rules.specs.Exist.{exist, one, two}
+use Rattle.rules.specs.Counted.{Try, after}
+use Rattle.rules.specs.Exist.{Mend, exist, one, two}
 use Rattle.rules.specs.Graph.{graph}
 use Rattle.rules.specs.GapSize.{gapSize}
 use Rattle.rules.specs.Job.{Method, One, Two, Graph, GapSize, methodOf, correctError}
@@ -26,13 +28,18 @@ module _ (bytes starts : List ℕ) (head : Header) (ready : Ready bytes starts h
   under : (m : Method) → methodOf method ≡ m → attemptOf bytes method c s y ≡ correctError (setOf bytes) c m s y
   under m e = ap (λ (x : Method). correctError (setOf bytes) c x s y) e
 
-  pub by-one : method ≡ 1 → attemptOf bytes method c s y ≡ exist (head .k) sol c s (one (head .k) sol) y
-  unfolding methodOf correctError
-  by-one e = under One (rw e) ∙ ap (λ (k : ℕ). exist k sol c s (one k sol) y) (set-k ready)
+  -- no lookups before it
+  at-once : (t : Try Mend) → t ≡ after 0 t
+  unfolding after
+  at-once t = λ i. record { answer = t .answer; lookups = sym (zero-add (t .lookups)) i }
 
-  pub by-two : method ≡ 2 → attemptOf bytes method c s y ≡ exist (head .k) sol c s (two (head .k) sol) y
+  pub by-one : method ≡ 1 → attemptOf bytes method c s y ≡ after 0 (exist (head .k) sol c s (one (head .k) sol) y)
   unfolding methodOf correctError
-  by-two e = under Two (rw e) ∙ ap (λ (k : ℕ). exist k sol c s (two k sol) y) (set-k ready)
+  by-one e = under One (rw e) ∙ ap (λ (k : ℕ). exist k sol c s (one k sol) y) (set-k ready) ∙ at-once _
+
+  pub by-two : method ≡ 2 → attemptOf bytes method c s y ≡ after 0 (exist (head .k) sol c s (two (head .k) sol) y)
+  unfolding methodOf correctError
+  by-two e = under Two (rw e) ∙ ap (λ (k : ℕ). exist k sol c s (two k sol) y) (set-k ready) ∙ at-once _
 
   pub by-graph : method ≡ 3 → attemptOf bytes method c s y ≡ graph (head .k) (head .n) sol s y
   unfolding methodOf correctError

@@ -7,8 +7,10 @@ use native.Mathlib.Decide.{decLe}
 use mathlib.Core.Path.{_≡_, refl, sym, ap, _∙_, subst}
 use mathlib.Core.Bool.{Bool, true, false}
 use mathlib.Core.Option.{Option, none, some}
+use mathlib.Core.Logic.{inl, inr}
 use mathlib.Core.List.{List, [], _∷_, _++_}
 use lib.ListN.{length, getD, take, drop, length-append, length-drop, length-set, drop-of-length-le}
+use types.Run.{OneOf}
 use lib.Seq.{drop-cons, drop-drop, take-suc-set, take-at, drop-at, take-append-add, length-take-le}
 use Rattle.rules.specs.Letters.{addBase}
 use Rattle.rules.specs.Set.{setOf, solid}
@@ -43,6 +45,20 @@ pub ready-steady : {bytes starts : List ℕ} {head : Header} → Ready bytes sta
 ready-steady {bytes} r method c lc =
     subst (λ (k : ℕ). Steady k (solid (setOf bytes)) (attemptOf bytes method c)) (set-k r)
     (steady (setOf bytes) (rw (set-k r) (r .shifts .k-low)) c lc (methodOf method))
+
+-- a Full attempt is neither of the others, whose tags are 0 and 1
+pub is-full : (a : Attempt) → ((n r l : ℕ) → a ≡ Mends n r l → ⊥) → ((l : ℕ) → a ≡ Refused l → ⊥) → a ≡ NoRoom
+is-full (Mends n r l) f g = absurd (f n r l refl)
+is-full (Refused l) f g = absurd (g l refl)
+is-full NoRoom f g = refl
+
+pub not-mend : OneOf (1 ∷ 2 ∷ []) 0 → ⊥
+not-mend (inl e) = omega arith
+not-mend (inr e) = omega arith
+
+pub not-refused : OneOf (0 ∷ 2 ∷ []) 1 → ⊥
+not-refused (inl e) = omega arith
+not-refused (inr e) = omega arith
 
 module _ (bytes starts : List ℕ) (head : Header) (method c : ℕ) (p : Place) (read out : List ℕ)
     (t : Turning bytes starts head method c p read out) where

@@ -6,10 +6,9 @@ use scan::Attempt;
 ghost use mathlib.Core.Path.{_≡_};
 ghost use Prim.Native.Nat.{_+_, _≤_, _<_, _^_};
 ghost use lib.ListN.{length};
-ghost use Rattle.rules.specs.Letters.{addAll};
 ghost use Rattle.rules.specs.Set.{setOf, solid};
 ghost use Rattle.rules.specs.Scan.{errorLen};
-ghost use Rattle.kmer.specs.Kmer.{Shifts, IsKmer, HasCode};
+ghost use Rattle.kmer.specs.Kmer.{Shifts, IsKmer};
 ghost use Rattle.set.specs.Ready.{Ready};
 ghost use Rattle.scan.specs.Attempt.{Attempted};
 ghost use Rattle.turn.specs.Turn.{attemptOf, Fits, placeOf, Kept, Mended, Turning, BadAt, TurnIs};
@@ -50,22 +49,11 @@ fn correct_error(
         r ⌝ }
 {
     match method {
-        1 => exist::correct_error(set, starts, head, false, c, kmer, s, out),
-        2 => exist::correct_error(set, starts, head, true, c, kmer, s, out),
+        1 => exist::correct_error(set, starts, head, false, c, 0, kmer, s, out),
+        2 => exist::correct_error(set, starts, head, true, c, 0, kmer, s, out),
         3 => graph::correct_error(set, starts, head, kmer, s, out),
         _ => gap_size::correct_error(set, starts, head, c, kmer, s, out),
     }
-}
-
-fn add_letters(kmer: Kmer, letters: &[u8], head: Header) -> Kmer
-    requires { ⌜ Shifts head × IsKmer (head .k) kmer ⌝ }
-    ensures { λ r. ⌜ HasCode (head .k) (addAll (head .k) (kmer .code) (now (letters .entry))) r ⌝ }
-{
-    let mut y = kmer;
-    for i in 0..letters.len() {
-        y = scan::add_base(y, letters[i], head);
-    }
-    y
 }
 
 // One turn more: where it leads, and what it adds: bytes written, lookups beside the turn's own, attempts made and accepted.
@@ -134,7 +122,7 @@ fn mend(
         at = p.at + resume;
     }
     let shifted = kmer::drop_last(bad, head);
-    let kmer = add_letters(shifted, letters, head);
+    let kmer = scan::add_all(shifted, letters, head);
     moved(p, kmer, true, at, letters.len(), lookups, 1, 1)
 }
 
@@ -166,14 +154,14 @@ fn bad_base(
         &read[at..],
         &mut out[w..],
     );
-    match tried {
-        Attempt::Mend(n, resume, lookups) => {
-            let end = w + n;
-            Turned::To(mend(p, bad, &out[w..end], resume, lookups, read.len(), head))
-        }
-        Attempt::Refused(lookups) => keep(p, read[at], bad, false, 1, lookups, out),
-        Attempt::Full => Turned::Full,
-    }
+    let Attempt::Mend(n, resume, lookups) = tried else {
+        let Attempt::Refused(lookups) = tried else {
+            return Turned::Full;
+        };
+        return keep(p, read[at], bad, false, 1, lookups, out);
+    };
+    let end = w + n;
+    Turned::To(mend(p, bad, &out[w..end], resume, lookups, read.len(), head))
 }
 
 pub fn turn(

@@ -23,14 +23,10 @@ impl Axis {
     }
 }
 
-fn nanoseconds(seconds: f64, cell: &Cell) -> f64 {
-    seconds * 1e9 / cell.bases as f64
-}
-
 /// Ours drawn through, the Rust dashed, a colour for each error rate.
 pub fn draw(cells: &[Cell], k: u8, keys: &[usize], errors: &[usize]) -> String {
     let cells: Vec<&Cell> = cells.iter().filter(|cell| cell.k == k).collect();
-    let all: Vec<f64> = cells.iter().flat_map(|cell| [nanoseconds(cell.ours, cell), nanoseconds(cell.rust, cell)]).collect();
+    let all: Vec<f64> = cells.iter().flat_map(|cell| [cell.nanoseconds(cell.rounds.ours()), cell.nanoseconds(cell.rounds.rust())]).collect();
     let low = all.iter().copied().fold(f64::MAX, f64::min).log10().floor();
     let high = all.iter().copied().fold(1.0, f64::max).log10().ceil().max(low + 1.0);
     let x = Axis { low: (keys[0] as f64 * 0.6).log10(), high: (keys[keys.len() - 1] as f64 * 1.6).log10(), length: PANEL.0 };
@@ -46,9 +42,9 @@ pub fn draw(cells: &[Cell], k: u8, keys: &[usize], errors: &[usize]) -> String {
         frame(&mut svg, left, &format!("{method:?}"), keys, &x, &y, panel == 0);
         for (rate, colour) in errors.iter().zip(COLOURS) {
             let row: Vec<&&Cell> = cells.iter().filter(|cell| cell.method == *method && cell.errors == *rate).collect();
-            let place = |cell: &Cell, seconds: f64| (left + x.at(cell.keys as f64), TOP + PANEL.1 - y.at(nanoseconds(seconds, cell)));
-            line(&mut svg, colour, "", row.iter().map(|cell| place(cell, cell.ours)));
-            line(&mut svg, colour, " stroke-dasharray=\"5 4\"", row.iter().map(|cell| place(cell, cell.rust)));
+            let place = |cell: &Cell, seconds: f64| (left + x.at(cell.keys as f64), TOP + PANEL.1 - y.at(cell.nanoseconds(seconds)));
+            line(&mut svg, colour, "", row.iter().map(|cell| place(cell, cell.rounds.ours())));
+            line(&mut svg, colour, " stroke-dasharray=\"5 4\"", row.iter().map(|cell| place(cell, cell.rounds.rust())));
         }
     }
     svg + "</svg>\n"

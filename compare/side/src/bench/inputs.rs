@@ -1,7 +1,7 @@
 //! Genomes, their sets and reads.
 use crate::oracle::Keys;
 use crate::rng::Rng;
-use crate::set_file;
+use crate::set_file::{self, BLOCK, WORDS};
 use cocktail::kmer::nuc2bit;
 
 pub const READ: usize = 10_000;
@@ -31,6 +31,14 @@ impl World {
         });
         let keys = set_file::keys_of(k, kmers.skip(k as usize - 1));
         World { k, keys: keys.len(), set: set_file::make(k as u64, &keys), rust: Keys::new(k, &keys), genome, circle }
+    }
+
+    /// The same once more: while `system::on_huge_pages` builds it, the set and the Rust's table lie there.
+    pub fn again(&self) -> Self {
+        let word = |word: &[u8]| word.iter().rev().fold(0_u64, |sum, byte| sum << 8 | *byte as u64);
+        let keys = self.set.chunks_exact(BLOCK).skip(1).flat_map(|block| block.chunks_exact(8).take(WORDS).map(word)).take(self.keys);
+        let rust = Keys::from_iter(self.k, keys);
+        World { k: self.k, keys: self.keys, set: self.set.clone(), rust, genome: self.genome.clone(), circle: self.circle }
     }
 
     /// The genome from a place, round and round if it is a circle.

@@ -1,41 +1,55 @@
 //! What is measured.
-use super::inputs::World;
+use super::inputs::{World, READ};
+use super::rounds::{median, timed, Rounds};
+use super::symbols::on_huge_pages;
+use super::system::sampled;
 use crate::cases::batch_of;
 use crate::library::Library;
 use crate::oracle;
-use crate::referee::calls::{Call, Job, Report};
+use crate::referee::calls::{Answer, Call, Job, Report};
 use crate::referee::correctors::Method;
 use crate::rng::Rng;
 use br::set::BoxKmerSet;
 use std::hint::black_box;
-use std::time::{Duration, Instant};
 
 pub const CONFIRM: u8 = 5;
 const MOST_READS: usize = 100;
 const MOST_BYTES: usize = 1_048_576;
-/// A side is run again while it has taken less than this.
-const PATIENCE: Duration = Duration::from_millis(600);
-const MOST_RUNS: usize = 5;
-/// What has taken as long as this is not run again.
-const LONG: Duration = Duration::from_secs(2);
-/// Lookups of the plain loops.
-const FLOOR: usize = 2_000_000;
+/// Reads are added to a batch while the Rust has asked less than this: so a cell has the same reads on every machine.
+pub const MOST_ASKED: u64 = 6_000_000;
+/// Lookups of the plain loops; as many letters are still a read that a call takes.
+pub const LOOP: usize = 1_000_000;
+/// Rounds of what is measured beside the cells.
+const ROUNDS: usize = 5;
 
-/// Seconds.
+/// One method on a set at a rate of errors.
 pub struct Cell {
     pub method: Method,
     pub keys: usize,
     pub k: u8,
     pub errors: usize,
+    pub reads: usize,
     pub bases: usize,
-    /// The whole call, and opening the set alone, which a call does first.
-    pub ours: f64,
-    pub opening: f64,
-    pub rust: f64,
     pub lookups: u64,
-    /// A plain loop of as many lookups, on either side.
-    pub floor: Option<f64>,
-    pub rust_floor: f64,
+    pub rounds: Rounds,
+    pub a_lookup: Loops,
+}
+
+impl Cell {
+    pub fn nanoseconds(&self, seconds: f64) -> f64 {
+        seconds * 1e9 / self.bases as f64
+    }
+
+    pub fn lookups_a_base(&self) -> f64 {
+        self.lookups as f64 / self.bases as f64
+    }
+}
+
+/// Seconds of a lookup in a plain loop over the k-mers of reads, on either side.
+#[derive(Clone, Copy)]
+pub struct Loops {
+    pub ours: Option<f64>,
+    pub rust: f64,
 }
 
 pub struct Opening {
@@ -49,110 +63,159 @@ pub struct Opening {
 pub struct Gap {
     pub moves: usize,
     pub lines: usize,
-    pub ours: f64,
-    pub rust: f64,
+    pub rounds: Rounds,
 }
 
-/// The shortest of some runs.
-fn best<T>(mut run: impl FnMut() -> T) -> (T, f64) {
-    let mut spent = Duration::ZERO;
-    let mut shortest: Option<(T, Duration)> = None;
-    for _ in 0..MOST_RUNS {
-        let begun = Instant::now();
-        let answer = black_box(run());
-        let took = begun.elapsed();
-        spent += took;
-        if shortest.as_ref().is_none_or(|(_, known)| took < *known) {
-            shortest = Some((answer, took));
+/// Where the set and the Rust's table lie: the set's address modulo a line of memory, and of each mapping all bytes and those on huge pages.
+pub struct Placing {
+    pub keys: usize,
+    pub huge: bool,
+    pub offset: usize,
+    pub ours: Option<(u64, u64)>,
+    pub rust: Option<(u64, u64)>,
+}
+
+/// A batch of reads with what both sides make of it.
+pub struct Batch<'a> {
+    pub reads: Vec<Vec<u8>>,
+    pub report: Option<Report>,
+    library: &'a dyn Library,
+    world: &'a World,
+    set: BoxKmerSet<'a>,
+    method: Method,
+    job: Job,
+    expected: Vec<u8>,
+    output: Vec<u8>,
+    work: Vec<u8>,
+}
+
+impl<'a> Batch<'a> {
+    /// Reads as they come, up to the most.
+    fn new(library: &'a dyn Library, world: &'a World, method: Method, most: usize, mut next: impl FnMut() -> Vec<u8>) -> Self {
+        let (mut reads, mut results, mut asked) = (Vec::new(), Vec::new(), 0);
+        while reads.len() < most && asked < MOST_ASKED {
+            let read = next();
+            let pass = oracle::pass(&world.rust, method, CONFIRM, &read);
+            asked += pass.lookups;
+            results.push(pass.bytes);
+            reads.push(read);
         }
-        if spent > PATIENCE {
-            break;
+        let (input, expected) = (batch_of(&reads), batch_of(&results));
+        let output = MOST_BYTES.min(input.len().max(expected.len()) * 5 / 4);
+        let job = Job { call: Call::Batch, confirm: CONFIRM, methods: vec![method.byte()], input, output, work: 2 * output };
+        let (output, work) = (vec![0; job.output], vec![0; job.work]);
+        Batch { reads, report: None, library, world, set: Box::new(&world.rust), method, job, expected, output, work }
+    }
+
+    /// Reads with errors: the same ones for the same cell, whatever else is measured.
+    pub fn of_cell(library: &'a dyn Library, world: &'a World, method: Method, errors: usize) -> Self {
+        let mut rng = reads_of(world, method.byte(), errors);
+        Self::new(library, world, method, MOST_READS, || world.read(&mut rng, errors))
+    }
+
+    pub fn bases(&self) -> usize {
+        self.reads.iter().map(Vec::len).sum()
+    }
+
+    /// natir/br, read by read.
+    fn rust(&self) -> f64 {
+        timed(|| self.reads.iter().map(|read| oracle::correct(&self.set, self.method, CONFIRM, read)).collect::<Vec<_>>()).1
+    }
+
+    fn call(&mut self) -> Answer {
+        self.library.correct(&self.world.set, &self.job, &mut self.output, &mut self.work)
+    }
+
+    /// Where a timer finds a call of ours.
+    pub fn places(&mut self) -> Option<Vec<usize>> {
+        sampled(|| {
+            black_box(self.call()).ok();
+        })
+    }
+
+    /// One batch call of ours; every byte must be the Rust's.
+    pub fn ours(&mut self) -> f64 {
+        let (answer, seconds) = timed(|| self.call());
+        let report = answer.unwrap_or_else(|refusal| panic!("refused {} at {}", refusal.number, refusal.place));
+        assert!(self.output[..report.written as usize] == self.expected, "{:?} gives other bytes than natir/br", self.method);
+        self.report = Some(report);
+        seconds
+    }
+
+    fn rounds(&mut self) -> Rounds {
+        // The report is the same in every round.
+        let (library, world) = (self.library, self.world);
+        let this = std::cell::RefCell::new(self);
+        Rounds::run(|| this.borrow().rust(), || this.borrow_mut().ours(), || open(library, world))
+    }
+}
+
+fn reads_of(world: &World, what: u8, errors: usize) -> Rng {
+    Rng::of_unit(world.keys as u64, [what as u64, world.k as u64, errors as u64].iter().fold(0, |unit, part| unit << 8 | part))
+}
+
+/// Seconds of opening the set alone.
+pub fn open(library: &dyn Library, world: &World) -> f64 {
+    let (opened, seconds) = timed(|| library.open(&world.set));
+    assert_eq!(opened, Ok((world.k as u64, world.keys as u64)));
+    seconds
+}
+
+/// Seconds of a batch call without a line: opening the set and filling the table of starts.
+pub fn empty_batch(library: &dyn Library, world: &World, method: Method) -> f64 {
+    let job = Job { call: Call::Batch, confirm: CONFIRM, methods: vec![method.byte()], input: Vec::new(), output: 0, work: 0 };
+    let (answer, seconds) = timed(|| library.correct(&world.set, &job, &mut [], &mut []));
+    assert!(answer.is_ok(), "an empty batch is accepted");
+    seconds
+}
+
+pub fn cell(library: &dyn Library, world: &World, method: Method, errors: usize, a_lookup: Loops) -> Cell {
+    let mut batch = Batch::of_cell(library, world, method, errors);
+    let rounds = batch.rounds();
+    let lookups = batch.report.as_ref().map_or(0, |report| report.lookups);
+    Cell { method, keys: world.keys, k: world.k, errors, reads: batch.reads.len(), bases: batch.bases(), lookups, rounds, a_lookup }
+}
+
+/// Plain loops over the k-mers of reads, joined to one; opening and preparing the set are taken off. Both sides count the same solid ones.
+pub fn loops(library: &dyn Library, world: &World, errors: usize) -> Loops {
+    let mut rng = reads_of(world, 0, errors);
+    let length = LOOP + world.k as usize - 1;
+    let joined: Vec<u8> = (0..length.div_ceil(READ)).flat_map(|_| world.read(&mut rng, errors)).take(length).collect();
+    let (kmers, set): (_, BoxKmerSet) = (world.kmers(&joined), Box::new(&world.rust));
+    let (mut rust, mut ours) = (Vec::new(), Vec::new());
+    for _ in 0..ROUNDS {
+        let (solid, seconds) = timed(|| kmers.iter().filter(|kmer| set.get(**kmer)).count() as u64);
+        rust.push(seconds / LOOP as f64);
+        let (counted, seconds) = timed(|| library.count_solid(&world.set, &joined));
+        let (_, first) = timed(|| library.count_solid(&world.set, &joined[..world.k as usize]));
+        if let Some(counted) = counted {
+            assert_eq!(counted, solid, "another count of solid k-mers than natir/br's");
+            ours.push((seconds - first).max(0.0) / LOOP as f64);
         }
     }
-    let (answer, took) = shortest.expect("at least one run");
-    (answer, took.as_secs_f64())
+    Loops { ours: (!ours.is_empty()).then(|| median(ours)), rust: median(rust) }
 }
 
-/// One method on reads of the world, as many as the Rust takes a while for.
-pub fn cell(library: &dyn Library, world: &World, method: Method, errors: usize, opening: f64, rng: &mut Rng) -> Cell {
-    let set: BoxKmerSet = Box::new(&world.rust);
-    let (mut reads, mut results, mut first) = (Vec::new(), Vec::new(), Duration::ZERO);
-    while reads.len() < MOST_READS && first < PATIENCE {
-        let read = world.read(rng, errors);
-        let begun = Instant::now();
-        results.push(oracle::correct(&set, method, CONFIRM, &read));
-        first += begun.elapsed();
-        reads.push(read);
-    }
-    let mut rust = first.as_secs_f64();
-    if first < LONG {
-        (results, rust) = best(|| reads.iter().map(|read| oracle::correct(&set, method, CONFIRM, read)).collect::<Vec<_>>());
-    }
-    let (report, ours) = batch(library, world, method, &reads, &results);
-    let joined = joined(&reads, world.k as usize);
-    let (solid, rust_floor) = rust_floor(&set, &world.kmers(&joined));
-    let per_lookup = |seconds: f64| seconds / FLOOR as f64 * report.lookups as f64;
-    Cell {
-        method,
-        keys: world.keys,
-        k: world.k,
-        errors,
-        bases: reads.iter().map(Vec::len).sum(),
-        ours,
-        opening,
-        rust,
-        lookups: report.lookups,
-        floor: floor(library, world, &joined, solid).map(per_lookup),
-        rust_floor: per_lookup(rust_floor),
-    }
-}
-
-/// The reads in one batch call of ours; every byte must be the Rust's.
-fn batch(library: &dyn Library, world: &World, method: Method, reads: &[Vec<u8>], results: &[Vec<u8>]) -> (Report, f64) {
-    let input = batch_of(reads);
-    let expected = batch_of(results);
-    let output = MOST_BYTES.min(input.len().max(expected.len()) * 5 / 4);
-    let job = Job { call: Call::Batch, confirm: CONFIRM, methods: vec![method.byte()], input, output, work: 2 * output };
-    let (mut output, mut work) = (vec![0; job.output], vec![0; job.work]);
-    let (answer, seconds) = best(|| library.correct(&world.set, &job, &mut output, &mut work));
-    let report = answer.unwrap_or_else(|refusal| panic!("refused {} at {}", refusal.number, refusal.place));
-    assert!(output[..report.written as usize] == expected, "{method:?} gives other bytes than natir/br");
-    (report, seconds)
-}
-
-/// The reads one behind the other, again and again, with as many k-mers as a plain loop asks for.
-fn joined(reads: &[Vec<u8>], k: usize) -> Vec<u8> {
-    reads.iter().flatten().cycle().take(FLOOR + k - 1).copied().collect()
-}
-
-/// Seconds of a plain loop over the read's k-mers, those of opening and preparing the set taken off; as many are solid as the Rust finds.
-fn floor(library: &dyn Library, world: &World, read: &[u8], solid: u64) -> Option<f64> {
-    let (counted, seconds) = best(|| library.count_solid(&world.set, read));
-    assert_eq!(counted?, solid, "another count of solid k-mers than natir/br's");
-    let (_, first) = best(|| library.count_solid(&world.set, &read[..world.k as usize]));
-    Some((seconds - first).max(0.0))
-}
-
-fn rust_floor(set: &BoxKmerSet, kmers: &[u64]) -> (u64, f64) {
-    best(|| kmers.iter().filter(|kmer| set.get(**kmer)).count() as u64)
+pub fn placing(world: &World, huge: bool) -> Placing {
+    let address = world.set.as_ptr() as usize;
+    Placing { keys: world.keys, huge, offset: address % 64, ours: on_huge_pages(address), rust: world.rust.address().and_then(on_huge_pages) }
 }
 
 /// Opening the set, and reading the same bytes as words.
 pub fn opening(library: &dyn Library, world: &World) -> Opening {
-    let (opened, open) = best(|| library.open(&world.set));
-    assert_eq!(opened, Ok((world.k as u64, world.keys as u64)));
     let sum = |word: &[u8]| word.iter().rev().fold(0_u64, |sum, byte| sum << 8 | *byte as u64);
-    let (_, reading) = best(|| world.set.chunks_exact(8).map(sum).fold(0, u64::wrapping_add));
-    Opening { keys: world.keys, k: world.k, bytes: world.set.len(), open, reading }
+    let reading = || timed(|| world.set.chunks_exact(8).map(sum).fold(0, u64::wrapping_add)).1;
+    let (opens, readings) = (0..ROUNDS).map(|_| (open(library, world), reading())).unzip();
+    Opening { keys: world.keys, k: world.k, bytes: world.set.len(), open: median(opens), reading: median(readings) }
 }
 
 /// GapSize attempts of that many moves each, as many as a batch takes up to a hundred.
-pub fn gap(library: &dyn Library, world: &World, moves: usize, opening: f64, rng: &mut Rng) -> Gap {
-    let set: BoxKmerSet = Box::new(&world.rust);
+pub fn gap(library: &dyn Library, world: &World, moves: usize) -> Gap {
+    let mut rng = reads_of(world, Method::GapSize.byte(), 0);
     let lines = (MOST_BYTES / 2 / (moves + 5 * world.k as usize)).clamp(1, 100);
-    let reads: Vec<Vec<u8>> = (0..lines).map(|_| world.gap_read(rng, moves)).collect();
-    let (results, rust) = best(|| reads.iter().map(|read| oracle::correct(&set, Method::GapSize, CONFIRM, read)).collect::<Vec<_>>());
-    let (report, ours) = batch(library, world, Method::GapSize, &reads, &results);
-    assert!(report.lookups as usize > 5 * moves * lines, "each line walks");
-    Gap { moves, lines, ours: ours - opening, rust }
+    let mut batch = Batch::new(library, world, Method::GapSize, lines, || world.gap_read(&mut rng, moves));
+    let (rounds, lines) = (batch.rounds(), batch.reads.len());
+    let lookups = batch.report.as_ref().map_or(0, |report| report.lookups);
+    assert!(lookups as usize > 5 * moves * lines, "each line walks");
+    Gap { moves, lines, rounds }
 }

@@ -1,8 +1,13 @@
 //! The page: docs/BENCHMARK.md.
-use super::measure::{Cell, Gap, Opening, CONFIRM};
+use super::measure::{Cell, Gap, Opening, Placing, CONFIRM, LOOP, MOST_ASKED};
+use super::split::Split;
+use super::summary::summary;
+use super::system::counts_running_time;
 use crate::referee::correctors::{Method, METHODS};
 use std::fmt::Write;
 use std::time::{SystemTime, UNIX_EPOCH};
+
+const NONE: &str = "–";
 
 pub struct Peak {
     pub keys: usize,
@@ -11,9 +16,13 @@ pub struct Peak {
     pub rust: Option<u64>,
 }
 
+#[derive(Default)]
 pub struct Results {
     pub library: &'static str,
     pub cells: Vec<Cell>,
+    pub huge: Vec<Cell>,
+    pub placings: Vec<Placing>,
+    pub splits: Vec<Split>,
     pub openings: Vec<Opening>,
     pub gaps: Vec<Gap>,
     pub peaks: Vec<Peak>,
@@ -39,87 +48,198 @@ pub fn write(results: &Results, chart: &str) -> String {
         results.library
     );
     let _ = writeln!(page, "![nanoseconds a base]({chart})\n");
+    let clock = if counts_running_time() { "and only the time counts in which the thread runs" } else { "by the clock" };
     let _ = writeln!(
         page,
-        "Reads of 10,000 bases from a random genome, a third each insertions, substitutions and deletions, confirm {CONFIRM}. *Ours* is one batch call of up to \
-         100 reads, with opening the set (7 to 10 are checked at each call) and clearing both buffers; *open* is the same less the time of opening the set alone. \
-         *Rust* is natir/br's `correct` read by read over its `FxHashSet`, which was filled before. *Ratio* is Rust's time by ours, so more than 1 is faster. \
-         *Floor* is a plain loop of as many lookups as document 01 counts.\n"
+        "Reads of 10,000 bases from a random genome, a third each insertions, substitutions and deletions, confirm {CONFIRM}. *Ours* is one batch call, with opening the set (7 to 10 are \
+         checked at each call) and clearing both buffers. *Rust* is natir/br's `correct` read by read over its `FxHashSet`, which was filled before. A batch has 100 reads, or fewer \
+         where these make the Rust ask its table over {} million times. Each round runs the Rust, ours and the opening alone, every other round in the opposite order; times are medians of the rounds, {clock}. *Ratio* is Rust's time by ours \
+         in the same round, so more than 1 is faster: the median, the lowest and the highest of the rounds. *Less opening* is the same with the round's time of opening taken off ours.\n",
+        MOST_ASKED / 1_000_000
     );
-    summary(&mut page, &results.cells);
+    summary(&mut page, &results.cells, &results.huge);
+    let _ = writeln!(
+        page,
+        "In the tables *Mb* are million bases. *Loop* is as many lookups as document 01 counts, one after the other in a plain loop, at the time that one takes in a loop over {} million k-mers \
+         of other reads with as many errors; opening and preparing are taken off ours. It is there to compare with, and no bound.\n",
+        LOOP / 1_000_000
+    );
     for method in METHODS {
         method_table(&mut page, method, &results.cells);
     }
+    huge_table(&mut page, results);
+    split_table(&mut page, &results.splits);
     opening_table(&mut page, &results.openings);
     gap_table(&mut page, &results.gaps);
     peak_table(&mut page, &results.peaks);
     page
 }
 
-/// Rust's time by ours: of the whole call, and less opening the set.
-fn ratios(cell: &Cell) -> (f64, f64) {
-    (cell.rust / cell.ours, cell.rust / (cell.ours - cell.opening).max(1e-9))
+/// Three digits or more.
+fn figure(value: f64) -> String {
+    let places = match value {
+        10.0.. => 1,
+        1.0.. => 2,
+        0.1.. => 3,
+        _ => 5,
+    };
+    format!("{value:.places$}")
 }
 
-/// How the cells of each size compare, and why some fall short.
-fn summary(page: &mut String, cells: &[Cell]) {
-    let _ = writeln!(
-        page,
-        "## In short\n\n| keys | cells | at least Rust's speed | ratio from | to | less opening from | to |\n|--:|--:|--:|--:|--:|--:|--:|"
-    );
-    let mut sizes: Vec<String> = cells.iter().map(|cell| short(cell.keys)).collect();
-    sizes.dedup();
-    for size in sizes {
-        let of_size: Vec<(f64, f64)> = cells.iter().filter(|cell| short(cell.keys) == size).map(ratios).collect();
-        let least = |ratio: fn(&(f64, f64)) -> f64| of_size.iter().map(ratio).fold(f64::MAX, f64::min);
-        let most = |ratio: fn(&(f64, f64)) -> f64| of_size.iter().map(ratio).fold(0.0, f64::max);
-        let _ = writeln!(
-            page,
-            "| {size} | {} | {} | {:.2} | {:.2} | {:.2} | {:.2} |",
-            of_size.len(),
-            of_size.iter().filter(|ratio| ratio.0 >= 1.0).count(),
-            least(|ratio| ratio.0),
-            most(|ratio| ratio.0),
-            least(|ratio| ratio.1),
-            most(|ratio| ratio.1)
-        );
-    }
-    let _ = writeln!(
-        page,
-        "\nWhere a cell falls short, the set is larger than the near caches. The Rust's hash table answers a k-mer that is not solid from one line of memory, and it was built \
-         beforehand. A lookup in the set's own sorted bytes reads one to three lines, each only when the one before has said where to go on, and each call opens the set and fills its \
-         table of starts anew. So sets of millions of keys lose most where errors make most k-mers not solid, and least, or nothing, where a walk's moves prevail.\n"
-    );
+/// Keys, k, errors, reads and rounds; then speeds and ratios.
+fn speeds(cell: &Cell) -> String {
+    let (rounds, speed) = (&cell.rounds, |seconds: f64| figure(cell.bases as f64 / seconds / 1e6));
+    let ratio = rounds.ratio();
+    format!(
+        "{} × {} | {} | {} | {:.2} | {:.2} | {:.2} | {:.2}",
+        cell.reads,
+        rounds.count(),
+        speed(rounds.ours()),
+        speed(rounds.rust()),
+        ratio.median,
+        ratio.lowest,
+        ratio.highest,
+        rounds.ratio_less_opening().median
+    )
 }
 
 fn method_table(page: &mut String, method: Method, cells: &[Cell]) {
+    let cells: Vec<&Cell> = cells.iter().filter(|cell| cell.method == method).collect();
+    if cells.is_empty() {
+        return;
+    }
     let _ = writeln!(page, "## {method:?}\n");
-    let _ = writeln!(page, "| keys | k | errors | ours Mb/s | open Mb/s | Rust Mb/s | ratio | open | lookups a base | M lookups/s | floor ns/base | Rust's floor ns/base |");
-    let _ = writeln!(page, "|--:|--:|--:|--:|--:|--:|--:|--:|--:|--:|--:|--:|");
-    for cell in cells.iter().filter(|cell| cell.method == method) {
-        let bases = cell.bases as f64;
-        let (per_second, open) = (|seconds: f64| bases / seconds / 1e6, (cell.ours - cell.opening).max(1e-9));
+    let _ = writeln!(
+        page,
+        "| keys | k | errors | reads × rounds | ours Mb/s | Rust Mb/s | ratio | from | to | less opening | lookups a base | ours M lookups/s | loop ns/base | Rust's loop ns/base |"
+    );
+    let _ = writeln!(page, "|--:|--:|--:|--:|--:|--:|--:|--:|--:|--:|--:|--:|--:|--:|");
+    for cell in cells {
+        let a_base = |a_lookup: f64| figure(a_lookup * 1e9 * cell.lookups_a_base());
         let _ = writeln!(
             page,
-            "| {} | {} | {} % | {:.2} | {:.2} | {:.2} | {:.2} | {:.2} | {:.2} | {:.1} | {} | {:.1} |",
+            "| {} | {} | {} % | {} | {} | {:.1} | {} | {} |",
             short(cell.keys),
             cell.k,
             cell.errors,
-            per_second(cell.ours),
-            per_second(open),
-            per_second(cell.rust),
-            cell.rust / cell.ours,
-            cell.rust / open,
-            cell.lookups as f64 / bases,
-            cell.lookups as f64 / open / 1e6,
-            cell.floor.map_or("–".to_string(), |seconds| format!("{:.1}", seconds * 1e9 / bases)),
-            cell.rust_floor * 1e9 / bases,
+            speeds(cell),
+            figure(cell.lookups_a_base()),
+            cell.lookups as f64 / cell.rounds.less_opening() / 1e6,
+            cell.a_lookup.ours.map_or(NONE.to_string(), a_base),
+            a_base(cell.a_lookup.rust),
         );
     }
     page.push('\n');
 }
 
+fn huge_table(page: &mut String, results: &Results) {
+    if results.huge.is_empty() {
+        return;
+    }
+    let _ = writeln!(
+        page,
+        "## On huge pages\n\nThe same reads; the set starts on a line of memory of 64 bytes, and it and the Rust's table lie in memory that was asked for on huge pages of 2 MB. Where each lies, as the \
+         system tells it:\n"
+    );
+    placing_table(page, &results.placings);
+    let _ = writeln!(
+        page,
+        "| keys | k | method | errors | reads × rounds | ours Mb/s | Rust Mb/s | ratio | from | to | less opening | plain ours Mb/s | plain Rust Mb/s | plain ratio |"
+    );
+    let _ = writeln!(page, "|--:|--:|---|--:|--:|--:|--:|--:|--:|--:|--:|--:|--:|--:|");
+    for cell in &results.huge {
+        let same = |plain: &&Cell| (plain.keys, plain.k, plain.method, plain.errors) == (cell.keys, cell.k, cell.method, cell.errors);
+        let plain = results.cells.iter().find(same).map(|plain| {
+            let speed = |seconds: f64| figure(plain.bases as f64 / seconds / 1e6);
+            format!("{} | {} | {:.2}", speed(plain.rounds.ours()), speed(plain.rounds.rust()), plain.rounds.ratio().median)
+        });
+        let plain = plain.unwrap_or(format!("{NONE} | {NONE} | {NONE}"));
+        let _ = writeln!(page, "| {} | {} | {:?} | {} % | {} | {plain} |", short(cell.keys), cell.k, cell.method, cell.errors, speeds(cell));
+    }
+    page.push('\n');
+}
+
+fn placing_table(page: &mut String, placings: &[Placing]) {
+    let _ = writeln!(
+        page,
+        "| keys | asked for | set's address mod 64 | set's mapping MB | on huge pages | Rust's mapping MB | on huge pages |\n|--:|---|--:|--:|--:|--:|--:|"
+    );
+    let part = |memory: Option<(u64, u64)>| {
+        let text = |(all, huge): (u64, u64)| format!("{:.1} | {:.0} %", all as f64 / 1e6, huge as f64 / all as f64 * 100.0);
+        memory.map_or(format!("{NONE} | {NONE}"), text)
+    };
+    for placing in placings {
+        let asked = if placing.huge { "huge pages" } else { "nothing" };
+        let _ = writeln!(page, "| {} | {asked} | {} | {} | {} |", short(placing.keys), placing.offset, part(placing.ours), part(placing.rust));
+    }
+    page.push('\n');
+    let missed = |placing: &&Placing| placing.huge && [placing.ours, placing.rust].iter().any(|memory| memory.is_none_or(|(all, huge)| huge * 10 < all * 9));
+    if placings.iter().any(|placing| missed(&placing)) {
+        page.push_str("**The system did not grant them for all of the memory, so the following shows less than huge pages can give.**\n\n");
+    }
+}
+
+fn split_table(page: &mut String, splits: &[Split]) {
+    if splits.is_empty() {
+        return;
+    }
+    let _ = writeln!(
+        page,
+        "## Where a call's time goes\n\nOne batch call, in ms. *Opening* is `corrector_open` alone; *starts*, the table of starts, a batch call without a line less that; both by the clock. What is left is \
+         split by where a timer finds the call, about 2,000 times a second: *lookups* in functions of the crate `set`, *the rest* elsewhere. A function that the compiler wrote into its caller counts as the \
+         caller's: the second table shows which are there.\n"
+    );
+    let _ = writeln!(page, "| keys | k | method | errors | reads | call | opening | starts | lookups | the rest | M lookups | ns a lookup | samples |");
+    let _ = writeln!(page, "|--:|--:|---|--:|--:|--:|--:|--:|--:|--:|--:|--:|--:|");
+    for split in splits {
+        let milliseconds = |seconds: f64| format!("{:.1}", seconds * 1e3);
+        let (left, lookups) = (split.left(), split.lookups as f64);
+        // Without the functions of lookups both stand together.
+        let parts = match split.asking {
+            Some(part) => format!("{} | {}", milliseconds(left * part), milliseconds(left * (1.0 - part))),
+            None => format!("with the rest | {}", milliseconds(left)),
+        };
+        let _ = writeln!(
+            page,
+            "| {} | {} | {:?} | {} % | {} | {} | {} | {} | {parts} | {:.2} | {:.1} | {} |",
+            short(split.keys),
+            split.k,
+            split.method,
+            split.errors,
+            split.reads,
+            milliseconds(split.call),
+            milliseconds(split.opening),
+            milliseconds(split.starts),
+            lookups / 1e6,
+            left * split.asking.unwrap_or(1.0) / lookups * 1e9,
+            split.samples
+        );
+    }
+    page.push('\n');
+    function_table(page, splits);
+}
+
+/// The functions where the timer finds a call once in a hundred times or more.
+fn function_table(page: &mut String, splits: &[Split]) {
+    let mut names: Vec<&String> = splits.iter().flat_map(|split| &split.functions).filter(|(_, part)| **part >= 0.01).map(|(name, _)| name).collect();
+    names.sort();
+    names.dedup();
+    if names.is_empty() {
+        return;
+    }
+    let heads: Vec<String> = splits.iter().map(|split| format!("{} {:?} {} %", short(split.keys), split.method, split.errors)).collect();
+    let _ = writeln!(page, "By function, in % of the samples:\n\n| function | {} |\n|---|{}", heads.join(" | "), "--:|".repeat(heads.len()));
+    for name in names {
+        let parts: Vec<String> = splits.iter().map(|split| format!("{:.1}", split.functions.get(name).unwrap_or(&0.0) * 100.0)).collect();
+        let _ = writeln!(page, "| `{name}` | {} |", parts.join(" | "));
+    }
+    page.push('\n');
+}
+
 fn opening_table(page: &mut String, openings: &[Opening]) {
+    if openings.is_empty() {
+        return;
+    }
     let _ = writeln!(page, "## Opening a set\n\nAgainst reading the same bytes as words and adding them.\n");
     let _ = writeln!(page, "| keys | k | MB | open GB/s | reading GB/s | open ms |\n|--:|--:|--:|--:|--:|--:|");
     for opening in openings {
@@ -141,12 +261,24 @@ fn opening_table(page: &mut String, openings: &[Opening]) {
 fn gap_table(page: &mut String, gaps: &[Gap]) {
     let _ = writeln!(
         page,
-        "## GapSize's moves\n\nEach line of a batch has one attempt of so many moves, the scan before it included; the opening is taken off.\n"
+        "## GapSize's moves\n\nEach line of a batch has one attempt of so many moves, the scan before it included; the opening is taken off, from the ratio too.\n"
     );
-    let _ = writeln!(page, "| moves | lines | ours ns/move | Rust ns/move |\n|--:|--:|--:|--:|");
+    let _ = writeln!(page, "| moves | lines × rounds | ours ns/move | Rust ns/move | ratio | from | to |\n|--:|--:|--:|--:|--:|--:|--:|");
     for gap in gaps {
-        let per_move = |seconds: f64| seconds * 1e9 / (gap.moves * gap.lines) as f64;
-        let _ = writeln!(page, "| {} | {} | {:.1} | {:.1} |", gap.moves, gap.lines, per_move(gap.ours), per_move(gap.rust));
+        let (rounds, per_move) = (&gap.rounds, |seconds: f64| seconds * 1e9 / (gap.moves * gap.lines) as f64);
+        let ratio = rounds.ratio_less_opening();
+        let _ = writeln!(
+            page,
+            "| {} | {} × {} | {:.1} | {:.1} | {:.2} | {:.2} | {:.2} |",
+            gap.moves,
+            gap.lines,
+            rounds.count(),
+            per_move(rounds.less_opening()),
+            per_move(rounds.rust()),
+            ratio.median,
+            ratio.lowest,
+            ratio.highest
+        );
     }
     page.push('\n');
 }
@@ -154,7 +286,7 @@ fn gap_table(page: &mut String, gaps: &[Gap]) {
 fn peak_table(page: &mut String, peaks: &[Peak]) {
     let _ = writeln!(page, "## Peak memory\n\nA process of its own for each side, from the set file to a batch corrected by One; MB.\n");
     let _ = writeln!(page, "| keys | k | ours | Rust |\n|--:|--:|--:|--:|");
-    let megabytes = |bytes: Option<u64>| bytes.map_or("–".to_string(), |bytes| format!("{:.1}", bytes as f64 / 1e6));
+    let megabytes = |bytes: Option<u64>| bytes.map_or(NONE.to_string(), |bytes| format!("{:.1}", bytes as f64 / 1e6));
     for peak in peaks {
         let _ = writeln!(page, "| {} | {} | {} | {} |", short(peak.keys), peak.k, megabytes(peak.ours), megabytes(peak.rust));
     }

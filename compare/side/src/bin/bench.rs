@@ -1,22 +1,33 @@
 //! The benchmark: `compare/bench` (compare/README.md).
 use side::bench::inputs::World;
-use side::bench::measure::{cell, gap, opening, Cell};
+use side::bench::measure::{cell, gap, loops, opening, placing, Cell};
 use side::bench::page::{Peak, Results};
+use side::bench::split::{split, Split};
+use side::bench::system::{count_running_time, on_huge_pages, Allocator};
 use side::bench::{chart, memory, page};
 use side::cases::batch_of;
-use side::library::library;
-use side::referee::correctors::METHODS;
+use side::library::{library, Library};
+use side::referee::correctors::{Method, METHODS};
 use side::rng::Rng;
 use std::path::Path;
 use std::process::ExitCode;
 
-const USAGE: &str = "compare/bench [--quick] [--stand-in] [--out FOLDER] [--keys N] [--k K]";
+#[global_allocator]
+static ALLOCATOR: Allocator = Allocator;
+
+const USAGE: &str =
+    "compare/bench [--quick] [--stand-in] [--out FOLDER] [--keys N] [--k K] [--method NAME] [--errors N] [--huge] [--split] [--running-time]; each of --keys to --errors as often as you like";
 const KEYS: [usize; 4] = [1_000, 100_000, 4_000_000, 16_000_000];
 /// How many of these --quick takes.
 const QUICK: usize = 2;
 const K: [u8; 3] = [15, 21, 31];
-const CHART_K: u8 = 21;
 const ERRORS: [usize; 3] = [1, 5, 12];
+/// The k of the chart, and of what is measured beside the plain cells.
+const ONE_K: u8 = 21;
+/// Sets from this size on are measured on huge pages too, and their calls looked into.
+const MANY_KEYS: usize = 4_000_000;
+const SPLIT_METHODS: [Method; 2] = [Method::One, Method::Graph];
+const SPLIT_ERRORS: [usize; 2] = [1, 12];
 const GAP_KEYS: usize = 400_000;
 const GAP_MOVES: [usize; 3] = [1_000, 10_000, 100_000];
 
@@ -35,31 +46,76 @@ fn main() -> ExitCode {
     }
 }
 
-/// What to measure, and the folder of the page; where only a part is measured, no page is written.
+/// What to measure, and the folder of the page; where only a part is measured, no page is written unless a folder is named.
+#[derive(Default)]
 struct Options {
     keys: Vec<usize>,
     k: Vec<u8>,
+    methods: Vec<Method>,
+    errors: Vec<usize>,
+    huge: bool,
+    split: bool,
     folder: Option<String>,
 }
 
+impl Options {
+    /// What is not chosen is measured in full.
+    fn complete(mut self, quick: bool) -> Self {
+        fn or_all<T: Clone>(chosen: &mut Vec<T>, all: &[T]) -> bool {
+            let whole = chosen.is_empty();
+            if whole {
+                *chosen = all.to_vec();
+            }
+            whole
+        }
+        let sizes = if quick { QUICK } else { KEYS.len() };
+        let whole = [
+            or_all(&mut self.keys, &KEYS[..sizes]),
+            or_all(&mut self.k, &K),
+            or_all(&mut self.methods, &METHODS),
+            or_all(&mut self.errors, &ERRORS),
+            !self.huge,
+            !self.split,
+        ];
+        if self.folder.is_none() && whole == [true; 6] {
+            self.folder = Some(if cfg!(feature = "linked") { "docs" } else { "target/compare" }.to_string());
+        }
+        self
+    }
+
+    /// Whether a world is measured on huge pages and its calls are looked into: for the page, or because it is asked for.
+    fn beside(&self, world: &World, asked: bool) -> bool {
+        asked || self.folder.is_some() && world.k == ONE_K && world.keys >= MANY_KEYS * 9 / 10
+    }
+}
+
 fn options(arguments: &[String]) -> Result<Options, String> {
-    let folder = if cfg!(feature = "linked") { "docs" } else { "target/compare" };
-    let mut options = Options { keys: KEYS.to_vec(), k: K.to_vec(), folder: Some(folder.to_string()) };
+    let (mut options, mut quick) = (Options::default(), false);
     let mut arguments = arguments.iter();
     while let Some(argument) = arguments.next() {
         let mut value = || arguments.next().ok_or(USAGE);
         let number = |text: &String| text.parse::<usize>().map_err(|_| format!("no number: {text}"));
         match argument.as_str() {
-            "--quick" => options.keys.truncate(QUICK),
-            "--keys" => (options.keys, options.folder) = (vec![number(value()?)?], None),
-            "--k" => (options.k, options.folder) = (vec![number(value()?)? as u8], None),
+            "--quick" => quick = true,
+            "--keys" => options.keys.push(number(value()?)?),
+            "--k" => options.k.push(number(value()?)? as u8),
+            "--method" => options.methods.push(method(value()?)?),
+            "--errors" => options.errors.push(number(value()?)?),
+            "--huge" => options.huge = true,
+            "--split" => options.split = true,
+            "--running-time" => count_running_time(),
             "--out" => options.folder = Some(value()?.clone()),
             // Chosen when this was built.
             "--stand-in" => {}
             _ => return Err(USAGE.to_string()),
         }
     }
-    Ok(options)
+    Ok(options.complete(quick))
+}
+
+fn method(name: &str) -> Result<Method, String> {
+    let named = |method: &Method| format!("{method:?}").eq_ignore_ascii_case(name);
+    METHODS.into_iter().find(named).ok_or(format!("no method: {name}"))
 }
 
 fn bench(arguments: &[String]) -> Result<(), String> {
@@ -68,7 +124,8 @@ fn bench(arguments: &[String]) -> Result<(), String> {
     let Some(folder) = &options.folder else { return Ok(()) };
     let (chart, folder) = ("benchmark.svg", Path::new(folder));
     let write = |file: &str, text: String| std::fs::write(folder.join(file), text).map_err(|error| format!("{file}: {error}"));
-    write(chart, chart::draw(&results.cells, CHART_K, &options.keys, &ERRORS))?;
+    let k = if options.k.contains(&ONE_K) { ONE_K } else { options.k[0] };
+    write(chart, chart::draw(&results.cells, k, &options.keys, &options.errors))?;
     write("BENCHMARK.md", page::write(&results, chart))?;
     println!("{}", folder.join("BENCHMARK.md").display());
     Ok(())
@@ -76,36 +133,92 @@ fn bench(arguments: &[String]) -> Result<(), String> {
 
 fn measure_all(options: &Options) -> Results {
     let library = library();
-    let mut results = Results { library: library.name(), cells: Vec::new(), openings: Vec::new(), gaps: Vec::new(), peaks: Vec::new() };
+    let mut results = Results { library: library.name(), ..Results::default() };
     for n in &options.keys {
         for k in &options.k {
             let rng = &mut Rng::of_unit(*k as u64, *n as u64);
             let world = World::new(rng, *k, *n);
-            let opened = opening(library, &world);
-            eprintln!("{} keys, k = {k}, opened in {:.3} ms", world.keys, opened.open * 1e3);
-            for method in METHODS {
-                for errors in ERRORS {
-                    let cell = cell(library, &world, method, errors, opened.open, rng);
-                    say(&cell);
-                    results.cells.push(cell);
-                }
+            measure(library, options, &world, &mut results);
+            if options.folder.is_some() {
+                results.peaks.push(peak(&world, rng));
             }
-            results.openings.push(opened);
-            results.peaks.push(peak(&world, rng));
         }
     }
-    let rng = &mut Rng::of_unit(0, 0);
-    let world = World::new(rng, CHART_K, GAP_KEYS);
-    let opened = opening(library, &world);
-    results.gaps = GAP_MOVES.iter().map(|moves| gap(library, &world, *moves, opened.open, rng)).collect();
+    if options.folder.is_some() {
+        let world = World::new(&mut Rng::of_unit(0, 0), ONE_K, GAP_KEYS);
+        results.gaps = GAP_MOVES.iter().map(|moves| gap(library, &world, *moves)).collect();
+    }
     results
 }
 
+fn measure(library: &dyn Library, options: &Options, world: &World, results: &mut Results) {
+    let opened = opening(library, world);
+    eprintln!("{} keys, k = {}, opened in {:.3} ms", world.keys, world.k, opened.open * 1e3);
+    results.openings.push(opened);
+    results.cells.extend(cells(library, options, world));
+    if options.beside(world, options.split) {
+        for method in options.methods.iter().filter(|method| options.split || SPLIT_METHODS.contains(method)) {
+            for errors in options.errors.iter().filter(|errors| options.split || SPLIT_ERRORS.contains(errors)) {
+                let split = split(library, world, *method, *errors);
+                say_split(&split);
+                results.splits.push(split);
+            }
+        }
+    }
+    if options.beside(world, options.huge) {
+        let huge = on_huge_pages(|| world.again());
+        eprintln!("on huge pages:");
+        results.placings.extend([placing(world, false), placing(&huge, true)]);
+        results.huge.extend(cells(library, options, &huge));
+    }
+}
+
+/// Every method at every rate of errors.
+fn cells(library: &dyn Library, options: &Options, world: &World) -> Vec<Cell> {
+    let loops: Vec<_> = options.errors.iter().map(|errors| loops(library, world, *errors)).collect();
+    let mut cells = Vec::new();
+    for method in &options.methods {
+        for (errors, a_lookup) in options.errors.iter().zip(&loops) {
+            let cell = cell(library, world, *method, *errors, *a_lookup);
+            say(&cell);
+            cells.push(cell);
+        }
+    }
+    cells
+}
+
 fn say(cell: &Cell) {
-    let nanoseconds = |seconds: f64| seconds * 1e9 / cell.bases as f64;
-    let (ours, open, rust) = (nanoseconds(cell.ours), nanoseconds(cell.ours - cell.opening), nanoseconds(cell.rust));
-    let lookups = cell.lookups as f64 / cell.bases as f64;
-    eprintln!("  {:?}, {} %: {ours:.1} ns a base ({open:.1} without opening), the Rust {rust:.1}, {lookups:.2} lookups", cell.method, cell.errors);
+    let (rounds, ratio) = (&cell.rounds, cell.rounds.ratio());
+    eprintln!(
+        "  {:?}, {} %: {:.1} ns a base ({:.1} less opening), the Rust {:.1}, ratio {:.2} ({:.2} to {:.2}); {:.2} lookups a base, {} reads, {} rounds",
+        cell.method,
+        cell.errors,
+        cell.nanoseconds(rounds.ours()),
+        cell.nanoseconds(rounds.less_opening()),
+        cell.nanoseconds(rounds.rust()),
+        ratio.median,
+        ratio.lowest,
+        ratio.highest,
+        cell.lookups_a_base(),
+        cell.reads,
+        rounds.count()
+    );
+}
+
+fn say_split(split: &Split) {
+    let (milliseconds, left) = (|seconds: f64| seconds * 1e3, split.left());
+    eprint!(
+        "  {:?}, {} %: call {:.1} ms, opening {:.1}, starts {:.1}, ",
+        split.method,
+        split.errors,
+        milliseconds(split.call),
+        milliseconds(split.opening),
+        milliseconds(split.starts)
+    );
+    match split.asking {
+        Some(part) => eprintln!("lookups {:.1}, the rest {:.1}", milliseconds(left * part), milliseconds(left * (1.0 - part))),
+        None => eprintln!("lookups and the rest {:.1}", milliseconds(left)),
+    }
 }
 
 /// The set and a batch in files, for a process of each side.

@@ -11,7 +11,7 @@ use Rattle.blocks.specs.Keys.{leastKey}
 use Rattle.blocks.specs.Opened.{Looked, firstWrong, wrongKey}
 use Rattle.blocks.proofs.First.{passed, failed, ended}
 use Rattle.blocks.proofs.Header.{Sized, sized}
-use Rattle.blocks.proofs.Opening.{refused-by, at-8, at-10, after-8, opens}
+use Rattle.blocks.proofs.Opening.{refused-by, at-8, at-10, after-8, is-wrong}
 use Rattle.blocks.proofs.check_keys.Statement.{statement}
 use Rattle.blocks.proofs.check_keys.Tie as tie
 
@@ -83,11 +83,11 @@ enum-known-look c = search needs
 enum-told : tie.Need-enum-told Inv-loop μ-loop
 enum-told c = search needs
 
+wrong-key-requires : tie.Need-wrong-key-requires Inv-loop μ-loop
+wrong-key-requires c κs = is-wrong (c .enum-told .given .1)
+
 add-check-blocks : tie.Need-add-check-blocks Inv-loop μ-loop
 add-check-blocks c = search needs
-
-key-refused-requires : tie.Need-key-refused-requires Inv-loop μ-loop
-key-refused-requires c κs = search needs
 
 check-blocks-requires : tie.Need-check-blocks-requires Inv-loop μ-loop
 check-blocks-requires c κs = search needs
@@ -99,9 +99,9 @@ returns-2 c =
     let e = k .before in
     let l = e .before .before .before in
     let b = l .before .before .before in
-    let wrong = subst (Looked _ _ _) (t .enum-told .given .1) (k .look-at-keys .ensures) in
+    let wrong = subst (Looked _ _ _) (c .before .wrong-key .ensures) (k .look-at-keys .ensures) in
     let key = (rw (starts (e .before .before)) at (l .loop .inv .4)) ∙ wrong in
-    rw (c .check-blocks .ensures, c .before .key-refused .ensures, t .enum-told .given .1)
+    rw (c .check-blocks .ensures)
     (after-8 _ (b .pre .0) _ (λ right. refused-by _ _ (at-10 _ (b .pre .0) right (b .pre .2) ∙ key)) _ (checked e))
 
 add-block : tie.Need-add-block Inv-loop μ-loop
@@ -121,21 +121,17 @@ loop-again c =
     (search needs, search needs, rw next (right .1), checked e, rw next ((rw (starts (e .before .before)) at (l .loop .inv .4)) ∙ right .0))
 
 check-spare-requires : tie.Need-check-spare-requires Inv-loop μ-loop
-unfolding Rules.blocks
-check-spare-requires c κs =
-    let b = c .before .before .before .before in
-    let z = header b in
-    (search needs, search needs, b .pre .3, b .pre .4)
-
-returns-3 : tie.Need-returns-3 Inv-loop μ-loop
 unfolding atPlace Rules.blocks
-returns-3 c =
-    let l = c .before .before in
+check-spare-requires c κs =
+    let l = c .before in
     let b = l .before .before .before in
     let z = header b in
     let all : min (b .args .n) (63 * (l .loop .block - 1)) ≡ b .args .n = search needs in
     let right = ap (atPlace 8) (l .loop .inv .3 ∙ ended _ (l .loop .block) _ (search needs)) in
-    opens _ (c .check-spare .result) (at-10 _ (b .pre .0) right (b .pre .2) ∙ (rw all at (l .loop .inv .4))) (c .check-spare .ensures)
+    (search needs, search needs, b .pre .3, b .pre .4, at-10 _ (b .pre .0) right (b .pre .2) ∙ (rw all at (l .loop .inv .4)))
+
+returns-3 : tie.Need-returns-3 Inv-loop μ-loop
+returns-3 c = search needs
 
 pub check-keys-spec : {M : Type 1} → statement M
 check-keys-spec =
@@ -150,8 +146,8 @@ check-keys-spec =
     look-at-keys-requires
     enum-known-look
     enum-told
+    wrong-key-requires
     add-check-blocks
-    key-refused-requires
     check-blocks-requires
     returns-2
     add-block

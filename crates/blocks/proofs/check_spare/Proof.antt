@@ -6,6 +6,7 @@ use Rattle.rules.specs.Refusal.{firstFailing, atPlace}
 use Rattle.rules.specs.Set as Rules
 use Rattle.blocks.proofs.First.{passed, failed, ended}
 use Rattle.blocks.proofs.Keys.{spare-test}
+use Rattle.blocks.proofs.Opening.{accepted-by, refused-by}
 use Rattle.blocks.proofs.check_spare.Statement.{statement}
 use Rattle.blocks.proofs.check_spare.Tie as tie
 
@@ -40,7 +41,8 @@ unfolding atPlace Rules.blocks
 returns c =
     let l = c .before .before .before in
     let ne = ne-eqb _ _ (λ e. c .if1 .taken (c .before .key-at .ensures ∙ e)) in
-    ap (atPlace 10) (l .loop .inv .3 ∙ failed _ (l .loop .word) _ (c .before .before .loop-test .taken) (spare-test _ _ (search needs) ∙ ne))
+    let wrong = failed _ (l .loop .word) _ (c .before .before .loop-test .taken) (spare-test _ _ (search needs) ∙ ne) in
+    refused-by _ _ (l .before .before .pre .4 ∙ ap (atPlace 10) (l .loop .inv .3 ∙ wrong))
 
 add-word : tie.Need-add-word Inv-loop μ-loop
 add-word c = search needs
@@ -60,7 +62,7 @@ unfolding atPlace Rules.blocks
 returns-2 c =
     let l = c .before in
     let b = l .before .before in
-    (ap (atPlace 10) (l .loop .inv .3 ∙ ended _ (l .loop .word) _ (search needs)), b .pre .2, b .pre .3)
+    (accepted-by _ (b .pre .4 ∙ ap (atPlace 10) (l .loop .inv .3 ∙ ended _ (l .loop .word) _ (search needs))), b .pre .2, b .pre .3)
 
 pub check-spare-spec : {M : Type 1} → statement M
 check-spare-spec =

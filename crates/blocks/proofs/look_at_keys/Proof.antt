@@ -58,12 +58,12 @@ mul-from : tie.Need-mul-from Inv-loop μ-loop
 unfolding Rules.blocks
 mul-from c = search needs
 
-mul-fewer : tie.Need-mul-fewer Inv-loop μ-loop
+mul-lesser : tie.Need-mul-lesser Inv-loop μ-loop
 unfolding Rules.blocks
-mul-fewer c = search needs
+mul-lesser c = search needs
 
-fewer-requires : tie.Need-fewer-requires Inv-loop μ-loop
-fewer-requires c κs = search needs
+lesser-requires : tie.Need-lesser-requires Inv-loop μ-loop
+lesser-requires c κs = search needs
 
 loop-holds : tie.Need-loop-holds Inv-loop μ-loop
 unfolding Rules.blocks
@@ -128,8 +128,8 @@ look-at-keys-spec =
     μ-loop
     sub-from
     mul-from
-    mul-fewer
-    fewer-requires
+    mul-lesser
+    lesser-requires
     loop-holds
     sub-block-word
     block-word-requires

@@ -8,7 +8,7 @@ use borrow.Author.Needs.{needs}
 use borrow.Author.Tests.{eqb-true, eqb-false, not-true, not-false}
 use Rattle.rules.specs.Refusal.{atPlace}
 use Rattle.rules.specs.Set as Rules
-use Rattle.blocks.specs.declared.Opened.the-variants.{Header}
+use Rattle.refusal.specs.declared.Refusal.the-variants.{Header}
 use Rattle.blocks.proofs.First.{passed, failed}
 use Rattle.blocks.proofs.Opening.{length-right, length-zero, length-odd, refused-by, at-7, at-8, at-9, after-8}
 use Rattle.blocks.proofs.open.Statement.{statement}

@@ -167,8 +167,8 @@ moved c =
     next-done _ _ (a .methods .now) (a .read .now) (pass-limited _ (s .pre .0 .0 .opens) (a .c) (s .pre .0 .1) (s .fits .c .fits))
     (l .loop .output) (l .loop .work) output work (l .loop .counts) (c .next .given .0 .0) i (l .loop .inv .2) (t .loop-test .taken) (kept .0) (kept .1 .0) done
 
-added-requires : tie.Need-added-requires Inv-loop μ-loop
-added-requires c κs =
+join-requires : tie.Need-join-requires Inv-loop μ-loop
+join-requires c κs =
     let n = c .before in
     let l = n .before .before .before .before .before .before .before .before .before .before .before in
     let s = l .before .before .before .before .before .before .before .before .before .before .before .before .before .before .before .before .before .before .before in
@@ -198,7 +198,7 @@ loop-again c =
     let kept = q .next-pass .kept .1 .1 .1 .1 .1 .1 .1 in (
       kept .0 ∙ l .loop .inv .0,
       kept .1 .0 ∙ l .loop .inv .1,
-      rw (c .added .ensures) (moved n),
+      rw (c .join .ensures) (moved n),
     )
 
 same-length-6 : tie.Need-same-length-6 Inv-loop μ-loop
@@ -242,7 +242,7 @@ through-spec =
     same-length-4
     same-length-5
     returns-3
-    added-requires
+    join-requires
     add-i
     loop-less
     loop-again

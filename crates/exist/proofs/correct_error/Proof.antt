@@ -2,7 +2,7 @@ use Prim.Native.Nat.{_+_}
 use mathlib.Core.Path.{_≡_, ap, subst}
 use borrow.Author.Needs.{needs}
 use Rattle.rules.specs.Set.{solid, setOf}
-use Rattle.rules.specs.Counted.{Try}
+use Rattle.rules.specs.Counted.{Try, after}
 use Rattle.rules.specs.Scan.{alternative}
 use Rattle.rules.specs.Exist.{Mend, exist}
 use Rattle.scan.specs.declared.Next.the-variants.{Kmer}
@@ -18,7 +18,7 @@ abbrev attempt : tie.Start → Try Mend
 attempt b =
     let a = b .args in
     let sol = solid (setOf (a .set .now)) in
-    exist (a .head .k) sol (a .c) (a .s .now) (scenarios (a .two) (a .head .k) sol) (a .kmer .code)
+    after (a .made) (exist (a .head .k) sol (a .c) (a .s .now) (scenarios (a .two) (a .head .k) sol) (a .kmer .code))
 
 abbrev start : tie.After-x → tie.Start
 start c = c .before .before .before .before .before .before .before
@@ -32,13 +32,13 @@ x-is c = subst (NextIs _ _) (c .x .given .1) (c .before .before .sole-alt .ensur
 picked : (c : tie.After-choose) → PickIs (attempt (start (c .before .before .before)) .answer) (c .choose .result .pick)
 picked c =
     let g = c .before in
-    rw (exist-answer _ _ _ _ _ _ (x-is (g .before .before) .0) (g .get-scenarii .result) (g .get-scenarii .ensures)) (c .choose .ensures .is)
+    rw (exist-answer _ _ _ _ _ _ _ (x-is (g .before .before) .0) (g .get-scenarii .result) (g .get-scenarii .ensures)) (c .choose .ensures .is)
 
 paid : (c : tie.After-choose)
-    → attempt (start (c .before .before .before)) .lookups ≡ 4 + c .before .get-scenarii .result .lookups + c .choose .result .lookups
+    → attempt (start (c .before .before .before)) .lookups ≡ start (c .before .before .before) .args .made + 4 + c .before .get-scenarii .result .lookups + c .choose .result .lookups
 paid c =
     let g = c .before in
-    exist-lookups _ _ _ _ _ _ (x-is (g .before .before) .0) (g .get-scenarii .result) (g .get-scenarii .ensures) (c .choose .ensures .lookups)
+    exist-lookups _ _ _ _ _ _ _ (x-is (g .before .before) .0) (g .get-scenarii .result) (g .get-scenarii .ensures) (c .choose .ensures .lookups)
 
 used : (c : tie.After-pick) → PickIs (attempt (start (c .before .before .before .before .before .before .before)) .answer) (Use (c .pick .given .0 .0))
 used c = subst (PickIs _) (c .pick .given .1) (picked (c .before .before .before .before))
@@ -52,10 +52,12 @@ enum-known-x c = search needs
 enum-told : tie.Need-enum-told
 enum-told c = search needs
 
+add-t18 : tie.Need-add-t18
+add-t18 c = search needs
+
 returns : tie.Need-returns
 returns c =
-    let a = c .before .before in
-    let e = exist-none _ _ _ _ _ _ (subst (NextIs _ _) (c .enum-told .given .1) (a .sole-alt .ensures)) in
+    let e = exist-none _ _ _ _ _ _ _ (subst (NextIs _ _) (c .enum-told .given .1) (c .before .before .sole-alt .ensures)) in
     refused (ap (λ (t : Try Mend). t .answer) e) (ap (λ (t : Try Mend). t .lookups) e)
 
 get-scenarii-requires : tie.Need-get-scenarii-requires
@@ -69,6 +71,9 @@ add-lookups c = search needs
 
 add-lookups-2 : tie.Need-add-lookups-2
 add-lookups-2 c = search needs
+
+add-lookups-3 : tie.Need-add-lookups-3
+add-lookups-3 c = search needs
 
 enum-known-pick : tie.Need-enum-known-pick
 enum-known-pick c = search needs
@@ -108,11 +113,13 @@ correct-error-spec =
     sole-alt-requires
     enum-known-x
     enum-told
+    add-t18
     returns
     get-scenarii-requires
     choose-requires
     add-lookups
     add-lookups-2
+    add-lookups-3
     enum-known-pick
     enum-told-2
     returns-2

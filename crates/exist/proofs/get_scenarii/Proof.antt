@@ -9,7 +9,7 @@ use Rattle.rules.specs.Exist.{Scenario}
 use Rattle.rules.specs.Set.{solid, setOf}
 use Rattle.kmer.specs.Kmer.{IsKmer}
 use Rattle.scan.specs.declared.Next.the-variants.{Kmer}
-use Rattle.scenario.specs.Scenario.{numberOf, scenarios, nth, mendOf, Small}
+use Rattle.scenario.specs.Scenario.{numberOf, scenarios, nth, spelledOut, Small}
 use Rattle.exist.specs.Exist.{EligibleIs, blank}
 use Rattle.exist.proofs.Scores.{Run, run-none, run-on, run-bad, run-all, tried-bad, tried-all, Done, done-none, done-refused, done-kept, done-answer, done-lookups, scenarios-length, number-le}
 use Rattle.exist.proofs.Chosen.{mends-store, small-store}
@@ -28,7 +28,7 @@ abbrev Inv-scenarios : tie.InvT-scenarios
 Inv-scenarios set starts head two c x s kept₀ count₀ lookups₀ end number₀ kept count lookups number =
     (number ≤ end) × (count ≤ number) × (lookups ≤ number * 300) × (length kept ≡ 13)
     × ((i : ℕ) → i < count → Small (getD kept i blank))
-    × Done (head .k) (solid (setOf set)) c s (scenarios two (head .k) (solid (setOf set)) (x .code) s) number (map mendOf (take count kept)) lookups
+    × Done (head .k) (solid (setOf set)) c s (scenarios two (head .k) (solid (setOf set)) (x .code) s) number (map spelledOut (take count kept)) lookups
 
 abbrev μ-scenarios : tie.MeasureT-scenarios
 μ-scenarios set starts head two c x s kept₀ count₀ lookups₀ end number₀ kept count lookups number = end - number

@@ -5,7 +5,8 @@ use lib.ListN.{length, drop}
 use borrow.Author.Needs.{needs}
 use Rattle.rules.specs.Letters.{add, addAll, last}
 use Rattle.kmer.specs.Kmer.{IsKmer}
-use Rattle.exist.proofs.Letters.{last-length, letter-code, add-next, add-end, placed}
+use Rattle.scan.proofs.Laws.{add-next, add-end}
+use Rattle.exist.proofs.Letters.{last-length, letter-code, placed}
 use Rattle.exist.proofs.in_place.Statement.{statement}
 use Rattle.exist.proofs.in_place.Tie as tie
 

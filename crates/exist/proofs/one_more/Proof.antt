@@ -1,7 +1,7 @@
 use mathlib.Core.Path.{refl}
 use lib.Dec.{lit≤}
 use borrow.Author.Needs.{needs}
-use Rattle.scenario.specs.Scenario.{mendOf}
+use Rattle.scenario.specs.Scenario.{spelledOut}
 use Rattle.exist.proofs.Chosen.{more-short, more-long}
 use Rattle.exist.proofs.one_more.Statement.{statement}
 use Rattle.exist.proofs.one_more.Tie as tie
@@ -14,7 +14,7 @@ add-end-2 c = search needs
 
 returns : tie.Need-returns
 returns c =
-    record { is = more-short _ _ _ _ _ (mendOf (c .before .before .before .before .args .mend)) (c .if1 .taken); few = lit≤ tt }
+    record { is = more-short _ _ _ _ _ (spelledOut (c .before .before .before .before .args .mend)) (c .if1 .taken); few = lit≤ tt }
 
 in-place-requires : tie.Need-in-place-requires
 in-place-requires c κs = search needs
@@ -38,7 +38,7 @@ returns-2 : tie.Need-returns-2
 returns-2 c =
     let a = c .before .before .before .before .before .before .before .before .args in
     let e = rw (c .before .before .before .in-place .ensures .is) at (c .before .add-all .ensures .is) in
-    record { is = more-long _ _ _ _ _ (mendOf (a .mend)) (c .before .before .before .before .if1 .left) refl e (c .get .ensures); few = lit≤ tt }
+    record { is = more-long _ _ _ _ _ (spelledOut (a .mend)) (c .before .before .before .before .if1 .left) refl e (c .get .ensures); few = lit≤ tt }
 
 pub one-more-spec : {M : Type 1} → statement M
 one-more-spec =

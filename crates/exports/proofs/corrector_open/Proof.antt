@@ -1,6 +1,5 @@
 use borrow.Author.Needs.{needs}
-use mathlib.Core.Path.{_∙_}
-use Rattle.exports.proofs.Told.{told-by, open-numbers-are}
+use Rattle.exports.proofs.Told.{told-by}
 use Rattle.exports.proofs.corrector_open.Statement.{statement}
 use Rattle.exports.proofs.corrector_open.Tie as tie
 
@@ -22,7 +21,7 @@ same-length c = search needs
 returns : tie.Need-returns
 returns c =
     let o = c .before .before .before .before .before in
-    told-by (o .open-numbers .ensures ∙ open-numbers-are _ (o .before .«open» .result) (o .before .«open» .ensures)) (c .before .before .tell .ensures)
+    told-by (o .open-numbers .ensures _ (o .before .«open» .ensures)) (c .before .before .tell .ensures)
 
 pub corrector-open-spec : {M : Type 1} → statement M
 corrector-open-spec =

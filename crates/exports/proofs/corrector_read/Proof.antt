@@ -1,19 +1,13 @@
 use borrow.Author.Needs.{needs}
-use Rattle.exports.proofs.Told.{told-by, told-exact, told-ceiling}
+use Rattle.exports.proofs.Told.{told-exact, told-ceiling}
 use Rattle.exports.proofs.corrector_read.Statement.{statement}
 use Rattle.exports.proofs.corrector_read.Tie as tie
 
 correct-read-requires : tie.Need-correct-read-requires
 correct-read-requires c κs = search needs
 
-numbers-of-requires : tie.Need-numbers-of-requires
-numbers-of-requires c κs = search needs
-
-slice-aggregate-tell : tie.Need-slice-aggregate-tell
-slice-aggregate-tell c = search needs
-
-tell-requires : tie.Need-tell-requires
-tell-requires c κs = search needs
+tell-answer-requires : tie.Need-tell-answer-requires
+tell-answer-requires c κs = search needs
 
 same-length : tie.Need-same-length
 same-length c = search needs
@@ -27,20 +21,15 @@ same-length-3 c = search needs
 returns : tie.Need-returns
 returns c =
     let t = c .before .before in
-    let n = t .before .before .before in
-    let d = n .before .before .before .before .before in
-    let a = d .correct-read .result in
-    let is = told-by (n .numbers-of .ensures) (t .tell .ensures) in
-    (told-exact a is (d .correct-read .ensures .0), told-ceiling _ _ _ _ a is (d .correct-read .ensures .1))
+    let d = t .before .before .before .before .before .before .correct-read in
+    (told-exact (d .result) (t .tell-answer .ensures) (d .ensures .0), told-ceiling _ _ _ _ (d .result) (t .tell-answer .ensures) (d .ensures .1))
 
 pub corrector-read-spec : {M : Type 1} → statement M
 corrector-read-spec =
     tie.close
     (tie.spec
     correct-read-requires
-    numbers-of-requires
-    slice-aggregate-tell
-    tell-requires
+    tell-answer-requires
     same-length
     same-length-2
     same-length-3

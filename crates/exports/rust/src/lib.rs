@@ -58,6 +58,15 @@ pub struct Set {
     pub n: usize,
 }
 
+/// The k-mers of a read.
+#[derive(Clone, Copy, Debug, PartialEq, Eq)]
+pub struct Count {
+    /// All of them.
+    pub kmers: u64,
+    /// Those that are solid.
+    pub solid: u64,
+}
+
 /// What an accepted call counts. The numbers of a batch are sums over its lines.
 #[derive(Clone, Copy, Debug, PartialEq, Eq)]
 pub struct Report {
@@ -102,9 +111,12 @@ pub fn correct_batch(set: &[u8], confirm: u8, methods: &[u8], batch: &[u8], outp
     answer(raw::correct(raw::Call::Batch, raw::Lent { set, confirm, methods, input: batch, output, work }))
 }
 
-/// How many of a read's k-mers are solid; 0 if the set is refused or the read is shorter than k. The read may have any length.
-pub fn count_solid(set: &[u8], read: &[u8]) -> u64 {
-    raw::count_solid(set, read)
+/// The k-mers of a read, and the solid ones among them. A read that is shorter than k has none.
+pub fn count_solid(set: &[u8], read: &[u8]) -> Result<Count, Refusal> {
+    match raw::count_solid(set, read) {
+        [0, _, kmers, solid] => Ok(Count { kmers, solid }),
+        [number, place, ..] => Err(Refusal::from_numbers(number, place)),
+    }
 }
 
 fn answer(numbers: [u64; 8]) -> Result<Report, Refusal> {

@@ -12,7 +12,9 @@ extern "C" {
         set: *const u8, set_length: usize, confirm: u8, methods: *const u8, methods_length: usize, batch: *const u8, batch_length: usize,
         output: *mut u8, output_length: usize, work: *mut u8, work_length: usize, answer: *mut u64, answer_length: usize,
     ) -> u64;
-    fn corrector_count_solid(set: *const u8, set_length: usize, read: *const u8, read_length: usize) -> u64;
+    fn corrector_count_solid(
+        set: *const u8, set_length: usize, read: *const u8, read_length: usize, answer: *mut u64, answer_length: usize,
+    ) -> u64;
 }
 
 /// What a read or a batch call is lent, but for its answer.
@@ -67,7 +69,10 @@ pub fn correct(call: Call, lent: Lent<'_>) -> [u64; 8] {
     answer
 }
 
-pub fn count_solid(set: &[u8], read: &[u8]) -> u64 {
-    // SAFETY: each pointer and length are a live slice's.
-    unsafe { corrector_count_solid(set.as_ptr(), set.len(), read.as_ptr(), read.len()) }
+/// Number, place, k-mers, solid ones among them.
+pub fn count_solid(set: &[u8], read: &[u8]) -> [u64; 4] {
+    let mut answer = [0; 4];
+    // SAFETY: each pointer and length are a live slice's, and `answer` is lent to this call alone.
+    unsafe { corrector_count_solid(set.as_ptr(), set.len(), read.as_ptr(), read.len(), answer.as_mut_ptr(), answer.len()) };
+    answer
 }

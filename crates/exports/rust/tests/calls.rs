@@ -2,7 +2,7 @@
 mod common;
 
 use common::{sample_set, set_of};
-use corrector::{correct_batch, correct_read, count_solid, open, work_length, Refusal, Report, Set};
+use corrector::{correct_batch, correct_read, count_solid, open, work_length, Count, Refusal, Report, Set};
 use corrector::{GAP_SIZE, GRAPH, MAX_INPUT, MAX_LINES, MAX_METHODS, MAX_OUTPUT, MAX_WORK, ONE, TWO};
 
 const FILL: u8 = 170;
@@ -113,12 +113,15 @@ fn opens() {
 #[test]
 fn counts_solid_k_mers() {
     let set = sample_set();
-    assert_eq!(count_solid(&set, b"AACTCCG"), 5);
-    assert_eq!(count_solid(&set, b"AACGC"), 1);
-    assert_eq!(count_solid(&set, b"AAC"), 1);
-    assert_eq!(count_solid(&set, b"AA"), 0);
-    assert_eq!(count_solid(&set, &b"AACTC".repeat(MAX_INPUT)), 3 * MAX_INPUT as u64);
-    assert_eq!(count_solid(&set[..512], b"AACTCCG"), 0);
+    let counts = |read: &[u8], kmers: u64, solid: u64| assert_eq!(count_solid(&set, read), Ok(Count { kmers, solid }));
+    counts(b"AACTCCG", 5, 5);
+    counts(b"AACGC", 3, 1);
+    counts(b"AAC", 1, 1);
+    counts(b"ACGT", 2, 0);
+    counts(b"AA", 0, 0);
+    counts(b"", 0, 0);
+    counts(&[65; MAX_INPUT], MAX_INPUT as u64 - 2, 0);
+    assert_eq!(count_solid(&set, &[65; MAX_INPUT + 1]), Err(Refusal::InputLength));
 }
 
 /// By both calls.
@@ -166,7 +169,7 @@ fn set_refused(set: &[u8], refusal: Refusal, number: u8, place: usize) {
     assert_eq!(open(set), Err(refusal));
     Done::read(set, 1, &[ONE], b"AAC").refused(refusal, number, place);
     Done::batch(set, 1, &[ONE], b"AAC\n").refused(refusal, number, place);
-    assert_eq!(count_solid(set, b"AAC"), 0);
+    assert_eq!(count_solid(set, b"AAC"), Err(refusal));
 }
 
 #[test]

@@ -1,11 +1,9 @@
-use Prim.Native.Nat.{_+_, _*_, _^_, _<_}
+use Prim.Native.Nat.{_^_, _<_}
 use native.Mathlib.Omega.{arith}
 use lib.ListN.{length}
 use borrow.Author.Needs.{needs}
-use Rattle.rules.specs.Set.{solid, setOf}
-use Rattle.rules.proofs.Exist.{one-cost}
 use Rattle.graph.proofs.Laws.{scan-fits}
-use Rattle.gap_size.proofs.Branches.{cost-le, gap-below, gap-at, gap-above}
+use Rattle.gap_size.proofs.Branches.{gap-below, gap-at, gap-above}
 use Rattle.gap_size.proofs.correct_error.Statement.{statement}
 use Rattle.gap_size.proofs.correct_error.Tie as tie
 
@@ -34,23 +32,16 @@ returns c =
     gap-below _ _ _ _ _ _ (e .error-len .ensures) (c .before .before .before .before .if1 .taken) (c .before .before .from-scan .ensures)
 
 correct-error-requires : tie.Need-correct-error-requires
-correct-error-requires c κs = let b = entry (c .before .before .before .before .before .before .before) in (b .pre .0, b .pre .1, b .pre .3)
-
-after-requires : tie.Need-after-requires
-after-requires c κs =
-    let e = c .before .before .before .before .before .before .before .before .before .before in
-    let b = entry e in
-    let one = one-cost (b .args .head .k) (solid (setOf (b .args .set .now))) (b .args .c) (b .args .s .now) (b .args .kmer .code) in
-    omega (arith, fits e .1, cost-le (10 + 3 * b .args .c) (c .before .before .correct-error .ensures) one, b .fits .c)
+correct-error-requires c κs = let e = c .before .before .before .before .before .before .before in (entry e .pre .0, entry e .pre .1, entry e .pre .3, fits e .1)
 
 same-length-2 : tie.Need-same-length-2
 same-length-2 c = search needs
 
 returns-2 : tie.Need-returns-2
 returns-2 c =
-    let e = c .before .before .before .before .before .before .before .before .before .before .before in
-    rw (c .after .ensures)
-    (gap-at _ _ _ _ _ _ (e .error-len .ensures) (c .before .before .before .before .before .before .before .before .if1 .left) (c .before .before .before .before .before .if2 .taken) (c .before .before .before .correct-error .ensures))
+    let q = c .before .before in
+    let e = q .before .before .before .before .before .before .before .before in
+    gap-at _ _ _ _ _ _ (e .error-len .ensures) (q .before .before .before .before .before .if1 .left) (q .before .before .if2 .taken) (q .correct-error .ensures)
 
 ins-sub-correction-requires : tie.Need-ins-sub-correction-requires
 ins-sub-correction-requires c κs =
@@ -75,7 +66,6 @@ correct-error-spec =
     same-length
     returns
     correct-error-requires
-    after-requires
     same-length-2
     returns-2
     ins-sub-correction-requires

@@ -1,6 +1,6 @@
-use Prim.Native.Nat.{ℕ, _+_, _-_, _*_, _≤_, _<_}
+use Prim.Native.Nat.{_+_, _-_, _*_, _≤_, _<_}
 use native.Mathlib.Omega.{arith}
-use mathlib.Core.Path.{_≡_, refl, sym, _∙_, subst}
+use mathlib.Core.Path.{_≡_, refl, sym, _∙_}
 use mathlib.Core.Option.{some}
 use lib.ListN.{length}
 use borrow.Author.Needs.{needs}
@@ -8,10 +8,10 @@ use Rattle.rules.specs.Set.{maxKeys, solid, setOf}
 use Rattle.rules.specs.Scan.{sole}
 use Rattle.kmer.specs.declared.Kmer.{Kmer}
 use Rattle.kmer.specs.Kmer.{IsKmer}
-use Rattle.scan.specs.Scan.{NextIs}
+use Rattle.scan.proofs.Laws.{no-next, next-kmer, nuc-lt}
 use Rattle.gap_size.specs.Gap.{passed}
 use Rattle.gap_size.specs.Filter.{suffix, Covers}
-use Rattle.gap_size.proofs.Bits.{prefix-is}
+use Rattle.gap_size.proofs.Bits.{move-begins}
 use Rattle.gap_size.proofs.Laws.{Filling, passed-none, filling-start, gap-dead, gap-repeats, passed-more, gap-goes, gap-bound, gap-room, gap-refused, gap-mends}
 use Rattle.gap_size.proofs.fill.Statement.{statement}
 use Rattle.gap_size.proofs.fill.Tie as tie
@@ -44,20 +44,25 @@ few-lookups : (c : tie.At-loop Inv-loop μ-loop) → 4 * c .loop .i ≤ 8 * maxK
 few-lookups c = let f = entry c .pre .0 in gap-room (c .loop .inv .6) (gap-bound (f .ready) _ _ (f .kmer .small) (f .lit))
 
 -- the move: to the sole solid successor
-abbrev next : tie.After-next Inv-loop μ-loop → Kmer
-next c = c .next .given .0 .0
+abbrev next : tie.After-add-nuc-to-end Inv-loop μ-loop → Kmer
+next c = c .add-nuc-to-end .result
 
-abbrev turn : tie.After-next Inv-loop μ-loop → tie.At-loop Inv-loop μ-loop
-turn c = c .before .before .before .before
+abbrev from : tie.After-add-nuc-to-end Inv-loop μ-loop → tie.In-loop Inv-loop μ-loop
+from c = c .before .before .before .before .before .before
 
-told : (c : tie.After-next Inv-loop μ-loop)
+abbrev turn : tie.After-add-nuc-to-end Inv-loop μ-loop → tie.At-loop Inv-loop μ-loop
+turn c = from c .before
+
+told : (c : tie.After-add-nuc-to-end Inv-loop μ-loop)
     → let b = entry (turn c) in
     (sole (b .args .head .k) (solid (setOf (b .args .set .now))) (turn c .loop .at .code) .answer ≡ some (next c .code)) × IsKmer (b .args .head .k) (next c)
-told c = subst (NextIs _ _) (c .next .given .1) (c .before .before .sole-next .ensures)
+told c =
+    let n = c .before .before .before .before in
+    next-kmer _ _ _ (n .sole-nuc .result) (n .before .next-nucs .ensures) (n .sole-nuc .ensures) _ (c .before .before .nuc .given .1) (c .add-nuc-to-end .ensures)
 
 words-after : (c : tie.After-meet Inv-loop μ-loop)
-    → length (c .meet .last .1 .1 .1 .1 .1 .1 .0) ≡ length (entry (turn (c .before .before .before .before)) .args .filter .now)
-words-after c = c .meet .ensures .same ∙ words (turn (c .before .before .before .before))
+    → length (c .meet .last .1 .1 .1 .1 .1 .1 .0) ≡ length (entry (turn (c .before .before .before)) .args .filter .now)
+words-after c = c .meet .ensures .same ∙ words (turn (c .before .before .before))
 
 add-lookups : tie.Need-add-lookups Inv-loop μ-loop
 add-lookups c = omega (arith, c .before .before .before .before .before .pre)
@@ -88,78 +93,88 @@ loop-holds c =
 add-lookups-2 : tie.Need-add-lookups-2 Inv-loop μ-loop
 add-lookups-2 c = omega (arith, few-lookups (c .before), c .before .loop .inv .2, entry (c .before) .pre .0)
 
-sole-next-requires : tie.Need-sole-next-requires Inv-loop μ-loop
-sole-next-requires c κs = (entry (c .before) .pre .0 .ready, c .before .loop .inv .5)
+next-nucs-requires : tie.Need-next-nucs-requires Inv-loop μ-loop
+next-nucs-requires c κs = (entry (c .before) .pre .0 .ready, c .before .loop .inv .5)
 
-enum-known-next : tie.Need-enum-known-next Inv-loop μ-loop
-enum-known-next c = search needs
+sole-nuc-requires : tie.Need-sole-nuc-requires Inv-loop μ-loop
+sole-nuc-requires c κs = search needs
+
+enum-known-nuc : tie.Need-enum-known-nuc Inv-loop μ-loop
+enum-known-nuc c = search needs
 
 enum-told : tie.Need-enum-told Inv-loop μ-loop
 enum-told c = search needs
 
 same-length : tie.Need-same-length Inv-loop μ-loop
-same-length c = words (c .before .before .before .before)
+same-length c = words (c .before .before .before .before .before)
 
 same-length-2 : tie.Need-same-length-2 Inv-loop μ-loop
-same-length-2 c = room (c .before .before .before .before)
+same-length-2 c = room (c .before .before .before .before .before)
 
 returns : tie.Need-returns Inv-loop μ-loop
 returns c =
-    let l = c .before .before .before .before in
+    let n = c .before .before in
+    let l = n .before .before .before in
     record {
       is = gap-refused _ _ _ _ _ _ _
-          (gap-dead (l .loop .inv .6) (c .before .before .before .loop-test .taken)
-          (subst (NextIs _ _) (c .enum-told .given .1) (c .before .before .sole-next .ensures)))
+          (gap-dead (l .loop .inv .6) (n .before .before .loop-test .taken)
+          (no-next _ _ _ (n .sole-nuc .result) (n .before .next-nucs .ensures) (n .sole-nuc .ensures) (c .enum-told .given .1)))
           (omega (arith, l .loop .inv .2));
       room = room l;
     }
 
+add-nuc-to-end-requires : tie.Need-add-nuc-to-end-requires Inv-loop μ-loop
+add-nuc-to-end-requires c κs =
+    let n = c .before .before .before in
+    let l = n .before .before .before in
+    (entry l .pre .0 .ready .shifts, l .loop .inv .5, nuc-lt _ _ _ (n .sole-nuc .result) (n .before .next-nucs .ensures) (n .sole-nuc .ensures) _ (c .before .nuc .given .1))
+
 meet-requires : tie.Need-meet-requires Inv-loop μ-loop
 meet-requires c κs =
-    let m = c .before .before .before in
+    let m = c .before .before in
     let l = turn m in
     let f = entry l .pre .0 in
-    let lt = m .before .before .before .loop-test .taken in
-    ((f .ready .shifts, f .kmer, omega (arith, l .loop .inv .1, lt), rw (words l) (entry l .pre .1)), rw (prefix-is _ _ _ _ (f .ready .shifts .k-low) (told m .0)) (l .loop .inv .7))
+    let lt = from m .loop-test .taken in
+    ((f .ready .shifts, f .kmer, omega (arith, l .loop .inv .1, lt), rw (words l) (entry l .pre .1)), rw (move-begins _ _ _ _ (f .ready .shifts .k-low) (told m .0)) (l .loop .inv .7))
 
 same-length-3 : tie.Need-same-length-3 Inv-loop μ-loop
 same-length-3 c = words-after (c .before .before .before)
 
 same-length-4 : tie.Need-same-length-4 Inv-loop μ-loop
-same-length-4 c = room (turn (c .before .before .before .before .before .before .before))
+same-length-4 c = room (turn (c .before .before .before .before .before .before))
 
 returns-2 : tie.Need-returns-2 Inv-loop μ-loop
 returns-2 c =
-    let m = c .before .before .before .before .before .before .before in
+    let m = c .before .before .before .before .before .before in
     let l = turn m in
     record {
       is = gap-refused _ _ _ _ _ _ _
-          (gap-repeats (l .loop .inv .6) (m .before .before .before .loop-test .taken) _ (told m .0)
+          (gap-repeats (l .loop .inv .6) (from m .loop-test .taken) _ (told m .0)
           (sym (c .before .before .before .meet .ensures .is) ∙ c .if1 .taken))
           (omega (arith, l .loop .inv .2));
       room = room l;
     }
 
 add-write-last : tie.Need-add-write-last Inv-loop μ-loop
-add-write-last c = omega (arith, few-lookups (c .before .before .before .before .before .before .before .before .before .before .before .before))
+add-write-last c = omega (arith, few-lookups (turn (c .before .before .before .before .before .before .before)))
 
 write-last-requires-2 : tie.Need-write-last-requires-2 Inv-loop μ-loop
 write-last-requires-2 c κs = search needs
 
 add-i : tie.Need-add-i Inv-loop μ-loop
-add-i c = omega (arith, few-lookups (c .before .before .before .before .before .before .before .before .before .before .before .before .before .before .before))
+add-i c = omega (arith, few-lookups (turn (c .before .before .before .before .before .before .before .before .before .before)))
 
 loop-less : tie.Need-loop-less Inv-loop μ-loop
-loop-less c = omega (arith, c .before .before .before .before .before .before .before .before .before .before .before .before .before .before .loop-test .taken)
+loop-less c = omega (arith, from (c .before .before .before .before .before .before .before .before .before .before) .loop-test .taken)
 
 loop-again : tie.Need-loop-again Inv-loop μ-loop
 loop-again c =
-    let m = c .before .before .before .before .before .before .before .before .before .before .before in
+    let m = c .before .before .before .before .before .before .before .before .before .before in
     let w = c .before .before .write-last2 in
     let q = c .before .before .before .before .before .before .before .meet .ensures in
     let l = turn m in
     let i = l .loop .inv in
-    let lt = m .before .before .before .loop-test .taken in
+    let lt = from m .loop-test .taken in
     let low = entry l .pre .0 .ready .shifts .k-low in (
       omega arith,
       rw (w .kept .0) (i .1),
@@ -171,11 +186,11 @@ loop-again c =
       rw (w .ensures, passed-more (i .6) lt _ (told m .0) low (omega (arith, i .1))) (q .covers),
     )
 
-add-t30 : tie.Need-add-t30 Inv-loop μ-loop
-add-t30 c = let l = c .before in omega (arith, l .loop .inv .1, room l, entry l .good .1 .1 .1 .1 .1 .1 .0)
+add-t32 : tie.Need-add-t32 Inv-loop μ-loop
+add-t32 c = let l = c .before in omega (arith, l .loop .inv .1, room l, entry l .good .1 .1 .1 .1 .1 .1 .0)
 
-add-t31 : tie.Need-add-t31 Inv-loop μ-loop
-add-t31 c = let l = c .before in omega (arith, l .loop .inv .1, room l, entry l .good .1 .1 .1 .1 .1 .1 .0)
+add-t33 : tie.Need-add-t33 Inv-loop μ-loop
+add-t33 c = let l = c .before in omega (arith, l .loop .inv .1, room l, entry l .good .1 .1 .1 .1 .1 .1 .0)
 
 same-length-5 : tie.Need-same-length-5 Inv-loop μ-loop
 same-length-5 c = words (c .before)
@@ -203,12 +218,14 @@ fill-spec =
     sub-moves
     loop-holds
     add-lookups-2
-    sole-next-requires
-    enum-known-next
+    next-nucs-requires
+    sole-nuc-requires
+    enum-known-nuc
     enum-told
     same-length
     same-length-2
     returns
+    add-nuc-to-end-requires
     meet-requires
     same-length-3
     same-length-4
@@ -218,8 +235,8 @@ fill-spec =
     add-i
     loop-less
     loop-again
-    add-t30
-    add-t31
+    add-t32
+    add-t33
     same-length-5
     same-length-6
     returns-3)

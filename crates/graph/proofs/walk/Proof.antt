@@ -1,6 +1,6 @@
 use Prim.Native.Nat.{ℕ, _+_, _-_, _*_, _≤_}
 use native.Mathlib.Omega.{arith}
-use mathlib.Core.Path.{_≡_, refl, sym, _∙_, subst}
+use mathlib.Core.Path.{_≡_, refl, sym, _∙_}
 use mathlib.Core.Bool.{Bool, true}
 use mathlib.Core.Option.{some}
 use mathlib.Core.Logic.{⊎-elim}
@@ -12,7 +12,8 @@ use Rattle.rules.specs.Scan.{sole}
 use Rattle.kmer.specs.declared.Kmer.{Kmer}
 use Rattle.kmer.specs.Kmer.{IsKmer}
 use Rattle.set.proofs.Opened.{opened-n-le}
-use Rattle.scan.specs.Scan.{NextIs, scanOf}
+use Rattle.scan.specs.Scan.{scanOf}
+use Rattle.scan.proofs.Laws.{no-next, next-kmer, nuc-lt}
 use Rattle.graph.proofs.Laws.{Arrived, Going, going-start, walk-dark, walk-dead, walk-arrives, walk-meets, walk-marks, walk-goes, walk-stays, walk-over, walk-refused, walk-mends, walk-full}
 use Rattle.graph.proofs.walk.Statement.{statement}
 use Rattle.graph.proofs.walk.Tie as tie
@@ -45,33 +46,38 @@ lit : (c : tie.Else2 Inv-loop μ-loop) → let l = c .before .before .before in 
 lit c = sym (c .before .get .ensures) ∙ not-false _ (c .if2 .left)
 
 -- the move: to the sole solid successor
-abbrev next : tie.After-next Inv-loop μ-loop → Kmer
-next c = c .next .given .0 .0
+abbrev next : tie.After-add-nuc-to-end Inv-loop μ-loop → Kmer
+next c = c .add-nuc-to-end .result
 
-abbrev turn : tie.After-next Inv-loop μ-loop → tie.At-loop Inv-loop μ-loop
-turn c = c .before .before .before .before .before .before
+abbrev from : tie.After-add-nuc-to-end Inv-loop μ-loop → tie.Else2 Inv-loop μ-loop
+from c = c .before .before .before .before .before .before
 
-told : (c : tie.After-next Inv-loop μ-loop)
+abbrev turn : tie.After-add-nuc-to-end Inv-loop μ-loop → tie.At-loop Inv-loop μ-loop
+turn c = from c .before .before .before
+
+told : (c : tie.After-add-nuc-to-end Inv-loop μ-loop)
     → let b = entry (turn c) in
     (sole (b .args .head .k) (sol (turn c)) (turn c .loop .at .code) .answer ≡ some (next c .code)) × IsKmer (b .args .head .k) (next c)
-told c = subst (NextIs _ _) (c .next .given .1) (c .before .before .sole-next .ensures)
+told c =
+    let n = c .before .before .before .before in
+    next-kmer _ _ _ (n .sole-nuc .result) (n .before .next-nucs .ensures) (n .sole-nuc .ensures) _ (c .before .before .nuc .given .1) (c .add-nuc-to-end .ensures)
 
 -- its letter written
-abbrev move : tie.After-write-last2 Inv-loop μ-loop → tie.After-next Inv-loop μ-loop
-move c = c .before .before .before
+abbrev move : tie.After-write-last2 Inv-loop μ-loop → tie.After-add-nuc-to-end Inv-loop μ-loop
+move c = c .before .before
 
 room-after : (c : tie.After-write-last2 Inv-loop μ-loop) → length (c .write-last2 .last .0) ≡ length (entry (turn (move c)) .args .out .now)
 room-after c = c .write-last2 .kept .0 ∙ room (turn (move c))
 
 came : (c : tie.Then3 Inv-loop μ-loop)
-    → let l = turn (c .before .before .before .before .before .before) in
+    → let l = turn (c .before .before .before .before .before) in
     let b = entry l in
     Arrived (b .args .head .k) (b .args .head .n) (sol l) (b .args .scan .end) (b .args .x .code) (5 * l .loop .moves + 5) (l .loop .moves + 2)
     (c .before .before .before .write-last2 .last .0)
 came c =
-    let m = c .before .before .before .before .before .before in
+    let m = c .before .before .before .before .before in
     rw (c .before .before .before .write-last2 .ensures)
-    (walk-arrives (turn m .loop .inv .6) (m .before .before .before .before .before .loop-test .taken) (lit (m .before .before .before)) _ (told m .0) (c .if3 .taken))
+    (walk-arrives (turn m .loop .inv .6) (from m .before .before .loop-test .taken) (lit (from m)) _ (told m .0) (c .if3 .taken))
 
 -- n is bounded
 keys : (c : tie.Start Inv-loop μ-loop) → c .args .head .n ≤ maxKeys
@@ -125,43 +131,54 @@ returns-2 c =
 add-lookups-3 : tie.Need-add-lookups-3 Inv-loop μ-loop
 add-lookups-3 c = omega (arith, c .before .before .before .loop .inv, entry (c .before .before .before) .pre)
 
-sole-next-requires : tie.Need-sole-next-requires Inv-loop μ-loop
-sole-next-requires c κs = let l = c .before .before .before in (entry l .pre .0, l .loop .inv .5)
+next-nucs-requires : tie.Need-next-nucs-requires Inv-loop μ-loop
+next-nucs-requires c κs = let l = c .before .before .before in (entry l .pre .0, l .loop .inv .5)
 
-enum-known-next : tie.Need-enum-known-next Inv-loop μ-loop
-enum-known-next c = search needs
+sole-nuc-requires : tie.Need-sole-nuc-requires Inv-loop μ-loop
+sole-nuc-requires c κs = search needs
+
+enum-known-nuc : tie.Need-enum-known-nuc Inv-loop μ-loop
+enum-known-nuc c = search needs
 
 enum-told : tie.Need-enum-told Inv-loop μ-loop
 enum-told c = search needs
 
 same-length-2 : tie.Need-same-length-2 Inv-loop μ-loop
-same-length-2 c = room (c .before .before .before .before .before .before)
+same-length-2 c = room (c .before .before .before .before .before .before .before)
 
 returns-3 : tie.Need-returns-3 Inv-loop μ-loop
 returns-3 c =
-    let l = c .before .before .before .before .before .before in
+    let n = c .before .before in
+    let asked = n .before .before in
+    let l = asked .before .before .before in
     record {
       is = walk-refused _ _ _ (scanOf (entry l .args .scan)) _ _ _ _
-          (walk-dead (l .loop .inv .6) (c .before .before .before .before .before .loop-test .taken) (lit (c .before .before .before))
-          (subst (NextIs _ _) (c .enum-told .given .1) (c .before .before .sole-next .ensures)))
+          (walk-dead (l .loop .inv .6) (asked .before .before .loop-test .taken) (lit asked)
+          (no-next _ _ _ (n .sole-nuc .result) (n .before .next-nucs .ensures) (n .sole-nuc .ensures) (c .enum-told .given .1)))
           (omega (arith, l .loop .inv .3));
       room = room l;
     }
 
+add-nuc-to-end-requires : tie.Need-add-nuc-to-end-requires Inv-loop μ-loop
+add-nuc-to-end-requires c κs =
+    let n = c .before .before .before in
+    let l = n .before .before .before .before .before in
+    (entry l .pre .0 .shifts, l .loop .inv .5, nuc-lt _ _ _ (n .sole-nuc .result) (n .before .next-nucs .ensures) (n .sole-nuc .ensures) _ (c .before .nuc .given .1))
+
 add-write-last : tie.Need-add-write-last Inv-loop μ-loop
-add-write-last c = omega (arith, c .before .before .before .before .before .before .before .before .loop .inv)
+add-write-last c = omega (arith, turn (c .before) .loop .inv)
 
 write-last-requires-2 : tie.Need-write-last-requires-2 Inv-loop μ-loop
 write-last-requires-2 c κs = search needs
 
 add-if4 : tie.Need-add-if4 Inv-loop μ-loop
-add-if4 c = omega (arith, c .before .before .before .before .before .before .before .before .before .before .before .before .loop .inv)
+add-if4 c = omega (arith, turn (c .before .before .before .before .before) .loop .inv)
 
-add-t30 : tie.Need-add-t30 Inv-loop μ-loop
-add-t30 c = omega (arith, c .before .before .before .before .before .before .before .before .before .before .before .before .before .loop .inv)
+add-t32 : tie.Need-add-t32 Inv-loop μ-loop
+add-t32 c = omega (arith, turn (c .before .before .before .before .before .before) .loop .inv)
 
-add-t31 : tie.Need-add-t31 Inv-loop μ-loop
-add-t31 c = omega (arith, entry (c .before .before .before .before .before .before .before .before .before .before .before .before .before .before) .pre .2)
+add-t33 : tie.Need-add-t33 Inv-loop μ-loop
+add-t33 c = omega (arith, entry (turn (c .before .before .before .before .before .before .before)) .pre .2)
 
 same-length-3 : tie.Need-same-length-3 Inv-loop μ-loop
 same-length-3 c = room-after (c .before .before .before .before .before)
@@ -197,31 +214,31 @@ returns-6 c =
     let l = turn m in
     record {
       is = walk-refused _ _ _ (scanOf (entry l .args .scan)) _ _ _ _
-          (walk-meets (l .loop .inv .6) (m .before .before .before .before .before .loop-test .taken) (lit (m .before .before .before)) _ (told m .0) (c .before .if3 .left) (c .if5 .taken))
+          (walk-meets (l .loop .inv .6) (from m .before .before .loop-test .taken) (lit (from m)) _ (told m .0) (c .before .if3 .left) (c .if5 .taken))
           (omega (arith, l .loop .inv .3));
       room = room-after w;
     }
 
 add-if6 : tie.Need-add-if6 Inv-loop μ-loop
-add-if6 c = omega (arith, c .before .before .before .before .before .before .before .before .before .before .before .before .before .loop .inv)
+add-if6 c = omega (arith, turn (c .before .before .before .before .before .before) .loop .inv)
 
 mul-marks-at : tie.Need-mul-marks-at Inv-loop μ-loop
-mul-marks-at c = omega (arith, c .before .before .before .before .before .before .before .before .before .before .before .before .before .before .loop .inv)
+mul-marks-at c = omega (arith, turn (c .before .before .before .before .before .before .before) .loop .inv)
 
 add-moves : tie.Need-add-moves Inv-loop μ-loop
-add-moves c = omega (arith, c .before .before .before .before .before .before .before .before .before .before .before .before .before .before .loop .inv)
+add-moves c = omega (arith, turn (c .before .before .before .before .before .before .before) .loop .inv)
 
 loop-less : tie.Need-loop-less Inv-loop μ-loop
-loop-less c = omega (arith, c .before .before .before .before .before .before .before .before .before .before .before .before .before .loop-test .taken)
+loop-less c = omega (arith, from (c .before .before .before .before .before .before .before) .before .before .loop-test .taken)
 
 loop-again : tie.Need-loop-again Inv-loop μ-loop
 loop-again c =
     let w = c .before .before .before .before .before in
     let m = move w in
     let i = turn m .loop .inv in
-    let lt = m .before .before .before .before .before .loop-test .taken in
+    let lt = from m .before .before .loop-test .taken in
     let same = w .write-last2 .kept .0 ∙ i .4 in
-    let solid-at = lit (m .before .before .before) in
+    let solid-at = lit (from m) in
     let ne = c .before .before .if3 .left in
     let new = c .before .if5 .left in
     ⊎-elim
@@ -272,16 +289,18 @@ walk-spec =
     same-length
     returns-2
     add-lookups-3
-    sole-next-requires
-    enum-known-next
+    next-nucs-requires
+    sole-nuc-requires
+    enum-known-nuc
     enum-told
     same-length-2
     returns-3
+    add-nuc-to-end-requires
     add-write-last
     write-last-requires-2
     add-if4
-    add-t30
-    add-t31
+    add-t32
+    add-t33
     same-length-3
     returns-4
     same-length-4

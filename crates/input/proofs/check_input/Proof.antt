@@ -1,80 +1,105 @@
-use Prim.Native.Nat.{_<_}
+use Prim.Native.Nat.{_<_, _≤_}
 use native.Mathlib.Omega.{arith}
 use mathlib.Core.Path.{_≡_, sym, ap, _∙_}
 use mathlib.Core.Bool.{Bool}
-use borrow.Author.Tests.{lt-ltb, lt-leb, le-leb, not-true, not-false}
-use Rattle.input.proofs.Checks.{not-fine, refuses}
+use borrow.Author.Tests.{lt-ltb, lt-leb, le-leb, leb-true, not-true, not-false}
 use Rattle.rules.specs.Refusal.{_orElse_, unless}
-use Rattle.rules.specs.Calls.{inputCheck}
+use Rattle.rules.specs.Calls.{maxRead, inputCheck}
+use Rattle.rules.proofs.Opened.{unless-passed}
+use Rattle.input.specs.Input.{checkOf}
+use Rattle.input.proofs.Checks.{refuses}
 use borrow.Author.Needs.{needs}
 use Rattle.input.proofs.check_input.Statement.{statement}
 use Rattle.input.proofs.check_input.Tie as tie
 
-returns : tie.Need-returns
-unfolding inputCheck unless _orElse_
-returns c = rw (lt-leb _ _ (c .if1 .taken))
-
-returns-2 : tie.Need-returns-2
-unfolding inputCheck unless _orElse_
-returns-2 c = rw (le-leb _ _ (c .before .if1 .left), lt-leb _ _ (c .if2 .taken))
-
-check-methods-requires : tie.Need-check-methods-requires
-check-methods-requires c κs = search needs
+check-length-requires : tie.Need-check-length-requires
+check-length-requires c κs = search needs
 
 enum-told : tie.Need-enum-told
 enum-told c = search needs
 
+enum-told-2 : tie.Need-enum-told-2
+enum-told-2 c = search needs
+
+returns : tie.Need-returns
+unfolding inputCheck _orElse_
+returns c =
+    let l = c .before .before in
+    rw (← (l .check-length .ensures)) (refuses _ (c .enum-told2 .given .1))
+
+short : (c : tie.After-enum-told) → c .before .before .before .before .args .input ≤ maxRead
+short c =
+    let l = c .before .before in
+    leb-true _ _ (unless-passed _ 1 (sym (l .check-length .ensures) ∙ ap checkOf (c .enum-told .given .1)))
+
+returns-2 : tie.Need-returns-2
+unfolding inputCheck unless _orElse_
+returns-2 c = rw (le-leb _ _ (short (c .before)), lt-leb _ _ (c .if1 .taken))
+
+check-methods-requires : tie.Need-check-methods-requires
+check-methods-requires c κs = search needs
+
+enum-told-3 : tie.Need-enum-told-3
+enum-told-3 c = search needs
+
+enum-told-4 : tie.Need-enum-told-4
+enum-told-4 c = search needs
+
 returns-3 : tie.Need-returns-3
 unfolding inputCheck unless _orElse_
 returns-3 c =
-    let m = c .before in
-    rw (le-leb _ _ (m .before .before .if1 .left), le-leb _ _ (m .before .if2 .left), ← (m .check-methods .ensures))
-    (refuses (m .check-methods .result) _ (λ e. not-fine (rw e at (c .match .keys2))))
+    let m = c .before .before in
+    rw (le-leb _ _ (short (m .before .before)), le-leb _ _ (m .before .if1 .left), ← (m .check-methods .ensures))
+    (refuses _ (c .enum-told4 .given .1))
 
 returns-4 : tie.Need-returns-4
 unfolding inputCheck unless _orElse_
 returns-4 c =
     let t = c .before in
     let m = t .before .before in
-    rw (le-leb _ _ (m .before .before .if1 .left), le-leb _ _ (m .before .if2 .left), ← (m .check-methods .ensures), t .enum-told .given .1, c .if3 .taken)
+    rw (le-leb _ _ (short (m .before .before)), le-leb _ _ (m .before .if1 .left), ← (m .check-methods .ensures), t .enum-told3 .given .1, c .if2 .taken)
 
 buffers-right-requires : tie.Need-buffers-right-requires
-buffers-right-requires c κs = search needs
+buffers-right-requires c κs = short (c .before .before .before .before .before)
 
 -- Checks 1 to 4 let pass.
-by-buffers : (c : tie.After-buffers-right) → let a = c .before .before .before .before .before .before .before .before .args in
+by-buffers : (c : tie.After-buffers-right) → let a = c .before .before .before .before .before .before .before .before .before .before .args in
     inputCheck (a .input) (a .methods .now) (a .confirm) (a .output) (a .work) ≡ unless (c .buffers-right .result) 5
 unfolding inputCheck unless _orElse_
 by-buffers c =
     let t = c .before .before in
     let m = t .before .before in
-    let a = m .before .before .before .before .args in
-    let confirmed : 0 < a .confirm = omega (arith, c .before .if3 .left) in
+    let a = m .before .before .before .before .before .before .args in
+    let confirmed : 0 < a .confirm = omega (arith, c .before .if2 .left) in
     rw (
-      le-leb _ _ (m .before .before .if1 .left),
-      le-leb _ _ (m .before .if2 .left),
+      le-leb _ _ (short (m .before .before)),
+      le-leb _ _ (m .before .if1 .left),
       ← (m .check-methods .ensures),
-      t .enum-told .given .1,
+      t .enum-told3 .given .1,
       lt-ltb 0 (a .confirm) confirmed,
       ← (c .buffers-right .ensures),
     )
 
 returns-5 : tie.Need-returns-5
 unfolding unless
-returns-5 c = sym (by-buffers (c .before) ∙ ap (λ (t : Bool). unless t 5) (not-true (c .before .buffers-right .result) (c .if4 .taken)))
+returns-5 c = sym (by-buffers (c .before) ∙ ap (λ (t : Bool). unless t 5) (not-true (c .before .buffers-right .result) (c .if3 .taken)))
 
 returns-6 : tie.Need-returns-6
 unfolding unless
-returns-6 c = sym (by-buffers (c .before) ∙ ap (λ (t : Bool). unless t 5) (not-false (c .before .buffers-right .result) (c .if4 .left)))
+returns-6 c = sym (by-buffers (c .before) ∙ ap (λ (t : Bool). unless t 5) (not-false (c .before .buffers-right .result) (c .if3 .left)))
 
 pub check-input-spec : {M : Type 1} → statement M
 check-input-spec =
     tie.close
     (tie.spec
+    check-length-requires
+    enum-told
+    enum-told-2
     returns
     returns-2
     check-methods-requires
-    enum-told
+    enum-told-3
+    enum-told-4
     returns-3
     returns-4
     buffers-right-requires

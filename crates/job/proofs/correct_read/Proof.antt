@@ -3,15 +3,12 @@ use mathlib.Core.Path.{_≡_, sym, ap, _∙_}
 use mathlib.Core.Option.{none}
 use lib.ListN.{length, length-replicate}
 use Rattle.rules.specs.Calls.{inputCheck}
-use Rattle.input.specs.declared.Input.the-variants.{Fine}
-use Rattle.blocks.specs.declared.Opened.the-variants.{Set}
 use Rattle.input.specs.Input.{checkOf}
-use Rattle.input.proofs.Checks.{not-fine}
-use Rattle.blocks.proofs.Opening.{not-set}
+use Rattle.input.proofs.Checks.{is-refused}
+use Rattle.blocks.proofs.Opening.{is-refused as set-is-refused, set-opened, set-checked, set-refused}
 use Rattle.set.specs.Ready.{tableLength}
-use Rattle.job.proofs.Checked.{checked}
-use Rattle.job.proofs.Refused.{input-refused, set-refused as not-opened}
-use Rattle.job.proofs.Opening.{set-opened, set-checked, read-refused, read-not-opened, read-corrected}
+use Rattle.report.proofs.Within.{within}
+use Rattle.job.proofs.Opening.{read-refused, read-not-opened, read-corrected}
 use borrow.Author.Needs.{needs}
 use Rattle.job.proofs.correct_read.Statement.{statement}
 use Rattle.job.proofs.correct_read.Tie as tie
@@ -22,15 +19,16 @@ check-input-requires c κs = search needs
 enum-told : tie.Need-enum-told
 enum-told c = search needs
 
-input-refused-requires : tie.Need-input-refused-requires
-input-refused-requires c κs = search needs
+enum-told-2 : tie.Need-enum-told-2
+enum-told-2 c = search needs
+
+refused-requires : tie.Need-refused-requires
+refused-requires c κs = is-refused (c .enum-told2 .given .1)
 
 returns : tie.Need-returns
 returns c =
-    let m = c .before .before in
-    let not : m .check-input .result ≡ Fine → ⊥ = λ e. not-fine (rw e at (c .before .match .keys2)) in
-    let refused = input-refused (m .check-input .result) _ not (c .input-refused .ensures) in
-    (read-refused _ _ (sym (m .check-input .ensures) ∙ refused), tt)
+    let m = c .before .before .before in
+    (read-refused _ _ (sym (m .check-input .ensures) ∙ ap checkOf (c .refused .ensures)), tt)
 
 -- Checks 1 to 5 let pass.
 fine : (c : tie.After-enum-told) → let a = c .before .before .before .before .before .before .before .before .args in
@@ -43,15 +41,16 @@ open-requires c κs = search needs
 enum-known-opened : tie.Need-enum-known-opened
 enum-known-opened c = search needs
 
-set-refused-requires : tie.Need-set-refused-requires
-set-refused-requires c κs = search needs
+enum-told-3 : tie.Need-enum-told-3
+enum-told-3 c = search needs
+
+refused-requires-2 : tie.Need-refused-requires-2
+refused-requires-2 c κs = set-is-refused (c .enum-told3 .given .1)
 
 returns-2 : tie.Need-returns-2
 returns-2 c =
-    let o = c .before .before in
-    let not : (k n : ℕ) → o .«open» .result ≡ Set k n → ⊥ = λ k n e. not-set (rw e at (c .before .match2 .keys2)) in
-    let refused = not-opened _ (o .«open» .result) _ not (c .set-refused .ensures) (o .«open» .ensures) in
-    (read-not-opened _ _ (fine (o .before)) refused, tt)
+    let o = c .before .before .before in
+    (read-not-opened _ _ (fine (o .before)) (set-refused _ _ _ (c .refused2 .ensures) (o .«open» .ensures)), tt)
 
 slice-aggregate-prepare : tie.Need-slice-aggregate-prepare
 slice-aggregate-prepare c = search needs
@@ -68,7 +67,7 @@ slice-aggregate-correct-one c = search needs
 correct-one-requires : tie.Need-correct-one-requires
 correct-one-requires c κs =
     let p = c .before .before .before .before in
-    (p .prepare .ensures, checked _ _ _ _ _ (fine (p .before .before .before .before .before .before)))
+    (p .prepare .ensures, within _ _ _ _ _ (fine (p .before .before .before .before .before .before)))
 
 same-length : tie.Need-same-length
 same-length c = search needs
@@ -82,7 +81,7 @@ returns-3 c =
     let k = q .before .before .before .before .before .before .before .before in
     let f = fine (k .before .before .before) in
     let opens = set-opened _ _ _ _ (k .opened .given .1) (k .before .before .«open» .ensures) in
-    read-corrected _ _ f opens (checked _ _ _ _ _ f .confirm) (q .correct-one .ensures)
+    read-corrected _ _ f opens (within _ _ _ _ _ f .confirm) (q .correct-one .ensures)
 
 pub correct-read-spec : {M : Type 1} → statement M
 correct-read-spec =
@@ -90,11 +89,13 @@ correct-read-spec =
     (tie.spec
     check-input-requires
     enum-told
-    input-refused-requires
+    enum-told-2
+    refused-requires
     returns
     open-requires
     enum-known-opened
-    set-refused-requires
+    enum-told-3
+    refused-requires-2
     returns-2
     slice-aggregate-prepare
     prepare-requires

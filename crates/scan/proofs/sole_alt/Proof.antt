@@ -1,4 +1,5 @@
 use Prim.Native.Nat.{ℕ}
+use native.Mathlib.Omega.{arith}
 use mathlib.Core.Path.{ap, _∙_}
 use borrow.Author.Needs.{needs}
 use Rattle.rules.specs.Counted.{Try}
@@ -30,7 +31,8 @@ drop-last-requires c κs = search needs
 add-nuc-to-end-requires : tie.Need-add-nuc-to-end-requires
 add-nuc-to-end-requires c κs =
     let n = c .before .before .before .before in
-    (search needs, search needs, nuc-lt _ _ _ (n .sole-nuc .result) (n .before .alt-nucs .ensures) (n .sole-nuc .ensures) _ (c .before .before .nuc .given .1))
+    let small = nuc-lt _ _ _ (n .sole-nuc .result) (n .before .alt-nucs .ensures) (n .sole-nuc .ensures) _ (c .before .before .nuc .given .1) in
+    (search needs, search needs, omega (arith, small))
 
 returns-2 : tie.Need-returns-2
 returns-2 c =

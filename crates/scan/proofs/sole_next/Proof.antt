@@ -1,8 +1,6 @@
-use Prim.Native.Nat.{ℕ}
-use mathlib.Core.Path.{sym, ap, _∙_}
-use mathlib.Core.Option.{Option, some}
+use native.Mathlib.Omega.{arith}
 use borrow.Author.Needs.{needs}
-use Rattle.scan.proofs.Laws.{no-next, next-is, nuc-lt}
+use Rattle.scan.proofs.Laws.{no-next, next-kmer, nuc-lt}
 use Rattle.scan.proofs.sole_next.Statement.{statement}
 use Rattle.scan.proofs.sole_next.Tie as tie
 
@@ -26,15 +24,13 @@ returns c =
 add-nuc-to-end-requires : tie.Need-add-nuc-to-end-requires
 add-nuc-to-end-requires c κs =
     let n = c .before .before .before in
-    (search needs, search needs, nuc-lt _ _ _ (n .sole-nuc .result) (n .before .next-nucs .ensures) (n .sole-nuc .ensures) _ (c .before .nuc .given .1))
+    let small = nuc-lt _ _ _ (n .sole-nuc .result) (n .before .next-nucs .ensures) (n .sole-nuc .ensures) _ (c .before .nuc .given .1) in
+    (search needs, search needs, omega (arith, small))
 
 returns-2 : tie.Need-returns-2
 returns-2 c =
     let n = c .before .before .before .before in
-    let e = c .add-nuc-to-end .ensures in (
-      next-is _ _ _ (n .sole-nuc .result) (n .before .next-nucs .ensures) (n .sole-nuc .ensures) _ (c .before .before .nuc .given .1) ∙ ap {B = Option ℕ} some (sym (e .is)),
-      e .kmer,
-    )
+    next-kmer _ _ _ (n .sole-nuc .result) (n .before .next-nucs .ensures) (n .sole-nuc .ensures) _ (c .before .before .nuc .given .1) (c .add-nuc-to-end .ensures)
 
 pub sole-next-spec : {M : Type 1} → statement M
 sole-next-spec =

@@ -2,7 +2,8 @@ use mathlib.Core.Path.{_∙_}
 use native.Mathlib.Omega.{arith}
 use borrow.Author.Needs.{needs}
 use Rattle.rules.specs.Set.{solid, setOf}
-use Rattle.set.proofs.Table.{Entries, ready-entries, canonical-lt}
+use Rattle.set.proofs.Among.{answers-among}
+use Rattle.set.proofs.Table.{Entries, opened-sorted, ready-entries, canonical-lt}
 use Rattle.set.proofs.get.Statement.{statement}
 use Rattle.set.proofs.get.Tie as tie
 
@@ -29,16 +30,24 @@ add-start c = omega (arith, entries (c .before) .room)
 start-requires-2 : tie.Need-start-requires-2
 start-requires-2 c κs = omega (arith, entries (c .before) .room)
 
-search-requires : tie.Need-search-requires
-search-requires c κs =
+find-requires : tie.Need-find-requires
+find-requires c κs =
     let p = c .before .before in
-    (p .before .before .before .before .pre .0 .opens, search needs, rw (c .before .start .ensures, c .start2 .ensures) (entries p .bracket))
+    let ready = p .before .before .before .before .pre .0 in
+    rw (ready .n-is) (opened-sorted _ (ready .opens), search needs, rw (c .before .start .ensures, c .start2 .ensures) (entries p .bracket))
+
+is-key-requires : tie.Need-is-key-requires
+is-key-requires c κs = search needs
 
 returns : tie.Need-returns
 unfolding solid setOf
 returns c =
-    let k = c .before .before .before .before in
-    c .search .ensures ∙ rw (← (k .before .before .before .pre .0 .k-is), k .canonical .ensures)
+    let f = c .before in
+    let k = f .before .before .before .before in
+    let ready = k .before .before .before .pre .0 in
+    c .is-key .ensures
+    ∙ answers-among _ _ _ (f .find .result) (rw (ready .n-is) at (f .find .ensures))
+    ∙ rw (← (ready .k-is), k .canonical .ensures)
 
 pub get-spec : {M : Type 1} → statement M
 get-spec =
@@ -49,5 +58,6 @@ get-spec =
     start-requires
     add-start
     start-requires-2
-    search-requires
+    find-requires
+    is-key-requires
     returns)

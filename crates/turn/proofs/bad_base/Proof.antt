@@ -6,7 +6,7 @@ use lib.Seq.{length-take-le}
 use borrow.Author.Needs.{needs}
 use Rattle.scan.specs.declared.Attempt.the-variants.{Mend, Refused}
 use Rattle.turn.proofs.Parts.{tail-part, tail-back}
-use Rattle.turn.proofs.Turns.{rest-is, Tried, length-back, refused-fits, refused-is, mended-fits, letters-back, mended-place, no-room}
+use Rattle.turn.proofs.Turns.{rest-is, Tried, length-back, refused-fits, refused-is, mended-fits, letters-back, mended-place, is-full, not-mend, not-refused, no-room}
 use Rattle.turn.proofs.bad_base.Statement.{statement}
 use Rattle.turn.proofs.bad_base.Tie as tie
 
@@ -31,11 +31,11 @@ mended c =
     subst (Tried _ _ _ _ _ _ _ _ (s .pre .0) _ (s .pre .1) _) (c .tried .given .1) (tried g)
 
 refused : (c : tie.After-tried2)
-    → let g = c .before .before .before .before in
+    → let g = c .before .before .before .before .before in
     let s = g .before .before .before .before .before .before .before in
     Tried _ _ _ _ _ _ _ _ (s .pre .0) _ (s .pre .1) (g .correct-error .last .1 .1 .1 .1 .1 .1 .1 .0) (Refused (c .tried2 .given .0 .0))
 refused c =
-    let g = c .before .before .before .before in
+    let g = c .before .before .before .before .before in
     let s = g .before .before .before .before .before .before .before in
     subst (Tried _ _ _ _ _ _ _ _ (s .pre .0) _ (s .pre .1) _) (c .tried2 .given .1) (tried g)
 
@@ -71,6 +71,43 @@ correct-error-requires c κs = search needs
 
 enum-known-tried : tie.Need-enum-known-tried
 enum-known-tried c = search needs
+
+enum-known-tried-2 : tie.Need-enum-known-tried-2
+enum-known-tried-2 c = search needs
+
+same-length : tie.Need-same-length
+same-length c = search needs
+
+returns : tie.Need-returns
+returns c =
+    let g = c .before .before .before .before in
+    let s = g .before .before .before .before .before .before .before in
+    let e =
+    is-full (g .correct-error .result) (λ n r l e. not-mend (rw e at (c .before .match .keys2))) (λ l e. not-refused (rw e at (c .match2 .keys2))) in
+    no-room _ _ _ _ _ _ _ _ (s .pre .0) _ (s .pre .1) _ (subst (Tried _ _ _ _ _ _ _ _ (s .pre .0) _ (s .pre .1) _) e (tried g))
+
+shared-slice-read-keep : tie.Need-shared-slice-read-keep
+shared-slice-read-keep c = search needs
+
+keep-requires : tie.Need-keep-requires
+keep-requires c κs =
+    let r = c .before .before .before in
+    let g = r .before .before .before .before .before in
+    let s = g .before .before .before .before .before .before .before in
+    (omega (arith, s .good, s .pre .0 .more), refused-fits _ _ _ _ _ _ _ _ (s .pre .0) _ (s .pre .1) _ (omega (arith, s .good)) _ (refused r))
+
+same-length-2 : tie.Need-same-length-2
+same-length-2 c = search needs
+
+returns-2 : tie.Need-returns-2
+returns-2 c =
+    let k = c .before .before in
+    let r = k .before .before .before .before in
+    let g = r .before .before .before .before .before in
+    let s = g .before .before .before .before .before .before .before in
+    let l = g .correct-error .last .1 .1 .1 .1 .1 .1 .1 .0 in
+    refused-is _ _ _ _ _ _ _ _ (s .pre .0) _ (s .pre .1) l _ _ (k .keep .result) (refused r)
+    (rw (tail-back (s .args .out .now) l (s .args .p .written)) at (k .keep .ensures))
 
 add-end : tie.Need-add-end
 add-end c =
@@ -109,27 +146,11 @@ mend-requires c κs =
       mended-fits _ _ _ _ _ _ _ _ (s .pre .0) _ (s .pre .1) l _ (omega (arith, inside m, s .good, back)) (q .0) (q .1 .0) (q .1 .1 .0) (mended m),
     )
 
-enum-known-tried-2 : tie.Need-enum-known-tried-2
-enum-known-tried-2 c = search needs
+same-length-3 : tie.Need-same-length-3
+same-length-3 c = search needs
 
-shared-slice-read-keep : tie.Need-shared-slice-read-keep
-shared-slice-read-keep c = search needs
-
-keep-requires : tie.Need-keep-requires
-keep-requires c κs =
-    let r = c .before .before .before in
-    let g = r .before .before .before .before in
-    let s = g .before .before .before .before .before .before .before in
-    (omega (arith, s .good, s .pre .0 .more), refused-fits _ _ _ _ _ _ _ _ (s .pre .0) _ (s .pre .1) _ (omega (arith, s .good)) _ (refused r))
-
-enum-told : tie.Need-enum-told
-enum-told c = search needs
-
-same-length : tie.Need-same-length
-same-length c = search needs
-
-returns : tie.Need-returns
-returns c =
+returns-3 : tie.Need-returns-3
+returns-3 c =
     let m = c .before .before .before .before in
     let g = m .before .before .before .before in
     let s = g .before .before .before .before .before .before .before in
@@ -138,29 +159,6 @@ returns c =
     rw (tail-back (s .args .out .now) l (s .args .p .written))
     (mended-place _ _ _ _ _ _ _ _ (s .pre .0) _ (s .pre .1) l (q .0) (q .1 .0) (q .1 .1 .0) (c .mend .result) (mended m)
     (rw (letters-back _ _ _ _ _ _ _ _ (s .pre .0) _ (s .pre .1) l (q .0)) at (c .mend .ensures)))
-
-same-length-2 : tie.Need-same-length-2
-same-length-2 c = search needs
-
-returns-2 : tie.Need-returns-2
-returns-2 c =
-    let k = c .before .before in
-    let r = k .before .before .before .before in
-    let g = r .before .before .before .before in
-    let s = g .before .before .before .before .before .before .before in
-    let l = g .correct-error .last .1 .1 .1 .1 .1 .1 .1 .0 in
-    refused-is _ _ _ _ _ _ _ _ (s .pre .0) _ (s .pre .1) l _ _ (k .keep .result) (refused r)
-    (rw (tail-back (s .args .out .now) l (s .args .p .written)) at (k .keep .ensures))
-
-same-length-3 : tie.Need-same-length-3
-same-length-3 c = search needs
-
-returns-3 : tie.Need-returns-3
-returns-3 c =
-    let g = c .before .before .before .before in
-    let s = g .before .before .before .before .before .before .before in
-    no-room _ _ _ _ _ _ _ _ (s .pre .0) _ (s .pre .1) _
-    (subst (Tried _ _ _ _ _ _ _ _ (s .pre .0) _ (s .pre .1) _) (c .enum-told .given .1) (tried g))
 
 pub bad-base-spec : {M : Type 1} → statement M
 bad-base-spec =
@@ -174,18 +172,17 @@ bad-base-spec =
     part-correct-error-end-2
     correct-error-requires
     enum-known-tried
+    enum-known-tried-2
+    same-length
+    returns
+    shared-slice-read-keep
+    keep-requires
+    same-length-2
+    returns-2
     add-end
     sub-mend
     part-mend-start
     part-mend-end
     mend-requires
-    enum-known-tried-2
-    shared-slice-read-keep
-    keep-requires
-    enum-told
-    same-length
-    returns
-    same-length-2
-    returns-2
     same-length-3
     returns-3)

@@ -19,8 +19,8 @@ add-at c = search needs
 drop-last-requires : tie.Need-drop-last-requires
 drop-last-requires c κs = search needs
 
-add-letters-requires : tie.Need-add-letters-requires
-add-letters-requires c κs = search needs
+add-all-requires : tie.Need-add-all-requires
+add-all-requires c κs = search needs
 
 moved-requires : tie.Need-moved-requires
 moved-requires c κs = search needs
@@ -32,15 +32,15 @@ returns c =
     let d = l .before in
     let join = d .before in
     let a = join .before .before .before .args in
-    let e = l .add-letters .ensures in
+    let e = l .add-all .ensures in
     let stop : join .if1 .at ≡ min (a .p .at + a .resume) (a .len) = ⊎-elim (λ w. omega arith) (λ w. omega arith) (join .if1 .came) in
     record {
-      kmer = l .add-letters .result;
+      kmer = l .add-all .result;
       placed = record { is = e .is ∙ ap (λ (y : ℕ). addAll (a .head .k) y (a .letters .now)) (d .drop-last .ensures .is); kmer = e .kmer };
-      is = c .moved .ensures ∙ ap (λ (at : ℕ). placeOf (a .p) (l .add-letters .result) true at (length (a .letters .now)) (a .lookups) 1 1) stop;
+      is = c .moved .ensures ∙ ap (λ (at : ℕ). placeOf (a .p) (l .add-all .result) true at (length (a .letters .now)) (a .lookups) 1 1) stop;
     }
 
 pub mend-spec : {M : Type 1} → statement M
 mend-spec =
     tie.close
-    (tie.spec sub-if1 add-at drop-last-requires add-letters-requires moved-requires returns)
+    (tie.spec sub-if1 add-at drop-last-requires add-all-requires moved-requires returns)

@@ -1,0 +1,47 @@
+-- What the lines of a batch promise each other.
+use Prim.Native.Nat.{ℕ, _+_, _-_, _^_, _≤_, _<_}
+use mathlib.Core.Path.{_≡_}
+use mathlib.Core.List.{List, [], _∷_, _++_}
+use lib.ListN.{length, take, drop}
+use Rattle.rules.specs.Set.{KmerSet}
+use Rattle.rules.specs.Driver as Rules
+use Rattle.rules.specs.Job.{Method}
+use Rattle.rules.specs.Calls.{longest}
+use Rattle.correct.specs.declared.Counts.{Counts}
+use Rattle.correct.specs.declared.Pass.{Pass}
+use Rattle.correct.specs.declared.Pass.the-variants.{Done, Full}
+use Rattle.correct.specs.Pass.{passOf}
+use Rattle.correct.specs.Through.{through}
+
+-- A line with byte 10 behind its result.
+abbrev pub lineThrough : KmerSet → ℕ → List Method → List ℕ → Rules.Pass
+lineThrough set c ms line =
+    let p = through set c ms line in
+    record { bytes = p .bytes ++ (10 ∷ []); turns = p .turns; lookups = p .lookups; attempts = p .attempts; accepted = p .accepted }
+
+-- A line stands behind the first `at` bytes of the output; Full where a pass result and byte 10 are more than what is left.
+abbrev pub LineIs : KmerSet → ℕ → List Method → List ℕ → ℕ → List ℕ → List ℕ → Pass → Type 0
+LineIs set c ms line at o o′ (Done r) =
+    (passOf r (drop at o′) ≡ lineThrough set c ms line)
+    × (take at o′ ≡ take at o)
+    × (at + r .written ≤ length o)
+    × (longest set c ms line + 1 ≤ length o - at)
+LineIs set c ms line at o o′ Full = length o - at < longest set c ms line + 1
+
+abbrev pub summed : Counts → Counts → Counts
+summed a b =
+    record {
+      written = a .written + b .written;
+      turns = a .turns + b .turns;
+      lookups = a .lookups + b .lookups;
+      attempts = a .attempts + b .attempts;
+      accepted = a .accepted + b .accepted;
+    }
+
+-- Counts that fit their types.
+pub record Countable (n : Counts) : Type 0 where
+  pub written : n .written < 2 ^ 64
+  pub turns : n .turns < 2 ^ 64
+  pub lookups : n .lookups < 2 ^ 64
+  pub attempts : n .attempts < 2 ^ 64
+  pub accepted : n .accepted < 2 ^ 64

@@ -1,0 +1,132 @@
+// The lines of a batch, corrected in turn.
+use correct::Counts;
+use correct::Pass;
+use kmer::Header;
+use report::Answer;
+ghost use mathlib.Core.Path.{_≡_};
+ghost use mathlib.Core.Bool.{true};
+ghost use mathlib.Core.List.{[], _∷_};
+ghost use Prim.Native.Nat.{_≤_};
+ghost use lib.ListN.{length};
+ghost use Rattle.rules.specs.Set.{setOf};
+ghost use Rattle.rules.specs.Job.{methodsOf, lines};
+ghost use Rattle.rules.specs.Calls.{batchRight, corrected};
+ghost use Rattle.set.specs.Ready.{Ready};
+ghost use Rattle.input.specs.Input.{Within};
+ghost use Rattle.report.specs.Answer.{Exact, given};
+ghost use Rattle.lines.specs.Lines.{LineIs, summed, Countable};
+
+// A line is corrected where it lies, into what is left of the output less 1, and byte 10 put behind it.
+fn correct_line(
+    set: &[u8],
+    starts: &[u32],
+    head: Header,
+    confirm: u8,
+    methods: &[u8],
+    line: &[u8],
+    at: usize,
+    output: &mut [u8],
+    work: &mut [u8],
+) -> Pass
+    requires { ⌜
+        Ready (now set) (now starts) head
+        × Within confirm (now methods) (length (now line)) (length (now output)) (length (now work))
+        × (at ≤ length (now output)) ⌝ }
+    ensures { λ r. ⌜
+        LineIs (setOf (now (set .entry))) confirm (methodsOf (now (methods .entry))) (now (line .entry))
+        at (now (output .entry)) (now (output .exit)) r ⌝ }
+{
+    if output.len() <= at {
+        return Pass::Full;
+    }
+    let end = output.len() - 1;
+    let room = end - at;
+    let passed = correct::through(
+        set,
+        starts,
+        head,
+        confirm,
+        methods,
+        line,
+        &mut output[at..end],
+        &mut work[..room],
+    );
+    let Pass::Done(done) = passed else {
+        return Pass::Full;
+    };
+    let last = at + done.written;
+    output[last] = 10;
+    Pass::Done(Counts {
+        written: done.written + 1,
+        turns: done.turns,
+        lookups: done.lookups,
+        attempts: done.attempts,
+        accepted: done.accepted,
+    })
+}
+
+fn add(a: Counts, b: Counts) -> Counts
+    requires { ⌜ Countable (summed a b) ⌝ }
+    ensures { λ r. ⌜ r ≡ summed a b ⌝ }
+{
+    Counts {
+        written: a.written + b.written,
+        turns: a.turns + b.turns,
+        lookups: a.lookups + b.lookups,
+        attempts: a.attempts + b.attempts,
+        accepted: a.accepted + b.accepted,
+    }
+}
+
+// The lines of a batch in turn.
+pub fn correct_lines(
+    set: &[u8],
+    starts: &[u32],
+    head: Header,
+    confirm: u8,
+    methods: &[u8],
+    batch: &[u8],
+    output: &mut [u8],
+    work: &mut [u8],
+) -> Answer
+    requires { ⌜
+        Ready (now set) (now starts) head
+        × Within confirm (now methods) (length (now batch)) (length (now output)) (length (now work))
+        × (batchRight (now batch) ≡ true) ⌝ }
+    ensures { λ r. ⌜
+        Exact (corrected (setOf (now (set .entry))) confirm (methodsOf (now (methods .entry))) (10 ∷ [])
+        (given (now (set .entry)) confirm (now (methods .entry)) (now (batch .entry)) (now (output .entry)) (now (work .entry)))
+        (lines (now (batch .entry))))
+        r (now (output .exit)) (now (work .exit)) ⌝ }
+{
+    let mut done = Counts {
+        written: 0,
+        turns: 0,
+        lookups: 0,
+        attempts: 0,
+        accepted: 0,
+    };
+    let mut line = 0;
+    let mut from = 0;
+    while from < batch.len() {
+        let end = input::line_end(batch, from);
+        let passed = correct_line(
+            set,
+            starts,
+            head,
+            confirm,
+            methods,
+            &batch[from..end],
+            done.written,
+            output,
+            work,
+        );
+        let Pass::Done(more) = passed else {
+            return report::no_room(line, output, work);
+        };
+        done = add(done, more);
+        line += 1;
+        from = end + 1;
+    }
+    report::accept(done, output, work)
+}

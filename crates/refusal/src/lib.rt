@@ -1,0 +1,54 @@
+// Why a call is refused: document 01's refusals, with their numbers and places.
+ghost use mathlib.Core.Path.{_≡_};
+ghost use Rattle.refusal.specs.Refusal.{refusalOf};
+
+// In the order of their numbers, with the place of those that have one.
+pub enum Refusal {
+    Long,
+    Methods,
+    Method(usize),
+    Confirm,
+    Buffers,
+    Batch,
+    Length,
+    Check(usize),
+    Header,
+    Key(usize),
+    NoRoom(usize),
+}
+
+pub fn number_of(refusal: Refusal) -> u64
+    ensures { λ r. ⌜ r ≡ refusalOf refusal .number ⌝ }
+{
+    match refusal {
+        Refusal::Long => 1,
+        Refusal::Methods => 2,
+        Refusal::Method(_) => 3,
+        Refusal::Confirm => 4,
+        Refusal::Buffers => 5,
+        Refusal::Batch => 6,
+        Refusal::Length => 7,
+        Refusal::Check(_) => 8,
+        Refusal::Header => 9,
+        Refusal::Key(_) => 10,
+        Refusal::NoRoom(_) => 11,
+    }
+}
+
+pub fn place_of(refusal: Refusal) -> u64
+    ensures { λ r. ⌜ r ≡ refusalOf refusal .place ⌝ }
+{
+    match refusal {
+        Refusal::Method(i) => i as u64,
+        Refusal::Check(block) => block as u64,
+        Refusal::Key(word) => word as u64,
+        Refusal::NoRoom(line) => line as u64,
+        Refusal::Long => 0,
+        Refusal::Methods => 0,
+        Refusal::Confirm => 0,
+        Refusal::Buffers => 0,
+        Refusal::Batch => 0,
+        Refusal::Length => 0,
+        Refusal::Header => 0,
+    }
+}

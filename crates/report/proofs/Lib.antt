@@ -1,0 +1,4 @@
+pub mod Calls
+pub mod Exact
+pub mod Totals
+pub mod Within

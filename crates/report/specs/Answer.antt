@@ -1,0 +1,46 @@
+-- What a call's answer means in document 01's terms, and what the calls promise.
+use Prim.Native.Nat.{ℕ}
+use mathlib.Core.Path.{_≡_}
+use mathlib.Core.List.{List}
+use Rattle.rules.specs.Refusal.{Outcome, accepted, refused}
+use Rattle.rules.specs.Report as Reports
+use Rattle.rules.specs.Set.{KmerSet}
+use Rattle.rules.specs.Job.{Method}
+use Rattle.rules.specs.Counts.{Demand3}
+use Rattle.rules.specs.Calls.{Given, After}
+use Rattle.refusal.specs.Refusal.{refusalOf}
+use Rattle.report.specs.declared.Report.{Report}
+use Rattle.report.specs.declared.Answer.{Answer}
+use Rattle.report.specs.declared.Answer.the-variants.{Report as Reported, Refused}
+
+abbrev pub reportOf : Report → Reports.Report
+reportOf r =
+    record {
+      written = r .written;
+      turns = r .turns;
+      lookups = r .lookups;
+      attempts = r .attempts;
+      accepted = r .accepted;
+      yield = r .«yield_»;
+    }
+
+-- The rules' outcome for each case.
+abbrev pub answerOf : Answer → Outcome Reports.Report
+answerOf (Reported r) = accepted (reportOf r)
+answerOf (Refused r) = refused (refusalOf r)
+
+-- What a call is given.
+abbrev pub given : List ℕ → ℕ → List ℕ → List ℕ → List ℕ → List ℕ → Given
+given set confirm methods input output work =
+    record { set = set; confirm = confirm; methods = methods; input = input; output = output; work = work }
+
+-- Answer, report and each lent byte are those of the rules.
+pub record Exact (after : After) (r : Answer) (o w : List ℕ) : Type 0 where
+  pub answer : answerOf r ≡ after .answer
+  pub output : o ≡ after .output
+  pub work : w ≡ after .work
+
+-- Demand 3, of an accepted call: one statement about the whole list of reads through the whole list of methods.
+abbrev pub Ceiling : KmerSet → ℕ → List Method → List (List ℕ) → Answer → Type 0
+Ceiling set c ms reads (Reported r) = Demand3 set c ms reads (r .turns) (r .lookups)
+Ceiling set c ms reads (Refused r) = Unit

@@ -1,0 +1,71 @@
+// How a call ends: with a report or a refusal, and what it leaves in the lent buffers.
+use correct::Counts;
+use refusal::Refusal;
+ghost use mathlib.Core.Path.{_≡_};
+ghost use Prim.Native.Nat.{_≤_, _<_, _^_};
+ghost use lib.ListN.{length};
+ghost use Rattle.rules.specs.Report.{yieldOf};
+ghost use Rattle.report.specs.Ending.{Cleared, reportOn};
+
+// Document 01, "Report".
+pub struct Report {
+    pub written: usize,
+    pub turns: u64,
+    pub lookups: u64,
+    pub attempts: u64,
+    pub accepted: u64,
+    pub yield_: u64,
+}
+
+pub enum Answer {
+    Report(Report),
+    Refused(Refusal),
+}
+
+// Zeros behind the bytes written, and in the whole work buffer.
+fn clear_rest(written: usize, output: &mut [u8], work: &mut [u8])
+    requires { ⌜ written ≤ length (now output) ⌝ }
+    ensures { λ _. ⌜ Cleared written (now (output .entry)) (length (now (work .entry))) (now (output .exit)) (now (work .exit)) ⌝ }
+{
+    input::clear(output, written);
+    input::clear(work, 0);
+}
+
+// Refusal 11.
+pub fn no_room(line: usize, output: &mut [u8], work: &mut [u8]) -> Answer
+    ensures { λ r. ⌜
+        (r ≡ Answer.Refused (Refusal.NoRoom line))
+        × Cleared 0 (now (output .entry)) (length (now (work .entry))) (now (output .exit)) (now (work .exit)) ⌝ }
+{
+    clear_rest(0, output, work);
+    Answer::Refused(Refusal::NoRoom(line))
+}
+
+// accepted × 1000 / attempts rounded down.
+fn yield_of(accepted: u64, attempts: u64) -> u64
+    requires { ⌜ accepted < 2 ^ 54 ⌝ }
+    ensures { λ r. ⌜ r ≡ yieldOf accepted attempts ⌝ }
+{
+    if attempts == 0 {
+        return 0;
+    }
+    accepted * 1000 / attempts
+}
+
+// Accepted: the report on what was done.
+pub fn accept(done: Counts, output: &mut [u8], work: &mut [u8]) -> Answer
+    requires { ⌜ (done .written ≤ length (now output)) × (done .accepted < 2 ^ 54) ⌝ }
+    ensures { λ r. ⌜
+        (r ≡ Answer.Report (reportOn done))
+        × Cleared (done .written) (now (output .entry)) (length (now (work .entry))) (now (output .exit)) (now (work .exit)) ⌝ }
+{
+    clear_rest(done.written, output, work);
+    Answer::Report(Report {
+        written: done.written,
+        turns: done.turns,
+        lookups: done.lookups,
+        attempts: done.attempts,
+        accepted: done.accepted,
+        yield_: yield_of(done.accepted, done.attempts),
+    })
+}
