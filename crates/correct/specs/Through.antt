@@ -1,5 +1,5 @@
--- Document 01, "Records", Job and Counts, and refusal 11: a read through a list of methods.
-use Prim.Native.Nat.{ℕ, _+_, _≤_, _<_, _%_}
+-- Document 01, "Records", Job and Counts, and refusal 11: a read through the entries of a job.
+use Prim.Native.Nat.{ℕ, _+_, _*_, _≤_, _<_, _%_}
 use mathlib.Core.Path.{_≡_}
 use mathlib.Core.Bool.{true, false}
 use mathlib.Core.List.{List}
@@ -7,35 +7,47 @@ use lib.ListN.{length}
 use lib.Dec.{eqb}
 use Rattle.rules.specs.Set.{KmerSet}
 use Rattle.rules.specs.Driver as rules
-use Rattle.rules.specs.Job.{Method, methodsOf, result}
+use Rattle.rules.specs.Job.{Entry, entriesOf, result}
 use Rattle.rules.specs.Counts.{Fed, sum, passesOf, turns, lookups, attempts, corrections}
-use Rattle.rules.specs.Calls.{longest}
+use Rattle.rules.specs.Calls.{maxRead, longest}
 use Rattle.correct.specs.declared.Pass.{Pass}
 use Rattle.correct.specs.declared.Pass.the-variants.{Done, Full}
 use Rattle.correct.specs.declared.Counts.{Counts}
 use Rattle.correct.specs.Pass.{passOf}
 
--- The methods' result, and what their passes count.
-unfoldable pub through : KmerSet → ℕ → List Method → List ℕ → rules.Pass
+-- The entries' result, and what their passes count.
+unfoldable pub through : KmerSet → List Entry → List ℕ → rules.Pass
 unfolding result sum passesOf turns lookups attempts corrections
-through set c ms read =
-    let ps : List Fed = passesOf set c ms read in
+through set es read =
+    let ps : List Fed = passesOf set es read in
     record {
-      bytes = result set c ms read;
-      turns = sum (turns set c) ps;
-      lookups = sum (lookups set c) ps;
-      attempts = sum (attempts set c) ps;
-      accepted = sum (corrections set c) ps;
+      bytes = result set es read;
+      turns = sum (turns set) ps;
+      lookups = sum (lookups set) ps;
+      attempts = sum (attempts set) ps;
+      accepted = sum (corrections set) ps;
     }
 
--- The answer to a read through a list of methods: the result with its counts; Full exactly where a pass result (the read, if no
--- methods) is longer than the room.
-abbrev pub ThroughIs : KmerSet → ℕ → List Method → List ℕ → ℕ → List ℕ → Pass → Type 0
-ThroughIs set c ms read room out (Done r) = (passOf r out ≡ through set c ms read) × (r .written ≤ length out) × (longest set c ms read ≤ room)
-ThroughIs set c ms read room out Full = room < longest set c ms read
+-- The largest F of demand 3: GapSize's, at k = 31, confirm 255 and 16,777,216 keys.
+abbrev pub maxF : ℕ
+maxF = 503317293
 
-pub record Through (set : KmerSet) (c : ℕ) (methods read output output′ work work′ : List ℕ) (r : Pass) : Type 0 where
-  pub is : ThroughIs set c (methodsOf methods) read (length output) output′ r
+-- What i passes can count, none of them fed more than 1,048,576 bytes: sums of it do not wrap.
+pub record Small (i : ℕ) (p : rules.Pass) : Type 0 where
+  pub turns : p .turns ≤ i * (2 * maxRead)
+  pub lookups : p .lookups ≤ i * (1 + maxRead * maxF)
+  pub attempts : p .attempts ≤ i * (2 * maxRead)
+  pub accepted : p .accepted ≤ i * (2 * maxRead)
+
+-- The answer to a read through a list of entries: the result with its counts; Full exactly where a pass result (the read, if no
+-- entries) is longer than the room.
+abbrev pub ThroughIs : KmerSet → List Entry → List ℕ → ℕ → List ℕ → Pass → Type 0
+ThroughIs set es read room out (Done r) =
+    (passOf r out ≡ through set es read) × (r .written ≤ length out) × (longest set es read ≤ room) × Small (length es) (passOf r out)
+ThroughIs set es read room out Full = room < longest set es read
+
+pub record Through (set : KmerSet) (job read output output′ work work′ : List ℕ) (r : Pass) : Type 0 where
+  pub is : ThroughIs set (entriesOf job) read (length output) output′ r
   pub output-room : length output′ ≡ length output
   pub work-room : length work′ ≡ length work
 

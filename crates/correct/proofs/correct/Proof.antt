@@ -5,7 +5,7 @@ use lib.Seq.{length-take-le}
 use borrow.Author.Needs.{needs}
 use Rattle.rules.specs.Set.{setOf}
 use Rattle.rules.specs.Driver as Rules
-use Rattle.rules.specs.Job.{methodOf, pass}
+use Rattle.rules.specs.Job.{entry, pass}
 use Rattle.correct.specs.Pass.{PassIs}
 use Rattle.turn.specs.Turn.{stateOf, Countable, endOf}
 use Rattle.correct.proofs.Limits.{pass-limited}
@@ -62,7 +62,7 @@ begun : (c : tie.After-get)
     let a = p .before .before .before .before .before .before .before .before .before .args in
     endOf (a .set .now) (a .head) (a .method) (a .c)
     (stateOf (firstPlace (a .head .k) (c .before .seq2bit .result) (c .get .result)) (a .read .now) (p .copy .last .1 .0))
-    ≡ pass (setOf (a .set .now)) (a .c) (methodOf (a .method)) (a .read .now)
+    ≡ pass (setOf (a .set .now)) (entry (a .method) (a .c)) (a .read .now)
 begun c =
     let p = c .before .before .before .before in
     let e = p .before .before .before .before in
@@ -83,7 +83,7 @@ turns-of-requires c κs =
       s .pre .1,
       record { kmer = g .before .seq2bit .ensures .kmer; at = e .if1 .left; written = omega (arith, p .copy .kept .1 .0, p .before .before .before .if2 .left) },
       subst Countable (sym (begun g))
-          (countable _ _ (s .pre .2) (pass-limited _ (s .pre .0 .opens) (a .c) (s .pre .1) (s .fits .c .fits) (methodOf (a .method)) (a .read .now))),
+          (countable _ _ (s .pre .2) (pass-limited _ (s .pre .0 .opens) (a .c) (s .pre .1) (s .fits .c .fits) (a .method) (a .read .now))),
     )
 
 same-length-2 : tie.Need-same-length-2
