@@ -11,7 +11,7 @@ use lib.ListN.{length}
 use lib.Dec.{eqb}
 use Rattle.rules.specs.Set.{KmerSet}
 use Rattle.rules.specs.Driver.{Pass}
-use Rattle.rules.specs.Job.{Entry, entry, methodByte, confirmByte, entryCount, entriesFrom, entriesOf, pass, result}
+use Rattle.rules.specs.Job.{Entry, entryAt, entryCount, entriesFrom, entriesOf, pass, result}
 use Rattle.rules.specs.Counts.{sum, passesOf, turns, lookups, attempts, corrections}
 use Rattle.rules.specs.Calls.{longest}
 use Rattle.correct.specs.Through.{through, held}
@@ -37,9 +37,6 @@ held-length n output work e = go (eqb (n % 2) 0) refl
 -- ---- the entries from i on
 
 module _ (job : List ℕ) where
-  abbrev pub entryAt : ℕ → Entry
-  entryAt i = entry (methodByte job i) (confirmByte job i)
-
   abbrev pub entriesLeft : ℕ → List Entry
   entriesLeft i = entriesFrom job i (entryCount job - i)
 
@@ -47,7 +44,7 @@ module _ (job : List ℕ) where
   unfolding entriesOf
   entries-all = ap (entriesFrom job 0) (sym (sub-zero (entryCount job)))
 
-  pub entries-next : (i : ℕ) → i < entryCount job → entriesLeft i ≡ entryAt i ∷ entriesLeft (i + 1)
+  pub entries-next : (i : ℕ) → i < entryCount job → entriesLeft i ≡ entryAt job i ∷ entriesLeft (i + 1)
   unfolding entriesFrom
   entries-next i h = let more : entryCount job - i ≡ suc (entryCount job - suc i) = omega arith in rw (more, add-one i, entriesFrom)
 

@@ -16,7 +16,7 @@ use Rattle.rules.proofs.Lookups.{drive-lookups, drive-short}
 use Rattle.rules.proofs.Demands.{fair, steady}
 use Rattle.set.proofs.Opened.{opened-k-low, opened-k-high, opened-n-le, set-count}
 use Rattle.rules.specs.Calls.{maxRead}
-use Rattle.correct.specs.Through.{maxF, Small}
+use Rattle.correct.specs.Pass.{maxF, Small}
 use Rattle.correct.proofs.Drives.{drive-fewer}
 use Rattle.correct.proofs.InTurn.{both}
 

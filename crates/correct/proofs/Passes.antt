@@ -17,8 +17,7 @@ use Rattle.kmer.specs.Kmer.{HasCode}
 use Rattle.set.specs.Ready.{Ready}
 use Rattle.turn.specs.declared.Place.{Place}
 use Rattle.rules.specs.Calls.{maxRead}
-use Rattle.correct.specs.Pass.{returned}
-use Rattle.correct.specs.Through.{maxF}
+use Rattle.correct.specs.Pass.{returned, maxF}
 use Rattle.turn.specs.Turn.{stateOf, Countable, attemptOf, endOf}
 use Rattle.turn.proofs.Turns.{set-k}
 use Rattle.correct.proofs.Drives.{drive-short-is, drive-is, drive-long}

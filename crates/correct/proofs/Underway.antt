@@ -7,17 +7,17 @@ use lib.ListN.{length, take}
 use lib.Seq.{length-take-le}
 use Rattle.rules.specs.Set.{KmerSet}
 use Rattle.rules.specs.Driver as Rules
-use Rattle.rules.specs.Job.{Entry, entryCount, entriesOf, pass, result}
+use Rattle.rules.specs.Job.{Entry, entryAt, entryCount, entriesOf, pass, result}
 use Rattle.rules.specs.Counts.{sum, passesOf}
 use Rattle.rules.specs.Calls.{maxRead, longest}
 use Rattle.rules.proofs.Job.{entriesOf-length}
 use Rattle.correct.specs.declared.Counts.{Counts}
 use Rattle.correct.specs.declared.Pass.{Pass}
 use Rattle.correct.specs.declared.Pass.the-variants.{Done, Full}
-use Rattle.correct.specs.Pass.{passOf, returned, PassIs}
-use Rattle.correct.specs.Through.{joined, through, held, Small, ThroughIs}
-use Rattle.correct.proofs.InTurn.{held-even, held-length, entryAt, entriesLeft, entries-all, entries-next, entries-over, both, goOn, begun, next, over, fits, long, longest-end}
-use Rattle.correct.proofs.Limits.{Limited, one-small, add-small}
+use Rattle.correct.specs.Pass.{passOf, returned, PassIs, Small}
+use Rattle.correct.specs.Through.{joined, through, held, ThroughIs}
+use Rattle.correct.proofs.InTurn.{held-even, held-length, entriesLeft, entries-all, entries-next, entries-over, both, goOn, begun, next, over, fits, long, longest-end}
+use Rattle.correct.proofs.Limits.{add-small}
 
 module _ (set : KmerSet) (job read : List ℕ) where
   abbrev es : List Entry
@@ -55,11 +55,11 @@ module _ (set : KmerSet) (job read : List ℕ) where
     pub small : Small i (passOf p (held (n - i) output work))
 
   -- the first pass
-  pub first-done : (output work : List ℕ) (r : Counts) → 0 < n → length work ≡ length output → length output ≤ maxRead → length read ≤ maxRead
-      → Limited (length read) (pass set (entryAt job 0) read)
+  pub first-done : (output work : List ℕ) (r : Counts) → 0 < n → length work ≡ length output → length output ≤ maxRead
+      → Small 1 (pass set (entryAt job 0) read)
       → PassIs (length output) (held (n - 1) output work) (pass set (entryAt job 0) read) (Done r)
       → Underway output work r 1
-  first-done output work r some rooms short fed-short limited d =
+  first-done output work r some rooms short one d =
       let e : Entry = entryAt job 0 in
       let l = entriesLeft job 1 in
       let split : es ≡ e ∷ l = entries-all job ∙ entries-next job 0 some in
@@ -77,7 +77,7 @@ module _ (set : KmerSet) (job read : List ℕ) where
         longs = ap (λ (x : List ℕ). max (length output) (longest set l x)) bytes
             ∙ fits set (length output) e l read len
             ∙ ap (λ (x : List Entry). max (length output) (longest set x read)) (sym split);
-        small = subst (Small 1) (sym (d .0)) (one-small (length read) _ fed-short limited);
+        small = subst (Small 1) (sym (d .0)) one;
       }
 
   module _ (output work : List ℕ) (p : Counts) (i : ℕ) (u : Underway output work p i) (more : i < n) where
@@ -92,10 +92,10 @@ module _ (set : KmerSet) (job read : List ℕ) where
 
     -- one pass more
     pub next-done : (output′ work′ : List ℕ) (r : Counts) → length output′ ≡ length output → length work′ ≡ length work
-        → Limited (length fed) (pass set e fed)
+        → Small 1 (pass set e fed)
         → PassIs (length output) (held (n - i - 1) output′ work′) (pass set e fed) (Done r)
         → Underway output′ work′ (joined p r) (i + 1)
-    next-done output′ work′ r o w limited told =
+    next-done output′ work′ r o w one told =
         let l = entriesLeft job (i + 1) in
         let split = entries-next job i more in
         let one-less : n - i - 1 ≡ n - (i + 1) = omega arith in
@@ -106,7 +106,6 @@ module _ (set : KmerSet) (job read : List ℕ) where
         let room′ = held-length (n - (i + 1)) output′ work′ rooms in
         let bytes = ap (λ (q : Rules.Pass). q .bytes) (d .0) in
         let len : length (pass set e fed .bytes) ≤ length output = omega (arith, ap length bytes, length-take-le (r .written) h′ (d .1), d .1) in
-        let short : length fed ≤ maxRead = omega (arith, length-take-le (p .written) h (omega (arith, u .written)), u .written, u .short) in
         record {
           low = omega arith;
           high = omega arith;
@@ -122,7 +121,7 @@ module _ (set : KmerSet) (job read : List ℕ) where
               ∙ fits set (length output) e l fed len
               ∙ ap (λ (x : List Entry). max (length output) (longest set x fed)) (sym split)
               ∙ u .longs);
-          small = add-small i 1 (passOf p h) (passOf r h′) (u .small) (subst (Small 1) (sym (d .0)) (one-small (length fed) _ short limited));
+          small = add-small i 1 (passOf p h) (passOf r h′) (u .small) (subst (Small 1) (sym (d .0)) one);
         }
 
     -- a pass that does not fit

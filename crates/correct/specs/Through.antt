@@ -1,5 +1,5 @@
 -- Document 01, "Records", Job and Counts, and refusal 11: a read through the entries of a job.
-use Prim.Native.Nat.{ℕ, _+_, _*_, _≤_, _<_, _%_}
+use Prim.Native.Nat.{ℕ, _+_, _≤_, _<_, _%_}
 use mathlib.Core.Path.{_≡_}
 use mathlib.Core.Bool.{true, false}
 use mathlib.Core.List.{List}
@@ -9,11 +9,11 @@ use Rattle.rules.specs.Set.{KmerSet}
 use Rattle.rules.specs.Driver as rules
 use Rattle.rules.specs.Job.{Entry, entriesOf, result}
 use Rattle.rules.specs.Counts.{Fed, sum, passesOf, turns, lookups, attempts, corrections}
-use Rattle.rules.specs.Calls.{maxRead, longest}
+use Rattle.rules.specs.Calls.{longest}
 use Rattle.correct.specs.declared.Pass.{Pass}
 use Rattle.correct.specs.declared.Pass.the-variants.{Done, Full}
 use Rattle.correct.specs.declared.Counts.{Counts}
-use Rattle.correct.specs.Pass.{passOf}
+use Rattle.correct.specs.Pass.{passOf, Small}
 
 -- The entries' result, and what their passes count.
 unfoldable pub through : KmerSet → List Entry → List ℕ → rules.Pass
@@ -27,17 +27,6 @@ through set es read =
       attempts = sum (attempts set) ps;
       accepted = sum (corrections set) ps;
     }
-
--- The largest F of demand 3: GapSize's, at k = 31, confirm 255 and 16,777,216 keys.
-abbrev pub maxF : ℕ
-maxF = 503317293
-
--- What i passes can count, none of them fed more than 1,048,576 bytes: sums of it do not wrap.
-pub record Small (i : ℕ) (p : rules.Pass) : Type 0 where
-  pub turns : p .turns ≤ i * (2 * maxRead)
-  pub lookups : p .lookups ≤ i * (1 + maxRead * maxF)
-  pub attempts : p .attempts ≤ i * (2 * maxRead)
-  pub accepted : p .accepted ≤ i * (2 * maxRead)
 
 -- The answer to a read through a list of entries: the result with its counts; Full exactly where a pass result (the read, if no
 -- entries) is longer than the room.

@@ -7,10 +7,10 @@ ghost use mathlib.Core.Path.{_≡_};
 ghost use Prim.Native.Nat.{_+_, _-_, _≤_, _<_, _^_};
 ghost use lib.ListN.{length, take};
 ghost use Rattle.rules.specs.Set.{setOf};
-ghost use Rattle.rules.specs.Job.{entry, entryCount, entriesOf, Confirmed, pass};
+ghost use Rattle.rules.specs.Job.{entry, entryAt, entryCount, entriesOf, Confirmed, pass};
 ghost use Rattle.set.specs.Ready.{Ready};
 ghost use Rattle.rules.specs.Calls.{maxRead, maxOutput, maxMethods};
-ghost use Rattle.correct.specs.Pass.{returned, PassIs, Passed};
+ghost use Rattle.correct.specs.Pass.{returned, PassIs, PassInto, Passed};
 ghost use Rattle.turn.specs.Turn.{stateOf, Stands, Countable, endOf};
 ghost use Rattle.correct.specs.Through.{held, Through, joined};
 
@@ -127,25 +127,27 @@ pub fn correct(
     turns_of(set, starts, head, method, c, first, read, out)
 }
 
-// The first of the passes that are left, from the read.
+// The first pass, entry 0, from the read.
 fn first_pass(
     set: &[u8],
     starts: &[u32],
     head: Header,
-    method: u8,
-    c: u8,
-    left: usize,
+    job: &[u8],
     read: &[u8],
     output: &mut [u8],
     work: &mut [u8],
 ) -> Pass
     requires { ⌜
-        Ready (now set) (now starts) head × (1 ≤ c) × (1 ≤ left) × (length (now read) ≤ maxRead) × (length (now work) ≡ length (now output)) ⌝ }
+        Ready (now set) (now starts) head × (0 < entryCount (now job)) × Confirmed (entriesOf (now job)) × (length (now read) ≤ maxRead)
+        × (length (now work) ≡ length (now output)) ⌝ }
     ensures { λ r. ⌜
-        PassIs (length (now (output .entry))) (held (left - 1) (now (output .exit)) (now (work .exit)))
-        (pass (setOf (now (set .entry))) (entry method c) (now (read .entry)))
+        PassInto (length (now (output .entry))) (held (entryCount (now (job .entry)) - 1) (now (output .exit)) (now (work .exit)))
+        (pass (setOf (now (set .entry))) (entryAt (now (job .entry)) 0) (now (read .entry)))
         r ⌝ }
 {
+    let method = entries::method_of(job, 0);
+    let c = entries::confirm_of(job, 0);
+    let left = entries::count(job);
     if left % 2 == 1 {
         correct(set, starts, head, method, c, read, output)
     } else {
@@ -153,26 +155,29 @@ fn first_pass(
     }
 }
 
-// The next of the passes that are left, from the buffer that the one before wrote to the other.
+// The pass of a later entry, from the buffer that the one before wrote to the other.
 fn next_pass(
     set: &[u8],
     starts: &[u32],
     head: Header,
-    method: u8,
-    c: u8,
-    left: usize,
+    job: &[u8],
+    i: usize,
     written: usize,
     output: &mut [u8],
     work: &mut [u8],
 ) -> Pass
     requires { ⌜
-        Ready (now set) (now starts) head × (1 ≤ c) × (1 ≤ left) × (written ≤ length (now output)) × (length (now output) ≤ maxOutput)
-        × (length (now work) ≡ length (now output)) ⌝ }
+        Ready (now set) (now starts) head × (i < entryCount (now job)) × Confirmed (entriesOf (now job)) × (written ≤ length (now output))
+        × (length (now output) ≤ maxOutput) × (length (now work) ≡ length (now output)) ⌝ }
     ensures { λ r. ⌜
-        PassIs (length (now (output .entry))) (held (left - 1) (now (output .exit)) (now (work .exit)))
-        (pass (setOf (now (set .entry))) (entry method c) (take written (held left (now (output .entry)) (now (work .entry)))))
+        PassInto (length (now (output .entry))) (held (entryCount (now (job .entry)) - i - 1) (now (output .exit)) (now (work .exit)))
+        (pass (setOf (now (set .entry))) (entryAt (now (job .entry)) i)
+        (take written (held (entryCount (now (job .entry)) - i) (now (output .entry)) (now (work .entry)))))
         r ⌝ }
 {
+    let method = entries::method_of(job, i);
+    let c = entries::confirm_of(job, i);
+    let left = entries::count(job) - i;
     if left % 2 == 0 {
         correct(set, starts, head, method, c, &output[..written], work)
     } else {
@@ -220,19 +225,14 @@ pub fn through(
     if n == 0 {
         return copied(read, output);
     }
-    let method = entries::method_of(job, 0);
-    let c = entries::confirm_of(job, 0);
-    let Pass::Done(first) = first_pass(set, starts, head, method, c, n, read, output, work) else {
+    let Pass::Done(first) = first_pass(set, starts, head, job, read, output, work) else {
         return Pass::Full;
     };
     let mut counts = first;
     for i in 1..n {
-        let method = entries::method_of(job, i);
-        let c = entries::confirm_of(job, i);
         let written = counts.written;
-        let left = n - i;
-        let Pass::Done(next) = next_pass(set, starts, head, method, c, left, written, output, work)
-        else {
+        let passed = next_pass(set, starts, head, job, i, written, output, work);
+        let Pass::Done(next) = passed else {
             return Pass::Full;
         };
         counts = join(counts, next);

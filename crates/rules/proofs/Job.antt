@@ -1,17 +1,17 @@
 -- What is known of a job: its entries, and that a job which is not refused with 4 has only confirms from 1.
-use Prim.Native.Nat.{ℕ, zero, suc, _+_, _-_, _≤_, _<_}
+use Prim.Native.Nat.{ℕ, zero, suc, _+_, _≤_, _<_}
 use native.Mathlib.Omega.{arith}
-use borrow.Author.Tests.{ltb-true}
-use mathlib.Core.Path.{_≡_, refl, ap}
+use borrow.Author.Tests.{ltb-true, eqb-true, eqb-false}
+use mathlib.Core.Path.{_≡_, refl, subst}
 use mathlib.Core.Bool.{Bool, true, false}
 use mathlib.Core.Option.{none}
 use mathlib.Core.List.{List, [], _∷_, _++_}
 use lib.ListN.{length}
-use lib.Dec.{ltb}
+use lib.Dec.{ltb, eqb}
 use Rattle.rules.specs.Refusal.{firstFailing}
 use Rattle.rules.specs.Set.{KmerSet}
 use Rattle.rules.specs.Graph.{All, end, also}
-use Rattle.rules.specs.Job.{Entry, entry, methodByte, confirmByte, entryCount, entriesFrom, entriesOf, Confirmed, pass}
+use Rattle.rules.specs.Job.{Entry, entry, confirmByte, entryCount, entriesFrom, entriesOf, Confirmed, pass}
 use Rattle.rules.specs.Counts.{Fed, passesOf, allPasses}
 
 entriesFrom-length : (job : List ℕ) (i m : ℕ) → length (entriesFrom job i m) ≡ m
@@ -38,6 +38,20 @@ confirmed-from job i (suc m) h = go (confirmed-from job (suc i) m) (ltb 0 (confi
 pub confirmed : (job : List ℕ) → firstFailing (λ i. ltb 0 (confirmByte job i)) 0 (entryCount job) ≡ none → Confirmed (entriesOf job)
 unfolding entriesOf
 confirmed job h = confirmed-from job 0 (entryCount job) h
+
+confirmed-at : (job : List ℕ) (i m j : ℕ) → Confirmed (entriesFrom job i m) → i ≤ j → j < i + m → 1 ≤ confirmByte job j
+unfolding entriesFrom entry
+confirmed-at job i zero j a low high = absurd (omega arith)
+confirmed-at job i (suc m) j (also p a) low high = go (confirmed-at job (suc i) m j a) (eqb i j) refl
+  where
+    go : (suc i ≤ j → j < suc i + m → 1 ≤ confirmByte job j) → (b : Bool) → eqb i j ≡ b → 1 ≤ confirmByte job j
+    go ih true e = subst (λ (x : ℕ). 1 ≤ confirmByte job x) (eqb-true i j e) p
+    go ih false e = let apart = eqb-false i j e in ih (omega arith) (omega arith)
+
+-- Each entry of a confirmed job has a confirm from 1.
+pub confirmed-entry : (job : List ℕ) (i : ℕ) → Confirmed (entriesOf job) → i < entryCount job → 1 ≤ confirmByte job i
+unfolding entriesOf
+confirmed-entry job i a h = confirmed-at job 0 (entryCount job) i a (omega arith) (omega arith)
 
 all-append : {A : Type 0} (P : A → Type 0) {xs ys : List A} → All P xs → All P ys → All P (xs ++ ys)
 all-append P end b = b

@@ -39,6 +39,9 @@ methodByte job i = getD job (2 * i) 0
 unfoldable pub confirmByte : List ℕ → ℕ → ℕ
 confirmByte job i = getD job (2 * i + 1) 0
 
+abbrev pub entryAt : List ℕ → ℕ → Entry
+entryAt job i = entry (methodByte job i) (confirmByte job i)
+
 unfoldable pub entryCount : List ℕ → ℕ
 entryCount job = (length job + 1) / 2
 
@@ -46,7 +49,7 @@ entryCount job = (length job + 1) / 2
 unfoldable pub entriesFrom : List ℕ → ℕ → ℕ → List Entry
 unfolding entry methodByte confirmByte
 entriesFrom job i zero = []
-entriesFrom job i (suc m) = entry (methodByte job i) (confirmByte job i) ∷ entriesFrom job (suc i) m
+entriesFrom job i (suc m) = entryAt job i ∷ entriesFrom job (suc i) m
 
 -- All entries of a job.
 unfoldable pub entriesOf : List ℕ → List Entry
