@@ -19,8 +19,8 @@ use Rattle.report.specs.declared.Report.{Report}
 use Rattle.report.specs.declared.Answer.{Answer}
 use Rattle.report.specs.declared.Answer.the-variants.{Report as Reported, Refused}
 use Rattle.report.specs.Answer.{reportOf, answerOf, given, Exact}
-use Rattle.program.specs.Page.{Page, Puts, pageLength}
-use Rattle.program.proofs.Put.{length-zeros, zeros-append, drop-zeros, take-zeros}
+use Rattle.page.specs.Page.{Page, Puts, pageLength}
+use Rattle.page.proofs.Text.{length-zeros, zeros-append, drop-zeros, take-zeros}
 
 -- An output of n zeros is left as it was by a refusal; an accepted call leaves the bytes written and zeros behind them.
 pub record Leaves (n : ℕ) (after : After) : Type 0 where

@@ -12,7 +12,7 @@ use Rattle.rules.specs.Calls.{Given, correctBatch}
 use Rattle.rules.specs.Program.{Files, zeros, badFile, upTo, callOn, callOf, printedFor, printed}
 use Rattle.report.specs.Answer.{given}
 use Rattle.program.specs.declared.Whole.{Whole}
-use Rattle.program.specs.Page.{fileOf, filesOf, taken, allTaken}
+use Rattle.program.specs.Files.{fileOf, filesOf, taken, allTaken}
 
 abbrev Kept : Bool → List ℕ → Option (List ℕ)
 Kept true bytes = some bytes

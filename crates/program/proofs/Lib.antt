@@ -1,4 +1,2 @@
-pub mod Decimal
-pub mod Put
 pub mod Files
 pub mod Answer

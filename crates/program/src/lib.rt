@@ -1,5 +1,4 @@
 // The program of document 01, "Sample reads": what it prints for its files, as bytes on a page; and the reading and printing.
-mod page;
 mod read;
 
 pub use read::run;
@@ -11,7 +10,8 @@ ghost use Rattle.rules.specs.Calls.{correctBatch};
 ghost use Rattle.rules.specs.Program.{printedFor, zeros};
 ghost use Rattle.rules.specs.Program.{printed as Program·printed};
 ghost use Rattle.report.specs.Answer.{given};
-ghost use Rattle.program.specs.Page.{Page, filesOf, taken, allTaken};
+ghost use Rattle.page.specs.Page.{Page};
+ghost use Rattle.program.specs.Files.{filesOf, taken, allTaken};
 
 // The output, and 128 bytes more for a line of three numbers.
 pub const PAGE: usize = 32896;

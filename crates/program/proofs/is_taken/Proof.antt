@@ -1,14 +1,10 @@
 use borrow.Author.Needs.{needs}
 use Rattle.program.proofs.is_taken.Statement.{statement}
 use Rattle.program.proofs.is_taken.Tie as tie
-use Rattle.program.proofs.is_taken.Reads as reads
-use Rattle.program.proofs.is_taken.Lts as lts
 
--- src/lib.rt:36:1
 returns : tie.Need-returns
 returns c = rw (c .if1 .taken)
 
--- src/lib.rt:36:1
 returns-2 : tie.Need-returns-2
 returns-2 c = search needs
 

@@ -10,8 +10,9 @@ use lib.Seq.{take-all}
 use Rattle.rules.specs.Calls.{correctBatch}
 use Rattle.rules.specs.Program.{zeros, printedFor, printed}
 use Rattle.report.specs.Answer.{given}
-use Rattle.program.specs.Page.{Page, filesOf}
-use Rattle.program.proofs.Put.{cleared-page}
+use Rattle.page.specs.Page.{Page}
+use Rattle.program.specs.Files.{filesOf}
+use Rattle.page.proofs.Text.{cleared-page}
 use Rattle.program.proofs.Files.{prints-bad-file, prints-answer}
 use Rattle.program.proofs.printed.Statement.{statement}
 use Rattle.program.proofs.printed.Tie as tie

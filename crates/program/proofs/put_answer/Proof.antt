@@ -4,40 +4,29 @@ use native.Mathlib.Omega.{arith}
 use mathlib.Core.Path.{refl, sym}
 use mathlib.Core.List.{[]}
 use lib.Seq.{length-take-le}
-use Rattle.program.proofs.Put.{length-page}
+use Rattle.page.proofs.Text.{length-page}
 use Rattle.program.proofs.Answer.{length-lent, written-fits, report-printed, refusal-printed}
 use borrow.Author.Needs.{needs}
 use Rattle.program.proofs.put_answer.Statement.{statement}
 use Rattle.program.proofs.put_answer.Tie as tie
-use Rattle.program.proofs.put_answer.Reads as reads
-use Rattle.program.proofs.put_answer.Lts as lts
-use Rattle.job.proofs.correct_batch.Reads as correct-batch-reads
-use Rattle.program.proofs.page.put_refusal.Reads as put-refusal-reads
-use Rattle.program.proofs.page.put_report.Reads as put-report-reads
 
--- src/lib.rt:71:9
 slice-relend-prefix-correct-batch : tie.Need-slice-relend-prefix-correct-batch
 slice-relend-prefix-correct-batch c = let s = c .before .before .before .before in omega (arith, length-page [] 0 (s .args .page .now) (s .pre))
 
--- src/lib.rt:71:9
 slice-aggregate-correct-batch : tie.Need-slice-aggregate-correct-batch
 slice-aggregate-correct-batch c =
     let s = c .before .before .before .before .before in
     sym (length-take-le 32768 (s .args .page .now) (omega (arith, length-page [] 0 (s .args .page .now) (s .pre))))
 
--- src/lib.rt:72:9
 slice-aggregate-correct-batch-2 : tie.Need-slice-aggregate-correct-batch-2
 slice-aggregate-correct-batch-2 c = search needs
 
--- src/lib.rt:66:9
 correct-batch-requires : tie.Need-correct-batch-requires
 correct-batch-requires c κs = search needs
 
--- src/lib.rt:75:24
 enum-known-answer : tie.Need-enum-known-answer
 enum-known-answer c = search needs
 
--- src/lib.rt:75:35
 -- Where the call returned.
 abbrev start : tie.After-correct-batch → tie.Start
 start b = b .before .before .before .before .before .before .before
@@ -56,11 +45,9 @@ put-report-requires c κs =
       length-lent _ _ _ _ _ _ _ _ _ p refl (e .ensures .0) k,
     )
 
--- src/lib.rt:76:25
 enum-known-answer-2 : tie.Need-enum-known-answer-2
 enum-known-answer-2 c = search needs
 
--- src/lib.rt:76:37
 put-refusal-requires : tie.Need-put-refusal-requires
 unfolding zeros
 put-refusal-requires c κs =

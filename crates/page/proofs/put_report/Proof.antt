@@ -1,50 +1,36 @@
 use Rattle.rules.specs.Program.{countsLine}
-use Rattle.program.proofs.Put.{puts-both}
+use Rattle.page.proofs.Text.{puts-both}
 use borrow.Author.Needs.{needs}
-use Rattle.program.proofs.page.put_report.Statement.{statement}
-use Rattle.program.proofs.page.put_report.Tie as tie
-use Rattle.program.proofs.page.put_report.Reads as reads
-use Rattle.program.proofs.page.put_report.Lts as lts
-use Rattle.program.proofs.page.put.Reads as put-reads
-use Rattle.program.proofs.page.put_number.Reads as put-number-reads
+use Rattle.page.proofs.put_report.Statement.{statement}
+use Rattle.page.proofs.put_report.Tie as tie
 
--- src/page.rt:45:41
 slice-aggregate-put-number : tie.Need-slice-aggregate-put-number
 slice-aggregate-put-number c = search needs
 
--- src/page.rt:45:9
 put-number-requires : tie.Need-put-number-requires
 put-number-requires c κs = search needs
 
--- src/page.rt:46:43
 slice-aggregate-put-number-2 : tie.Need-slice-aggregate-put-number-2
 slice-aggregate-put-number-2 c = search needs
 
--- src/page.rt:46:9
 put-number-requires-2 : tie.Need-put-number-requires-2
 put-number-requires-2 c κs = search needs
 
--- src/page.rt:47:45
 slice-aggregate-put-number-3 : tie.Need-slice-aggregate-put-number-3
 slice-aggregate-put-number-3 c = search needs
 
--- src/page.rt:47:9
 put-number-requires-3 : tie.Need-put-number-requires-3
 put-number-requires-3 c κs = search needs
 
--- src/page.rt:48:24
 slice-aggregate-put : tie.Need-slice-aggregate-put
 slice-aggregate-put c = search needs
 
--- src/page.rt:48:5
 put-requires : tie.Need-put-requires
 put-requires c κs = search needs
 
--- src/page.rt:40:1
 same-length : tie.Need-same-length
 same-length c = search needs
 
--- src/page.rt:40:1
 returns : tie.Need-returns
 unfolding countsLine
 returns c =

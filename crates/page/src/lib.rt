@@ -8,7 +8,7 @@ ghost use lib.ListN.{length};
 ghost use Rattle.rules.specs.Program.{decimal, refusalLine, countsLine};
 ghost use Rattle.refusal.specs.Refusal.{refusalOf};
 ghost use Rattle.report.specs.Answer.{reportOf};
-ghost use Rattle.program.specs.Page.{Puts};
+ghost use Rattle.page.specs.Page.{Puts};
 
 // Puts bytes behind the `at` bytes of a page, and answers how many it then has.
 pub fn put(page: &mut [u8], at: usize, bytes: &[u8]) -> usize

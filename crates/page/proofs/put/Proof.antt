@@ -5,9 +5,9 @@ use mathlib.Core.Path.{_≡_, refl, ap, _∙_}
 use borrow.Author.Needs.{needs}
 use lib.ListN.{length, length-set}
 use lib.Seq.{paste, paste-zero, paste-suc}
-use Rattle.program.proofs.Put.{put-page}
-use Rattle.program.proofs.page.put.Statement.{statement}
-use Rattle.program.proofs.page.put.Tie as tie
+use Rattle.page.proofs.Text.{put-page}
+use Rattle.page.proofs.put.Statement.{statement}
+use Rattle.page.proofs.put.Tie as tie
 
 -- The first i bytes are copied.
 abbrev Inv-loop : tie.InvT-loop

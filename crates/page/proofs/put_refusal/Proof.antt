@@ -1,52 +1,36 @@
 use Rattle.rules.specs.Program.{refusalLine}
-use Rattle.program.proofs.Put.{puts-both}
+use Rattle.page.proofs.Text.{puts-both}
 use borrow.Author.Needs.{needs}
-use Rattle.program.proofs.page.put_refusal.Statement.{statement}
-use Rattle.program.proofs.page.put_refusal.Tie as tie
-use Rattle.program.proofs.page.put_refusal.Reads as reads
-use Rattle.program.proofs.page.put_refusal.Lts as lts
-use Rattle.program.proofs.page.put.Reads as put-reads
-use Rattle.program.proofs.page.put_number.Reads as put-number-reads
-use Rattle.refusal.proofs.number_of.Reads as number-of-reads
-use Rattle.refusal.proofs.place_of.Reads as place-of-reads
+use Rattle.page.proofs.put_refusal.Statement.{statement}
+use Rattle.page.proofs.put_refusal.Tie as tie
 
--- src/page.rt:55:38
 slice-aggregate-put-number : tie.Need-slice-aggregate-put-number
 slice-aggregate-put-number c = search needs
 
--- src/page.rt:55:51
 number-of-requires : tie.Need-number-of-requires
 number-of-requires c κs = search needs
 
--- src/page.rt:55:9
 put-number-requires : tie.Need-put-number-requires
 put-number-requires c κs = search needs
 
--- src/page.rt:56:42
 slice-aggregate-put-number-2 : tie.Need-slice-aggregate-put-number-2
 slice-aggregate-put-number-2 c = search needs
 
--- src/page.rt:56:54
 place-of-requires : tie.Need-place-of-requires
 place-of-requires c κs = search needs
 
--- src/page.rt:56:9
 put-number-requires-2 : tie.Need-put-number-requires-2
 put-number-requires-2 c κs = search needs
 
--- src/page.rt:57:22
 slice-aggregate-put : tie.Need-slice-aggregate-put
 slice-aggregate-put c = search needs
 
--- src/page.rt:57:5
 put-requires : tie.Need-put-requires
 put-requires c κs = search needs
 
--- src/page.rt:51:1
 same-length : tie.Need-same-length
 same-length c = search needs
 
--- src/page.rt:51:1
 returns : tie.Need-returns
 unfolding refusalLine
 returns c =

@@ -6,7 +6,7 @@ use mathlib.Core.List.{List, [], _∷_, _++_, append-assoc}
 use lib.ListN.{length, take, drop, replicate, length-append, length-replicate}
 use lib.Seq.{paste, take-append-seam, take-length, drop-append-add, drop-nil}
 use Rattle.rules.specs.Program.{zeros}
-use Rattle.program.specs.Page.{Page, Puts, pageLength}
+use Rattle.page.specs.Page.{Page, Puts, pageLength}
 
 pub length-zeros : (n : ℕ) → length (zeros n) ≡ n
 unfolding zeros

@@ -1,32 +1,23 @@
 use native.Mathlib.Omega.{arith}
 use mathlib.Core.Path.{_∙_}
-use Rattle.program.proofs.Decimal.{few-digits, digits-decimal}
-use Rattle.program.proofs.Put.{puts-both}
+use Rattle.page.proofs.Decimal.{few-digits, digits-decimal}
+use Rattle.page.proofs.Text.{puts-both}
 use borrow.Author.Needs.{needs}
-use Rattle.program.proofs.page.put_number.Statement.{statement}
-use Rattle.program.proofs.page.put_number.Tie as tie
-use Rattle.program.proofs.page.put_number.Reads as reads
-use Rattle.program.proofs.page.put_number.Lts as lts
-use Rattle.io.proofs.decimal.Reads as decimal-reads
-use Rattle.program.proofs.page.put.Reads as put-reads
+use Rattle.page.proofs.put_number.Statement.{statement}
+use Rattle.page.proofs.put_number.Tie as tie
 
--- src/page.rt:34:9
 decimal-requires : tie.Need-decimal-requires
 decimal-requires c κs = search needs
 
--- src/page.rt:35:9
 put-requires : tie.Need-put-requires
 put-requires c κs = search needs
 
--- src/page.rt:36:22
 array-share-prefix-digits : tie.Need-array-share-prefix-digits
 array-share-prefix-digits c = search needs
 
--- src/page.rt:36:22
 slice-aggregate-put : tie.Need-slice-aggregate-put
 slice-aggregate-put c = search needs
 
--- src/page.rt:36:5
 put-requires-2 : tie.Need-put-requires-2
 put-requires-2 c κs =
     let p = c .before .before .before .before in
@@ -35,11 +26,9 @@ put-requires-2 c κs =
     let few = few-digits (s .args .number) (d .result) (s .fits .number .fits) (d .ensures .1 .0) in
     omega (arith, d .ensures .0 .1, p .put .ensures .0)
 
--- src/page.rt:27:1
 same-length : tie.Need-same-length
 same-length c = search needs
 
--- src/page.rt:27:1
 returns : tie.Need-returns
 returns c =
     let q = c .before .before .put2 in
