@@ -1,4 +1,5 @@
 pub mod Samples
+pub mod Program
 pub mod Kmer
 pub mod Counted
 pub mod Scan

@@ -66,6 +66,17 @@ pub printedCase :
 unfolding correctBatch given sampleBytes
 printedCase = refl
 
+-- Every line is corrected, each to a read of its own: AACGC and AACGCCG under One.
+pub bothLines :
+    correctBatch (given sampleBytes (1 ∷ 1 ∷ []) (A ∷ A ∷ C ∷ G ∷ C ∷ 10 ∷ (AACGCCG ++ (10 ∷ []))) 14 28)
+    ≡ record {
+      answer = accepted (record { written = 14; turns = 6; lookups = 28; attempts = 2; accepted = 2; yield = 1000 });
+      output = A ∷ A ∷ C ∷ T ∷ C ∷ 10 ∷ A ∷ A ∷ C ∷ T ∷ C ∷ C ∷ G ∷ 10 ∷ [];
+      work = replicate 28 0;
+    }
+unfolding correctBatch given sampleBytes
+bothLines = refl
+
 -- What a call refuses: number and place.
 pub refusalOf : After → Option (ℕ × ℕ)
 refusalOf a = elim (a .answer) [ accepted r ↦ none | refused r ↦ some (r .number, r .place) ]
