@@ -47,14 +47,7 @@ fn print_case(name: &[u8], answer: Answer, output: &[u8], work: &[u8]) {
     io::write_all(STDOUT_FILENO, b"\n");
 }
 
-fn read_case(
-    name: &[u8],
-    set: &[u8],
-    job: &[u8],
-    read: &[u8],
-    output: &mut [u8],
-    work: &mut [u8],
-) {
+fn read_case(name: &[u8], set: &[u8], job: &[u8], read: &[u8], output: &mut [u8], work: &mut [u8]) {
     let answer = job::correct_read(set, job, read, output, work);
     print_case(name, answer, output, work);
 }
@@ -218,14 +211,7 @@ fn work_cases(set: &[u8]) {
 fn entry_cases(set: &[u8]) {
     let mut output = [FILL; 8];
     let mut work = [FILL; 16];
-    read_case(
-        b"9 entries",
-        set,
-        &[1; 18],
-        b"AACC",
-        &mut output,
-        &mut work,
-    );
+    read_case(b"9 entries", set, &[1; 18], b"AACC", &mut output, &mut work);
     read_case(
         b"job of 17 bytes",
         set,
@@ -234,14 +220,7 @@ fn entry_cases(set: &[u8]) {
         &mut output,
         &mut work,
     );
-    read_case(
-        b"8 entries",
-        set,
-        &[1; 16],
-        b"AACC",
-        &mut output,
-        &mut work,
-    );
+    read_case(b"8 entries", set, &[1; 16], b"AACC", &mut output, &mut work);
 }
 
 fn line_cases(set: &[u8]) {
