@@ -10,7 +10,7 @@ use Rattle.io.specs.Counts.{Counts}
 use Rattle.rules.specs.Refusal.{Refusal, Check, Outcome, accepted, refused, _orElse_, unless}
 use Rattle.rules.specs.Report as Reports
 use Rattle.rules.specs.Set.{KmerSet, opened}
-use Rattle.rules.specs.Job.{Method, methodsOf, lines}
+use Rattle.rules.specs.Job.{Entry, entriesOf, lines}
 use Rattle.rules.specs.Calls.{Given, After, unchanged, noRoom, tooLong, results, report, corrected, call, batchRight, givenCheck, correctBatch}
 use Rattle.report.proofs.Calls.{corrected-full, corrected-fits, call-refused, call-not-opened, call-opened}
 use Rattle.report.specs.declared.Report.{Report}
@@ -30,18 +30,18 @@ unfolding noRoom
 full-within g line r e = absurd (let z : _≡_ {A = ℕ} 0 1 = cc in omega arith)
 
 module _ (ending : List ℕ) (reads : List (List ℕ)) (g : Given) where
-  module _ (set : KmerSet) (c : ℕ) (ms : List Method) where
-    written-is : report set c ms ending reads .written ≡ length (results set c ms ending reads)
+  module _ (set : KmerSet) (es : List Entry) where
+    written-is : report set es ending reads .written ≡ length (results set es ending reads)
     unfolding report
     written-is = refl
 
-    corrected-within : Within (corrected set c ms ending g reads)
-    corrected-within = go (tooLong set c ms ending 0 (length (g .output)) reads) refl
+    corrected-within : Within (corrected set es ending g reads)
+    corrected-within = go (tooLong set es ending 0 (length (g .output)) reads) refl
       where
-        go : (t : Option ℕ) → tooLong set c ms ending 0 (length (g .output)) reads ≡ t → Within (corrected set c ms ending g reads)
-        go (some line) t = rw (corrected-full set c ms ending g reads line t) (full-within g line)
-        go none t = rw (corrected-fits set c ms ending g reads t)
-            (λ r e. let is : reportOf r ≡ report set c ms ending reads = cc in
+        go : (t : Option ℕ) → tooLong set es ending 0 (length (g .output)) reads ≡ t → Within (corrected set es ending g reads)
+        go (some line) t = rw (corrected-full set es ending g reads line t) (full-within g line)
+        go none t = rw (corrected-fits set es ending g reads t)
+            (λ r e. let is : reportOf r ≡ report set es ending reads = cc in
             simp length-append (omega (arith, ap (λ (x : Reports.Report). x .written) is, written-is)))
 
   call-within : (check : Check) → Within (call ending reads check g)
@@ -50,7 +50,7 @@ module _ (ending : List ℕ) (reads : List (List ℕ)) (g : Given) where
     where
       go : (o : Outcome KmerSet) → opened (g .set) ≡ o → Within (call ending reads none g)
       go (refused x) o = rw (call-not-opened ending reads none g x refl o) (unchanged-within g x)
-      go (accepted set) o = rw (call-opened ending reads none g set refl o) (corrected-within set (g .confirm) (methodsOf (g .methods)))
+      go (accepted set) o = rw (call-opened ending reads none g set refl o) (corrected-within set (entriesOf (g .job)))
 
 pub written-within : (g : Given) (a : Answer) (r : Report) (o w : List ℕ) → a ≡ Reported r → Exact (correctBatch g) a o w → Counts (r .written) o
 unfolding correctBatch

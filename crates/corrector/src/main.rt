@@ -56,10 +56,10 @@ fn print_refusal(refusal: Refusal) {
     io::write_all(STDOUT_FILENO, b"\n");
 }
 
-fn correct(set: &[u8], confirm: u8, methods: &[u8], batch: &[u8]) {
+fn correct(set: &[u8], job: &[u8], batch: &[u8]) {
     let mut output = [0u8; 32768];
     let mut work = [0u8; 65536];
-    let answer = job::correct_batch(set, confirm, methods, batch, &mut output, &mut work);
+    let answer = job::correct_batch(set, job, batch, &mut output, &mut work);
     match answer {
         Answer::Report(report) => print_report(report, &output),
         Answer::Refused(refusal) => print_refusal(refusal),
@@ -76,14 +76,13 @@ fn main() {
     let set_end = got_set.length;
     let job_end = got_job.length;
     let batch_end = got_batch.length;
-    if job_end == 0 || !got_set.whole || !got_job.whole || !got_batch.whole {
+    if job_end % 2 == 1 || !got_set.whole || !got_job.whole || !got_batch.whole {
         io::write_all(STDOUT_FILENO, b"bad file\n");
         return;
     }
     correct(
         &set[..set_end],
-        job[0],
-        &job[1..job_end],
+        &job[..job_end],
         &batch[..batch_end],
     );
 }
