@@ -80,9 +80,5 @@ fn main() {
         io::write_all(STDOUT_FILENO, b"bad file\n");
         return;
     }
-    correct(
-        &set[..set_end],
-        &job[..job_end],
-        &batch[..batch_end],
-    );
+    correct(&set[..set_end], &job[..job_end], &batch[..batch_end]);
 }

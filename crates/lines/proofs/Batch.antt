@@ -1,5 +1,5 @@
 -- A batch line by line: what is done and what is left.
-use Prim.Native.Nat.{ℕ, _+_, _-_, _^_, _≤_, _<_}
+use Prim.Native.Nat.{ℕ, _+_, _*_, _-_, _^_, _≤_, _<_}
 use native.Mathlib.Omega.{arith}
 use native.Mathlib.Nat.{add-zero, zero-add, add-assoc, sub-zero}
 use native.Mathlib.Numerals.{add-one}
@@ -13,7 +13,7 @@ use Rattle.rules.specs.Set.{KmerSet, setOf}
 use Rattle.rules.specs.Driver as Rules
 use Rattle.rules.specs.Job.{Entry, result, entriesOf, lines, linesFrom}
 use Rattle.rules.specs.Counts.{sum, allPasses, turns, lookups, attempts, corrections}
-use Rattle.rules.specs.Calls.{Given, maxRead, maxMethods, maxLines, batchRight, tooLong, results, corrected}
+use Rattle.rules.specs.Calls.{Given, maxMethods, maxLines, batchRight, tooLong, results, corrected}
 use Rattle.input.specs.Input.{LineAt}
 use Rattle.correct.specs.declared.Counts.{Counts}
 use Rattle.correct.specs.declared.Pass.{Pass}

@@ -83,7 +83,7 @@ returns c =
         held-even left (a .output .now) (a .work .now) even,
         ← (s .pre .5),
       )
-      (q .correct .ensures .is);
+          (q .correct .ensures .is);
       small = rw (← (m .method-of .ensures), ← (p .confirm-of .ensures), held-even left (a .output .now) (a .work .now) even) (q .correct .ensures .small);
     }
 
@@ -111,7 +111,7 @@ returns-2 c =
         held-even (left - 1) (q .correct2 .last .1 .1 .1 .1 .1 .1 .0) (a .work .now) (omega (arith, odd, s .pre .1)),
         held-odd left (a .output .now) (a .work .now) odd,
       )
-      (q .correct2 .ensures .is);
+          (q .correct2 .ensures .is);
       small = rw (← (m .method-of .ensures), ← (p .confirm-of .ensures), held-odd left (a .output .now) (a .work .now) odd) (q .correct2 .ensures .small);
     }
 

@@ -82,8 +82,8 @@ slice-write-output c =
     let a = start t .args in
     line-within (a .output .now) (a .at) (t .before .before .before .if1 .left) _ _ _ _ _ _ _ (t .through .ensures) _ (p .passed .given .1) .1
 
-add-t15 : tie.Need-add-t15
-add-t15 c = omega (arith, within (c .before))
+add-t14 : tie.Need-add-t14
+add-t14 c = omega (arith, within (c .before))
 
 same-length-3 : tie.Need-same-length-3
 same-length-3 c = search needs
@@ -117,7 +117,7 @@ correct-line-spec =
     returns-2
     add-last
     slice-write-output
-    add-t15
+    add-t14
     same-length-3
     same-length-4
     returns-3)

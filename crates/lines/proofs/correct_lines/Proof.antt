@@ -75,23 +75,23 @@ returns c =
     let e = c .before .before .before .before .before .before .before in
     let p = e .before .before .before .before .before .before in
     let i = p .before .before .before .before .before .before .loop .inv in
-    let kept = p .correct-line .kept .1 .1 .1 .1 .1 .1 .1 in
+    let kept = p .correct-line .kept .1 .1 .1 .1 .1 .1 in
     batch-no-room _ _ _ _ _ _ _ _ (i .2) (p .before .before .before .before .line-end .ensures) (p .correct-line .ensures) (kept .0)
-    (p .correct-line .last .1 .1 .1 .1 .1 .1 .1 .1 .0) (e .enum-told .given .1) (kept .1 .0 ∙ i .1) (c .before .before .before .before .no-room .ensures)
+    (p .correct-line .last .1 .1 .1 .1 .1 .1 .1 .0) (e .enum-told .given .1) (kept .1 .0 ∙ i .1) (c .before .before .before .before .no-room .ensures)
 
 -- The line is done, and the next one is due.
 next : (c : tie.After-known-told Inv-loop μ-loop) →
     let p = c .before .before .before .before .before .before .before in
     let l = p .before .before .before .before .before .before in
     going (call l) (p .before .before .before .before .line-end .result + 1) (l .loop .line + 1) (summed (l .loop .done) (c .before .passed .given .0 .0))
-    (p .correct-line .last .1 .1 .1 .1 .1 .1 .1 .0)
+    (p .correct-line .last .1 .1 .1 .1 .1 .1 .0)
 next c =
     let e = c .before in
     let p = e .before .before .before .before .before .before in
     let l = p .before .before .before .before .before .before in
     let s = start l in
     batch-next (call l) (l .loop .from) _ _ _ _ _ _ (l .loop .inv .2) (p .before .before .before .before .line-end .ensures) (p .correct-line .ensures)
-    (p .correct-line .kept .1 .1 .1 .1 .1 .1 .1 .0) _ (e .passed .given .1) (s .pre .1)
+    (p .correct-line .kept .1 .1 .1 .1 .1 .1 .0) _ (e .passed .given .1) (s .pre .1)
 
 fits : (c : tie.After-known-told Inv-loop μ-loop) →
     let l = c .before .before .before .before .before .before .before .before .before .before .before .before .before in
@@ -119,7 +119,7 @@ loop-again : tie.Need-loop-again Inv-loop μ-loop
 loop-again c =
     let p = c .before .before .before .before .before .before .before .before in (
       omega (arith, p .before .before .before .before .line-end .ensures .inside),
-      p .correct-line .kept .1 .1 .1 .1 .1 .1 .1 .1 .0 ∙ p .before .before .before .before .before .before .loop .inv .1,
+      p .correct-line .kept .1 .1 .1 .1 .1 .1 .1 .0 ∙ p .before .before .before .before .before .before .loop .inv .1,
       rw (c .add .ensures) (next (c .before)),
     )
 
