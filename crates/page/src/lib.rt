@@ -52,7 +52,9 @@ pub fn put_refusal(page: &mut [u8], refusal: Refusal) -> usize
     requires { ⌜ 128 ≤ length (now page) ⌝ }
     ensures { λ r. ⌜ Puts (now (page .entry)) 0 (refusalLine (refusalOf refusal)) r (now (page .exit)) ⌝ }
 {
-    let number = put_number(page, 0, b"refused ", refusal::number_of(refusal));
-    let place = put_number(page, number, b" place ", refusal::place_of(refusal));
-    put(page, place, b"\n")
+    let number = refusal::number_of(refusal);
+    let place = refusal::place_of(refusal);
+    let middle = put_number(page, 0, b"refused ", number);
+    let end = put_number(page, middle, b" place ", place);
+    put(page, end, b"\n")
 }
