@@ -56,6 +56,22 @@ pub fn get(set: &[u8], starts: &[u32], head: Header, kmer: Kmer) -> bool
     is_key(keys::find(set, key, head.shift, head.n, from, end))
 }
 
+// The line that a lookup of the k-mer reads first.
+pub fn first_line(set: &[u8], starts: &[u32], head: Header, kmer: Kmer) -> usize
+    requires { ⌜ Ready (now set) (now starts) head × IsKmer (head .k) kmer ⌝ }
+    ensures { λ r. ⌜ r < maxKeys ⌝ }
+{
+    let both = Kmer {
+        code: kmer.code,
+        rev: kmer.rev,
+    };
+    let key = kmer::canonical(both, head);
+    let prefix = prefix_of(key, head.shift);
+    let from = start(starts, prefix);
+    let end = start(starts, prefix + 1);
+    keys::first_line(key, head.shift, from, end)
+}
+
 // How many bits a prefix has: at most 16, at most a key's 2k, and no more than four prefixes to a key.
 fn prefix_bits(k: usize, n: usize) -> usize
     requires { ⌜ (k ≤ maxK) × (n ≤ maxKeys) ⌝ }
