@@ -1,49 +1,19 @@
 use native.Mathlib.Omega.{arith}
 use borrow.Author.Needs.{needs}
-use Rattle.set.proofs.Table.{Entries, opened-sorted, ready-entries, canonical-lt}
+use Rattle.set.proofs.Table.{opened-sorted}
 use Rattle.set.proofs.first_line.Statement.{statement}
 use Rattle.set.proofs.first_line.Tie as tie
 
-canonical-requires : tie.Need-canonical-requires
-canonical-requires c κs = search needs
-
-prefix-of-requires : tie.Need-prefix-of-requires
-prefix-of-requires c κs = search needs
-
--- The table's entries for the key.
-entries : (c : tie.After-prefix-of) → let a = c .before .before .before .before .args in
-    Entries (a .set .now) (a .starts .now) (c .prefix-of .result) (c .before .canonical .result)
-entries c =
-    let k = c .before in
-    let s = k .before .before .before in
-    rw (c .prefix-of .ensures) (ready-entries (s .pre .0) (k .canonical .result) (rw (k .canonical .ensures) (canonical-lt _ _ (s .pre .1 .small))))
-
-start-requires : tie.Need-start-requires
-start-requires c κs = omega (arith, entries c .room)
-
-add-start : tie.Need-add-start
-add-start c = omega (arith, entries (c .before) .room)
-
-start-requires-2 : tie.Need-start-requires-2
-start-requires-2 c κs = omega (arith, entries (c .before) .room)
+range-of-requires : tie.Need-range-of-requires
+range-of-requires c κs = search needs
 
 first-line-requires : tie.Need-first-line-requires
 first-line-requires c κs =
-    let p = c .before .before in
-    let ready = p .before .before .before .before .pre .0 in
-    (search needs, omega (arith, opened-sorted _ (ready .opens) .few, entries p .bracket .within, c .start2 .ensures))
+    let ready = c .before .before .before .pre .0 in
+    (search needs, omega (arith, opened-sorted _ (ready .opens) .few, ready .n-is, c .range-of .ensures .1 .within))
 
 returns : tie.Need-returns
 returns c = search needs
 
 pub first-line-spec : {M : Type 1} → statement M
-first-line-spec =
-    tie.close
-    (tie.spec
-    canonical-requires
-    prefix-of-requires
-    start-requires
-    add-start
-    start-requires-2
-    first-line-requires
-    returns)
+first-line-spec = tie.close (tie.spec range-of-requires first-line-requires returns)
