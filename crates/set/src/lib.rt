@@ -54,12 +54,7 @@ fn range_of(set: &[u8], starts: &[u32], head: Header, kmer: Kmer) -> Range
     requires { ⌜ Ready (now set) (now starts) head × IsKmer (head .k) kmer ⌝ }
     ensures { λ r. ⌜ (r .key ≡ canonical (head .k) (kmer .code)) × Bracket (now (set .entry)) (head .n) (r .key) (r .from) (r .end) ⌝ }
 {
-    // Both codes are read here: the compiler then chooses between them without a branch.
-    let both = Kmer {
-        code: kmer.code,
-        rev: kmer.rev,
-    };
-    let key = kmer::canonical(both, head);
+    let key = kmer::canonical(kmer, head);
     let prefix = prefix_of(key, head.shift);
     Range {
         key,
@@ -72,7 +67,12 @@ pub fn get(set: &[u8], starts: &[u32], head: Header, kmer: Kmer) -> bool
     requires { ⌜ Ready (now set) (now starts) head × IsKmer (head .k) kmer ⌝ }
     ensures { λ r. ⌜ r ≡ solid (setOf (now (set .entry))) (kmer .code) ⌝ }
 {
-    let range = range_of(set, starts, head, kmer);
+    // Both codes are read here: the compiler then chooses between them without a branch.
+    let both = Kmer {
+        code: kmer.code,
+        rev: kmer.rev,
+    };
+    let range = range_of(set, starts, head, both);
     is_key(keys::find(set, range.key, head.shift, head.n, range.from, range.end))
 }
 
@@ -81,7 +81,11 @@ pub fn first_line(set: &[u8], starts: &[u32], head: Header, kmer: Kmer) -> usize
     requires { ⌜ Ready (now set) (now starts) head × IsKmer (head .k) kmer ⌝ }
     ensures { λ r. ⌜ r < maxKeys ⌝ }
 {
-    let range = range_of(set, starts, head, kmer);
+    let both = Kmer {
+        code: kmer.code,
+        rev: kmer.rev,
+    };
+    let range = range_of(set, starts, head, both);
     keys::first_line(range.key, head.shift, range.from, range.end)
 }
 
