@@ -40,12 +40,11 @@ fn copy(src: &[u8], dst: &mut [u8])
 }
 
 // Reads ahead for the next 16 bases once those of the last time are behind, and says up to where that is done: any number is right.
-// The keys of a small set are near anyway.
 fn read_on(set: &[u8], starts: &[u32], head: Header, p: Place, read: &[u8], done: usize) -> usize
     requires { ⌜ Ready (now set) (now starts) head × IsKmer (head .k) (p .kmer) × (p .at ≤ length (now read)) ⌝ }
 {
     let at = p.at;
-    if (head.n < 500000) | (at < done) {
+    if at < done {
         return done;
     }
     let end = at + number::lesser(16, read.len() - at);
@@ -75,7 +74,7 @@ fn turns_of(
         r ⌝ }
 {
     let mut p = first;
-    let mut ahead = 0;
+    let mut ahead = scan::first_ahead(head.n, read.len());
     while p.at < read.len() {
         ahead = read_on(set, starts, head, p, read, ahead);
         let Turned::To(next) = turn::turn(set, starts, head, method, c, p, read, out) else {

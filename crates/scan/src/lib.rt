@@ -167,3 +167,8 @@ pub fn read_ahead(set: &[u8], starts: &[u32], head: Header, kmer: Kmer, next: &[
     }
     head.mask < words
 }
+
+// From which base on to read ahead: from none if the set is small, for then its keys are near anyway.
+pub fn first_ahead(n: usize, len: usize) -> usize {
+    if n < 500000 { len } else { 0 }
+}

@@ -20,17 +20,20 @@ Inv-loop set starts head method c read out₀ p₀ ahead₀ out p ahead =
 abbrev μ-loop : tie.MeasureT-loop
 μ-loop set starts head method c read out₀ p₀ ahead₀ out p ahead = left (head .k) (solid (setOf set)) (attemptOf set method c) (p .kmer .code) (drop (p .at) read)
 
+first-ahead-requires : tie.Need-first-ahead-requires Inv-loop μ-loop
+first-ahead-requires c κs = search needs
+
 loop-holds : tie.Need-loop-holds Inv-loop μ-loop
-loop-holds c = (c .before .before .before .before .pre .2, refl, refl)
+loop-holds c = (c .before .before .before .before .before .pre .2, refl, refl)
 
 -- What a turn asks.
 turning : (c : tie.Then1 Inv-loop μ-loop)
     → let l = c .before .before in
-    let a = l .before .before .before .before .before .args in
+    let a = l .before .before .before .before .before .before .args in
     Turning (a .set .now) (a .starts .now) (a .head) (a .method) (a .c) (l .loop .p) (a .read .now) (l .loop .out)
 turning c =
     let l = c .before .before in
-    let s = l .before .before .before .before .before in
+    let s = l .before .before .before .before .before .before in
     record {
       ready = s .pre .0;
       confirm = s .pre .1;
@@ -59,7 +62,7 @@ returns c =
     let t = c .before .before .before .before in
     let u = t .before .before .before in
     let l = u .before .before in
-    let a = l .before .before .before .before .before .args in
+    let a = l .before .before .before .before .before .before .args in
     let full =
     subst (TurnIs (a .set .now) (a .head) (a .method) (a .c) (l .loop .p) (a .read .now) (l .loop .out) (t .turn .last .1 .1 .1 .1 .1 .1 .1 .0)) (c .enum-told .given .1) (t .turn .ensures) in
     rw (← (l .loop .inv .1), ← (l .loop .inv .2)) full
@@ -68,12 +71,12 @@ returns c =
 did : (c : tie.After-next Inv-loop μ-loop)
     → let t = c .before .before .before .before in
     let l = t .before .before .before .before .before in
-    let a = l .before .before .before .before .before .args in
+    let a = l .before .before .before .before .before .before .args in
     TurnIs (a .set .now) (a .head) (a .method) (a .c) (l .loop .p) (a .read .now) (l .loop .out) (t .turn .last .1 .1 .1 .1 .1 .1 .1 .0) (To (c .next .given .0 .0))
 did c =
     let t = c .before .before .before .before in
     let l = t .before .before .before .before .before in
-    let a = l .before .before .before .before .before .args in
+    let a = l .before .before .before .before .before .before .args in
     subst (TurnIs (a .set .now) (a .head) (a .method) (a .c) (l .loop .p) (a .read .now) (l .loop .out) (t .turn .last .1 .1 .1 .1 .1 .1 .1 .0)) (c .next .given .1) (t .turn .ensures)
 
 loop-less : tie.Need-loop-less Inv-loop μ-loop
@@ -98,7 +101,7 @@ returns-2 : tie.Need-returns-2 Inv-loop μ-loop
 unfolding stateOf
 returns-2 c =
     let l = c .before .before in
-    let a = l .before .before .before .before .before .args in
+    let a = l .before .before .before .before .before .before .args in
     let over = drop-of-length-le (a .read .now) {i = l .loop .p .at} (c .if1 .left) in
     let end = finish-end (a .head .k) (solid (setOf (a .set .now))) (attemptOf (a .set .now) (a .method) (a .c)) (stateOf (l .loop .p) (a .read .now) (l .loop .out)) over in
     (sym (ap (λ (q : State). q .done) end) ∙ l .loop .inv .2, l .loop .inv .0 .written)
@@ -109,6 +112,7 @@ turns-of-spec =
     (tie.spec
     Inv-loop
     μ-loop
+    first-ahead-requires
     loop-holds
     read-on-requires
     turn-requires
