@@ -8,7 +8,6 @@ ghost use Prim.Native.Nat.{_+_, _-_, _≤_, _<_, _^_};
 ghost use lib.ListN.{length, take};
 ghost use Rattle.rules.specs.Set.{setOf};
 ghost use Rattle.rules.specs.Job.{methodOf, pass};
-ghost use Rattle.kmer.specs.Kmer.{IsKmer};
 ghost use Rattle.set.specs.Ready.{Ready};
 ghost use Rattle.rules.specs.Calls.{maxRead, maxOutput, maxMethods};
 ghost use Rattle.correct.specs.Pass.{returned, PassIs, Passed};
@@ -39,21 +38,6 @@ fn copy(src: &[u8], dst: &mut [u8])
     }
 }
 
-// Reads ahead for the next 16 bases once those of the last time are behind, and says up to where that is done: any number is right.
-fn read_on(set: &[u8], starts: &[u32], head: Header, p: Place, read: &[u8], done: usize) -> usize
-    requires { ⌜ Ready (now set) (now starts) head × IsKmer (head .k) (p .kmer) × (p .at ≤ length (now read)) ⌝ }
-{
-    let at = p.at;
-    if at < done {
-        return done;
-    }
-    let end = at + number::lesser(16, read.len() - at);
-    if scan::read_ahead(set, starts, head, p.kmer, &read[at..end]) {
-        return at;
-    }
-    end
-}
-
 // Turns until no base is left.
 fn turns_of(
     set: &[u8],
@@ -76,7 +60,9 @@ fn turns_of(
     let mut p = first;
     let mut ahead = scan::first_ahead(head.n, read.len());
     while p.at < read.len() {
-        ahead = read_on(set, starts, head, p, read, ahead);
+        if ahead <= p.at {
+            ahead = scan::read_ahead(set, starts, head, p.kmer, read, p.at);
+        }
         let Turned::To(next) = turn::turn(set, starts, head, method, c, p, read, out) else {
             return Pass::Full;
         };

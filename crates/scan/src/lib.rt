@@ -155,17 +155,25 @@ fn first_lines(set: &[u8], starts: &[u32], head: Header, kmer: Kmer, next: &[u8]
     lines
 }
 
-// Reads the lines of the next k-mers, all in one go: lookups one by one wait for memory much longer. It asks nothing. No key is above the
-// mask, so the answer is always no; the compiler does not know that, and keeps the reads.
-pub fn read_ahead(set: &[u8], starts: &[u32], head: Header, kmer: Kmer, next: &[u8]) -> bool
-    requires { ⌜ Ready (now set) (now starts) head × IsKmer (head .k) kmer × (length (now next) ≤ 16) ⌝ }
+// Reads the lines of the k-mers of the next 16 bases, all in one go: lookups one by one wait for memory much longer. It asks nothing, and
+// tells up to which base it has read: any number is right. No key is above the mask; the compiler does not know that, and keeps the reads.
+pub fn read_ahead(
+    set: &[u8],
+    starts: &[u32],
+    head: Header,
+    kmer: Kmer,
+    read: &[u8],
+    at: usize,
+) -> usize
+    requires { ⌜ Ready (now set) (now starts) head × IsKmer (head .k) kmer × (at ≤ length (now read)) ⌝ }
 {
-    let lines = first_lines(set, starts, head, kmer, next);
+    let end = at + number::lesser(16, read.len() - at);
+    let lines = first_lines(set, starts, head, kmer, &read[at..end]);
     let mut words: u64 = 0;
     for i in 0..16usize {
         words = words | keys::touch(set, lines[i]);
     }
-    head.mask < words
+    if head.mask < words { at } else { end }
 }
 
 // From which base on to read ahead: from none if the set is small, for then its keys are near anyway.

@@ -2,7 +2,6 @@
 use blocks::Opened;
 use input::Input;
 use kmer::Header;
-use kmer::Kmer;
 use refusal::Refusal;
 use set::STARTS;
 ghost use mathlib.Core.Path.{_≡_};
@@ -10,7 +9,6 @@ ghost use Prim.Native.Nat.{_≤_};
 ghost use lib.ListN.{length};
 ghost use Rattle.rules.specs.Set.{setOf};
 ghost use Rattle.rules.specs.Solid.{solids, kmersOf, countSolid};
-ghost use Rattle.kmer.specs.Kmer.{IsKmer};
 ghost use Rattle.set.specs.Ready.{Ready};
 ghost use Rattle.solid.specs.Solid.{countOf};
 
@@ -18,28 +16,6 @@ ghost use Rattle.solid.specs.Solid.{countOf};
 pub enum Count {
     Solid(u64, u64),
     Refused(Refusal),
-}
-
-// Reads ahead for the next 16 bases as a pass does (`correct`).
-fn read_on(
-    set: &[u8],
-    starts: &[u32],
-    head: Header,
-    kmer: Kmer,
-    read: &[u8],
-    at: usize,
-    done: usize,
-) -> usize
-    requires { ⌜ Ready (now set) (now starts) head × IsKmer (head .k) kmer × (at ≤ length (now read)) ⌝ }
-{
-    if at < done {
-        return done;
-    }
-    let end = at + number::lesser(16, read.len() - at);
-    if scan::read_ahead(set, starts, head, kmer, &read[at..end]) {
-        return at;
-    }
-    end
 }
 
 // A plain loop of lookups.
@@ -52,7 +28,9 @@ fn count_kmers(set: &[u8], starts: &[u32], head: Header, read: &[u8]) -> u64
     let mut count = set::get(set, starts, head, kmer) as u64;
     let mut ahead = scan::first_ahead(head.n, read.len());
     for i in k..read.len() {
-        ahead = read_on(set, starts, head, kmer, read, i, ahead);
+        if ahead <= i {
+            ahead = scan::read_ahead(set, starts, head, kmer, read, i);
+        }
         kmer = scan::add_base(kmer, read[i], head);
         count += set::get(set, starts, head, kmer) as u64;
     }
