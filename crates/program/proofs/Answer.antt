@@ -9,7 +9,7 @@ use lib.Seq.{take-append-seam}
 use Rattle.rules.specs.Refusal.{Refusal, Check, Outcome, accepted, refused, _orElse_, unless}
 use Rattle.rules.specs.Report as Reports
 use Rattle.rules.specs.Set.{KmerSet, opened}
-use Rattle.rules.specs.Job.{Method, methodsOf, lines}
+use Rattle.rules.specs.Job.{Entry, entriesOf, lines}
 use Rattle.rules.specs.Calls.{Given, After, unchanged, noRoom, tooLong, results, report, corrected, call, batchRight, givenCheck, correctBatch}
 use Rattle.rules.specs.Program.{zeros, refusalLine, countsLine, printedFor}
 use Rattle.refusal.specs.declared.Refusal.{Refusal as Refused·by}
@@ -48,21 +48,21 @@ module _ (n : ℕ) (g : Given) (out : g .output ≡ zeros n) where
       }
 
   module _ (ending : List ℕ) (reads : List (List ℕ)) where
-    module _ (set : KmerSet) (c : ℕ) (ms : List Method) where
+    module _ (set : KmerSet) (es : List Entry) where
       abbrev bytes : List ℕ
-      bytes = results set c ms ending reads
+      bytes = results set es ending reads
 
       abbrev fits : After
       fits =
           record {
-            answer = accepted (report set c ms ending reads);
+            answer = accepted (report set es ending reads);
             output = bytes ++ replicate (length (g .output) - length bytes) 0;
             work = replicate (length (g .work)) 0;
           }
 
       written-is : (r : Reports.Report) → fits .answer ≡ accepted r → r .written ≡ length bytes
       unfolding report
-      written-is r e = let is : report set c ms ending reads ≡ r = cc in ap (λ (x : Reports.Report). x .written) (sym is)
+      written-is r e = let is : report set es ending reads ≡ r = cc in ap (λ (x : Reports.Report). x .written) (sym is)
 
       fits-leaves : Leaves n fits
       unfolding zeros
@@ -74,12 +74,12 @@ module _ (n : ℕ) (g : Given) (out : g .output ≡ zeros n) where
             within = λ r e. omega (arith, written-is r e, length-append bytes (replicate (length (g .output) - length bytes) 0));
           }
 
-      corrected-leaves : Leaves n (corrected set c ms ending g reads)
-      corrected-leaves = go (tooLong set c ms ending 0 (length (g .output)) reads) refl
+      corrected-leaves : Leaves n (corrected set es ending g reads)
+      corrected-leaves = go (tooLong set es ending 0 (length (g .output)) reads) refl
         where
-          go : (t : Option ℕ) → tooLong set c ms ending 0 (length (g .output)) reads ≡ t → Leaves n (corrected set c ms ending g reads)
-          go (some line) t = rw (corrected-full set c ms ending g reads line t) (full-leaves line)
-          go none t = rw (corrected-fits set c ms ending g reads t) fits-leaves
+          go : (t : Option ℕ) → tooLong set es ending 0 (length (g .output)) reads ≡ t → Leaves n (corrected set es ending g reads)
+          go (some line) t = rw (corrected-full set es ending g reads line t) (full-leaves line)
+          go none t = rw (corrected-fits set es ending g reads t) fits-leaves
 
     call-leaves : (check : Check) → Leaves n (call ending reads check g)
     call-leaves (some x) = rw (call-refused ending reads (some x) g x refl) (unchanged-leaves x)
@@ -87,17 +87,17 @@ module _ (n : ℕ) (g : Given) (out : g .output ≡ zeros n) where
       where
         go : (o : Outcome KmerSet) → opened (g .set) ≡ o → Leaves n (call ending reads none g)
         go (refused x) o = rw (call-not-opened ending reads none g x refl o) (unchanged-leaves x)
-        go (accepted set) o = rw (call-opened ending reads none g set refl o) (corrected-leaves set (g .confirm) (methodsOf (g .methods)))
+        go (accepted set) o = rw (call-opened ending reads none g set refl o) (corrected-leaves set (entriesOf (g .job)))
 
   batch-leaves : Leaves n (correctBatch g)
   unfolding correctBatch
   batch-leaves = call-leaves (10 ∷ []) (lines (g .input)) (givenCheck g orElse unless (batchRight (g .input)) 6)
 
 -- A page that was empty, behind the call: its output, and the zeros that were not lent.
-module _ (set : List ℕ) (c : ℕ) (ms batch page₀ work : List ℕ) (a : Answer) (o w : List ℕ) (empty : Page [] 0 page₀) (zero-work : work ≡ zeros 65536)
-    (h : Exact (correctBatch (given set c ms batch (take 32768 page₀) work)) a o w) (long : length o ≡ length (take 32768 page₀)) where
+module _ (set job batch page₀ work : List ℕ) (a : Answer) (o w : List ℕ) (empty : Page [] 0 page₀) (zero-work : work ≡ zeros 65536)
+    (h : Exact (correctBatch (given set job batch (take 32768 page₀) work)) a o w) (long : length o ≡ length (take 32768 page₀)) where
   abbrev g : Given
-  g = given set c ms batch (zeros 32768) (zeros 65536)
+  g = given set job batch (zeros 32768) (zeros 65536)
 
   abbrev page : List ℕ
   page = o ++ drop 32768 page₀
@@ -109,8 +109,8 @@ module _ (set : List ℕ) (c : ℕ) (ms batch page₀ work : List ℕ) (a : Answ
   lent = ap (λ (x : List ℕ). o ++ drop 32768 x) (empty .page) ∙ ap (λ (x : List ℕ). o ++ x) (drop-zeros 32768 32896)
 
   exact : Exact (correctBatch g) a o w
-  exact = subst (λ (x : List ℕ). Exact (correctBatch (given set c ms batch x (zeros 65536))) a o w) zero-output
-      (subst (λ (x : List ℕ). Exact (correctBatch (given set c ms batch (take 32768 page₀) x)) a o w) zero-work h)
+  exact = subst (λ (x : List ℕ). Exact (correctBatch (given set job batch x (zeros 65536))) a o w) zero-output
+      (subst (λ (x : List ℕ). Exact (correctBatch (given set job batch (take 32768 page₀) x)) a o w) zero-work h)
 
   leaves : Leaves 32768 (correctBatch g)
   leaves = batch-leaves 32768 g refl

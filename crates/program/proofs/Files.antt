@@ -1,13 +1,12 @@
 -- Which files make a call.
-use Prim.Native.Nat.{ℕ, _≤_, _<_}
+use Prim.Native.Nat.{ℕ, _%_, _≤_}
 use native.Mathlib.Omega.{arith}
-use borrow.Author.Tests.{ltb-true, ltb-false}
 use mathlib.Core.Path.{_≡_, refl, sym, ap, _∙_}
 use mathlib.Core.Bool.{Bool, true, false, _&&_}
 use mathlib.Core.Option.{Option, none, some}
-use mathlib.Core.List.{List, [], _∷_}
-use lib.Dec.{ltb, leb}
-use lib.ListN.{length, getD, drop}
+use mathlib.Core.List.{List}
+use lib.Dec.{eqb, leb}
+use lib.ListN.{length}
 use Rattle.rules.specs.Calls.{Given, correctBatch}
 use Rattle.rules.specs.Program.{Files, zeros, badFile, upTo, callOn, callOf, printedFor, printed}
 use Rattle.report.specs.Answer.{given}
@@ -40,24 +39,21 @@ callWith s j b =
       ]
     ]
 
-module _ (set batch : List ℕ) where
-  bad : (a b c : Bool) (job : List ℕ) → (a && (b && (c && ltb 0 (length job)))) ≡ false → callWith (Kept a set) (Kept b job) (Kept c batch) ≡ none
+module _ (set job batch : List ℕ) where
+  bad : (a b c : Bool) → (a && (b && (c && eqb (length job % 2) 0))) ≡ false → callWith (Kept a set) (Kept b job) (Kept c batch) ≡ none
   unfolding callOn
-  bad false b c job e = refl
-  bad true false c job e = refl
-  bad true true false job e = refl
-  bad true true true [] e = refl
-  bad true true true (x ∷ job) e = absurd (omega (arith, ltb-false 0 (length (x ∷ job)) e))
+  bad false b c e = refl
+  bad true false c e = refl
+  bad true true false e = refl
+  bad true true true e = rw (callOn, e)
 
-  good : (a b c : Bool) (job : List ℕ) → (a && (b && (c && ltb 0 (length job)))) ≡ true
-      → (0 < length job)
-      × (callWith (Kept a set) (Kept b job) (Kept c batch) ≡ some (given set (getD job 0 0) (drop 1 job) batch (zeros 32768) (zeros 65536)))
+  good : (a b c : Bool) → (a && (b && (c && eqb (length job % 2) 0))) ≡ true
+      → callWith (Kept a set) (Kept b job) (Kept c batch) ≡ some (given set job batch (zeros 32768) (zeros 65536))
   unfolding callOn
-  good false b c job e = absurd (let z : _≡_ {A = ℕ} 0 1 = cc in omega arith)
-  good true false c job e = absurd (let z : _≡_ {A = ℕ} 0 1 = cc in omega arith)
-  good true true false job e = absurd (let z : _≡_ {A = ℕ} 0 1 = cc in omega arith)
-  good true true true [] e = absurd (omega (arith, ltb-true 0 0 e))
-  good true true true (x ∷ job) e = (omega arith, refl)
+  good false b c e = absurd (let z : _≡_ {A = ℕ} 0 1 = cc in omega arith)
+  good true false c e = absurd (let z : _≡_ {A = ℕ} 0 1 = cc in omega arith)
+  good true true false e = absurd (let z : _≡_ {A = ℕ} 0 1 = cc in omega arith)
+  good true true true e = rw (callOn, e)
 
 module _ (w : Whole) (set job batch : List ℕ) where
   abbrev s : Bool
@@ -73,13 +69,12 @@ module _ (w : Whole) (set job batch : List ℕ) where
   unfolding callOf
   call-with = λ i. callWith (kept (w .set) set 65536 i) (kept (w .job) job 64 i) (kept (w .batch) batch 16384 i)
 
-  -- A file that is not taken, or an empty job.
+  -- A file that is not taken, or a job of an odd count of bytes.
   pub prints-bad-file : allTaken w (length set) (length job) (length batch) ≡ false → badFile ≡ printed (filesOf w set job batch)
   unfolding printed
-  prints-bad-file e = rw (printed, call-with ∙ bad set batch s j b job e)
+  prints-bad-file e = rw (printed, call-with ∙ bad set job batch s j b e)
 
   pub prints-answer : allTaken w (length set) (length job) (length batch) ≡ true
-      → (0 < length job)
-      × (printedFor (correctBatch (given set (getD job 0 0) (drop 1 job) batch (zeros 32768) (zeros 65536))) ≡ printed (filesOf w set job batch))
+      → printedFor (correctBatch (given set job batch (zeros 32768) (zeros 65536))) ≡ printed (filesOf w set job batch)
   unfolding printed
-  prints-answer e = let g = good set batch s j b job e in (g .0, rw (printed, call-with ∙ g .1))
+  prints-answer e = rw (printed, call-with ∙ good set job batch s j b e)

@@ -1,9 +1,9 @@
 -- The files as the rules have them.
-use Prim.Native.Nat.{ℕ}
+use Prim.Native.Nat.{ℕ, _%_}
 use mathlib.Core.Bool.{Bool, true, false, _&&_}
 use mathlib.Core.Option.{Option, none, some}
 use mathlib.Core.List.{List}
-use lib.Dec.{ltb, leb}
+use lib.Dec.{eqb, leb}
 use Rattle.rules.specs.Program.{Files}
 use Rattle.program.specs.declared.Whole.{Whole}
 
@@ -22,4 +22,4 @@ taken whole length most = whole && leb length most
 
 -- No file is bad.
 abbrev pub allTaken : Whole → ℕ → ℕ → ℕ → Bool
-allTaken whole set job batch = taken (whole .set) set 65536 && (taken (whole .job) job 64 && (taken (whole .batch) batch 16384 && ltb 0 job))
+allTaken whole set job batch = taken (whole .set) set 65536 && (taken (whole .job) job 64 && (taken (whole .batch) batch 16384 && eqb (job % 2) 0))

@@ -39,7 +39,7 @@ fn is_taken(whole: bool, length: usize, most: usize) -> bool
     whole && length <= most
 }
 
-// No file is missing or too long, and the job is not empty.
+// No file is missing or too long, and the job has no odd count of bytes.
 fn all_taken(whole: Whole, set: usize, job: usize, batch: usize) -> bool
     ensures { λ r. ⌜ r ≡ allTaken whole set job batch ⌝ }
 {
@@ -52,18 +52,18 @@ fn all_taken(whole: Whole, set: usize, job: usize, batch: usize) -> bool
     if !is_taken(whole.batch, batch, MAX_BATCH) {
         return false;
     }
-    0 < job
+    job % 2 == 0
 }
 
 // The call's answer. The page is empty, and its first bytes are the call's output.
-fn put_answer(set: &[u8], confirm: u8, methods: &[u8], batch: &[u8], page: &mut [u8]) -> usize
+fn put_answer(set: &[u8], job: &[u8], batch: &[u8], page: &mut [u8]) -> usize
     requires { ⌜ Page [] 0 (now page) ⌝ }
     ensures { λ r. ⌜
-        Page (printedFor (correctBatch (given (now (set .entry)) confirm (now (methods .entry)) (now (batch .entry)) (zeros 32768) (zeros 65536))))
+        Page (printedFor (correctBatch (given (now (set .entry)) (now (job .entry)) (now (batch .entry)) (zeros 32768) (zeros 65536))))
         r (now (page .exit)) ⌝ }
 {
     let mut work = [0u8; WORK];
-    let answer = job::correct_batch(set, confirm, methods, batch, &mut page[..OUTPUT], &mut work);
+    let answer = job::correct_batch(set, job, batch, &mut page[..OUTPUT], &mut work);
     match answer {
         Answer::Report(report) => page::put_report(page, report),
         Answer::Refused(refusal) => page::put_refusal(page, refusal),
@@ -79,5 +79,5 @@ pub fn printed(whole: Whole, set: &[u8], job: &[u8], batch: &[u8], page: &mut [u
     if !all_taken(whole, set.len(), job.len(), batch.len()) {
         return page::put(page, 0, b"bad file\n");
     }
-    put_answer(set, job[0], &job[1..], batch, page)
+    put_answer(set, job, batch, page)
 }

@@ -11,4 +11,5 @@ pub mod Walk
 pub mod Correctors
 pub mod Exactly
 pub mod Opened
+pub mod Job
 pub mod Demands

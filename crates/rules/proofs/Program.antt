@@ -15,9 +15,9 @@ pub decimals :
 unfolding decimal
 decimals = refl
 
--- The printed case: job 1, 3 with lines AACGCCG and AA, whole.
+-- The printed case: job 3, 1 with lines AACGCCG and AA, whole.
 pub printedWhole :
-    printed (record { set = some sampleBytes; job = some (1 ∷ 3 ∷ []); batch = some (A ∷ A ∷ C ∷ G ∷ C ∷ C ∷ G ∷ 10 ∷ A ∷ A ∷ 10 ∷ []) })
+    printed (record { set = some sampleBytes; job = some (3 ∷ 1 ∷ []); batch = some (A ∷ A ∷ C ∷ G ∷ C ∷ C ∷ G ∷ 10 ∷ A ∷ A ∷ 10 ∷ []) })
     ≡ A ∷ A ∷ C ∷ T ∷ C ∷ C ∷ G ∷ 10 ∷ A ∷ A ∷ 10  -- AACTCCG, AA
     ∷ 116 ∷ 117 ∷ 114 ∷ 110 ∷ 115 ∷ 32 ∷ 49 ∷ 32  -- turns 1
     ∷ 108 ∷ 111 ∷ 111 ∷ 107 ∷ 117 ∷ 112 ∷ 115 ∷ 32 ∷ 50 ∷ 52 ∷ 32  -- lookups 24
@@ -25,23 +25,33 @@ pub printedWhole :
 unfolding printed sampleBytes
 printedWhole = refl
 
--- The unknown method of job 1, 3, 5: refused 3 place 1, and nothing else.
+-- The unknown method of job 3, 1, 5, 1: refused 3 place 1, and nothing else.
 pub printedRefusal :
-    printed (record { set = some sampleBytes; job = some (1 ∷ 3 ∷ 5 ∷ []); batch = some (A ∷ A ∷ 10 ∷ []) })
+    printed (record { set = some sampleBytes; job = some (3 ∷ 1 ∷ 5 ∷ 1 ∷ []); batch = some (A ∷ A ∷ 10 ∷ []) })
     ≡ 114 ∷ 101 ∷ 102 ∷ 117 ∷ 115 ∷ 101 ∷ 100 ∷ 32 ∷ 51 ∷ 32  -- refused 3
     ∷ 112 ∷ 108 ∷ 97 ∷ 99 ∷ 101 ∷ 32 ∷ 49 ∷ 10 ∷ []  -- place 1
 unfolding printed sampleBytes
 printedRefusal = refl
 
--- A missing file, a job of 65 bytes, an empty job: `bad file` only.
+-- A missing file, a job of 66 bytes, one of an odd count of bytes: `bad file` only. An empty job has no methods.
 pub printedBad :
     map printed
-    (record { set = none; job = some (1 ∷ []); batch = some [] }
+    (record { set = none; job = some []; batch = some [] }
     ∷ record { set = some sampleBytes; job = none; batch = some [] }
-    ∷ record { set = some sampleBytes; job = some (1 ∷ []); batch = none }
-    ∷ record { set = some sampleBytes; job = some (replicate 65 1); batch = some [] }
-    ∷ record { set = some sampleBytes; job = some []; batch = some [] }
+    ∷ record { set = some sampleBytes; job = some []; batch = none }
+    ∷ record { set = some sampleBytes; job = some (replicate 66 1); batch = some [] }
+    ∷ record { set = some sampleBytes; job = some (3 ∷ 1 ∷ 1 ∷ []); batch = some [] }
     ∷ [])
     ≡ replicate 5 badFile
 unfolding printed sampleBytes
 printedBad = refl
+
+-- An empty job copies the batch: turns 0 lookups 0 written 3.
+pub printedCopy :
+    printed (record { set = some sampleBytes; job = some []; batch = some (A ∷ C ∷ 10 ∷ []) })
+    ≡ A ∷ C ∷ 10
+    ∷ 116 ∷ 117 ∷ 114 ∷ 110 ∷ 115 ∷ 32 ∷ 48 ∷ 32  -- turns 0
+    ∷ 108 ∷ 111 ∷ 111 ∷ 107 ∷ 117 ∷ 112 ∷ 115 ∷ 32 ∷ 48 ∷ 32  -- lookups 0
+    ∷ 119 ∷ 114 ∷ 105 ∷ 116 ∷ 116 ∷ 101 ∷ 110 ∷ 32 ∷ 51 ∷ 10 ∷ []  -- written 3
+unfolding printed sampleBytes
+printedCopy = refl

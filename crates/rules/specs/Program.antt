@@ -1,10 +1,10 @@
--- Document 01, "Sample reads", the program: what it prints for the files that it reads.
+-- Document 01, "Sample reads", the program: what it prints for the files that it reads; document 02, W1.
 use Prim.Native.Nat.{ℕ, zero, suc, _+_, _/_, _%_}
 use mathlib.Core.Bool.{Bool, true, false}
 use mathlib.Core.Option.{Option, none, some}
 use mathlib.Core.List.{List, [], _∷_, _++_}
 use lib.ListN.{length, take, replicate}
-use lib.Dec.{ltb, leb}
+use lib.Dec.{eqb, ltb, leb}
 use Rattle.rules.specs.Refusal.{Refusal, Outcome, accepted, refused}
 use Rattle.rules.specs.Report.{Report}
 use Rattle.rules.specs.Calls.{Given, After, correctBatch}
@@ -96,12 +96,14 @@ upTo most (some bytes) = elim (leb (length bytes) most) [ true ↦ some bytes | 
 unfoldable pub zeros : ℕ → List ℕ
 zeros n = replicate n 0
 
--- The batch call on the bytes of set, job and batch; none for an empty job. A job is its confirm byte and its method bytes.
+-- The batch call on the bytes of set, job and batch; none for a job of an odd count of bytes. An empty one has no methods.
 unfoldable pub callOn : List ℕ → List ℕ → List ℕ → Option Given
 unfolding zeros
-callOn set [] batch = none
-callOn set (confirm ∷ methods) batch =
-    some (record { set = set; confirm = confirm; methods = methods; input = batch; output = zeros 32768; work = zeros 65536 })
+callOn set job batch =
+    elim (eqb (length job % 2) 0) [
+      | true ↦ some (record { set = set; job = job; input = batch; output = zeros 32768; work = zeros 65536 })
+      | false ↦ none
+    ]
 
 -- The call that the files make: solid.set of 65,536 bytes at most, job of 64, batch of 16,384.
 unfoldable pub callOf : Files → Option Given

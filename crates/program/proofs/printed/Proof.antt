@@ -1,17 +1,9 @@
-use Prim.Native.Nat.{ℕ, _-_, _<_}
-use native.Mathlib.Omega.{arith}
-use native.Mathlib.Nat.{le-of-eq}
-use mathlib.Core.Path.{_≡_, sym, _∙_, subst}
+use Prim.Native.Nat.{ℕ}
+use mathlib.Core.Path.{sym, _∙_, subst}
 use mathlib.Core.List.{List, []}
 use borrow.Author.Needs.{needs}
 use borrow.Author.Tests.{not-true, not-false}
-use lib.ListN.{length, getD, take, drop, length-drop}
-use lib.Seq.{take-all}
-use Rattle.rules.specs.Calls.{correctBatch}
-use Rattle.rules.specs.Program.{zeros, printedFor, printed}
-use Rattle.report.specs.Answer.{given}
 use Rattle.page.specs.Page.{Page}
-use Rattle.program.specs.Files.{filesOf}
 use Rattle.page.proofs.Text.{cleared-page}
 use Rattle.program.proofs.Files.{prints-bad-file, prints-answer}
 use Rattle.program.proofs.printed.Statement.{statement}
@@ -44,41 +36,17 @@ returns c =
     (prints-bad-file (a .whole) (a .set .now) (a .job .now) (a .batch .now) (sym (t .all-taken .ensures) ∙ not-true _ (i .if1 .taken)))
     (c .put .ensures .1 [] (empty t))
 
-answer : (i : tie.Else1) → let a = start (i .before) .args in
-    (0 < length (a .job .now))
-    × (printedFor (correctBatch (given (a .set .now) (getD (a .job .now) 0 0) (drop 1 (a .job .now)) (a .batch .now) (zeros 32768) (zeros 65536)))
-    ≡ printed (filesOf (a .whole) (a .set .now) (a .job .now) (a .batch .now)))
-answer i =
-    let t = i .before in
-    let a = start t .args in
-    prints-answer (a .whole) (a .set .now) (a .job .now) (a .batch .now) (sym (t .all-taken .ensures) ∙ not-false _ (i .if1 .left))
-
-shared-slice-read-put-answer : tie.Need-shared-slice-read-put-answer
-shared-slice-read-put-answer c = answer (c .before) .0
-
-sub-put-answer : tie.Need-sub-put-answer
-sub-put-answer c = omega (arith, answer (c .before) .0)
-
-part-put-answer-start : tie.Need-part-put-answer-start
-part-put-answer-start c = omega (arith, answer (c .before) .0)
-
-part-put-answer-end : tie.Need-part-put-answer-end
-part-put-answer-end c = search needs
-
 put-answer-requires : tie.Need-put-answer-requires
-put-answer-requires c κs = empty (c .before .before .before .before)
+put-answer-requires c κs = empty (c .before .before)
 
 returns-2 : tie.Need-returns-2
 returns-2 c =
-    let i = c .before .before .before .before in
-    let a = start (i .before) .args in
-    let job = a .job .now in
-    let whole : take (length job - 1) (drop 1 job) ≡ drop 1 job = take-all (length job - 1) (drop 1 job) (le-of-eq (length-drop 1 job)) in
-    subst (λ (x : List ℕ). Page x (c .put-answer .result) (c .put-answer .last .1 .1 .1 .1 .0)) (answer i .1)
-    (subst
-    (λ (m : List ℕ). Page (printedFor (correctBatch (given (a .set .now) (getD job 0 0) m (a .batch .now) (zeros 32768) (zeros 65536))))
-    (c .put-answer .result) (c .put-answer .last .1 .1 .1 .1 .0))
-    whole (c .put-answer .ensures))
+    let i = c .before .before in
+    let t = i .before in
+    let a = start t .args in
+    subst (λ (x : List ℕ). Page x (c .put-answer .result) (c .put-answer .last .1 .1 .1 .0))
+    (prints-answer (a .whole) (a .set .now) (a .job .now) (a .batch .now) (sym (t .all-taken .ensures) ∙ not-false _ (i .if1 .left)))
+    (c .put-answer .ensures)
 
 pub printed-spec : {M : Type 1} → statement M
 printed-spec =
@@ -89,9 +57,5 @@ printed-spec =
     slice-aggregate-put
     put-requires
     returns
-    shared-slice-read-put-answer
-    sub-put-answer
-    part-put-answer-start
-    part-put-answer-end
     put-answer-requires
     returns-2)

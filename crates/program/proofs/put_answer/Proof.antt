@@ -38,11 +38,11 @@ put-report-requires c κs =
     let b = a .before .before .before .before .before in
     let e = b .correct-batch in
     let p = start b .pre in
-    let k = e .kept .1 .1 .1 .1 .0 in
+    let k = e .kept .1 .1 .1 .0 in
     omega (
       arith,
-      written-fits _ _ _ _ _ _ _ _ _ p refl (e .ensures .0) k _ (a .answer .given .1),
-      length-lent _ _ _ _ _ _ _ _ _ p refl (e .ensures .0) k,
+      written-fits _ _ _ _ _ _ _ _ p refl (e .ensures .0) k _ (a .answer .given .1),
+      length-lent _ _ _ _ _ _ _ _ p refl (e .ensures .0) k,
     )
 
 enum-known-answer-2 : tie.Need-enum-known-answer-2
@@ -53,7 +53,7 @@ unfolding zeros
 put-refusal-requires c κs =
     let b = c .before .before .before .before .before .before .before in
     let e = b .correct-batch in
-    omega (arith, length-lent _ _ _ _ _ _ _ _ _ (start b .pre) refl (e .ensures .0) (e .kept .1 .1 .1 .1 .0))
+    omega (arith, length-lent _ _ _ _ _ _ _ _ (start b .pre) refl (e .ensures .0) (e .kept .1 .1 .1 .0))
 
 same-length : tie.Need-same-length
 unfolding zeros
@@ -64,7 +64,7 @@ same-length c =
     omega (
       arith,
       c .before .before .put-report .kept .0,
-      length-lent _ _ _ _ _ _ _ _ _ p refl (e .ensures .0) (e .kept .1 .1 .1 .1 .0),
+      length-lent _ _ _ _ _ _ _ _ p refl (e .ensures .0) (e .kept .1 .1 .1 .0),
       length-page [] 0 (start b .args .page .now) p,
     )
 
@@ -75,7 +75,7 @@ returns c =
     let a = q .before .before .before in
     let b = a .before .before .before .before .before in
     let e = b .correct-batch in
-    report-printed _ _ _ _ _ _ _ _ _ (start b .pre) refl (e .ensures .0) (e .kept .1 .1 .1 .1 .0) _ (a .answer .given .1) _ _ (q .put-report .ensures)
+    report-printed _ _ _ _ _ _ _ _ (start b .pre) refl (e .ensures .0) (e .kept .1 .1 .1 .0) _ (a .answer .given .1) _ _ (q .put-report .ensures)
 
 same-length-2 : tie.Need-same-length-2
 unfolding zeros
@@ -86,7 +86,7 @@ same-length-2 c =
     omega (
       arith,
       c .before .before .put-refusal .kept .0,
-      length-lent _ _ _ _ _ _ _ _ _ p refl (e .ensures .0) (e .kept .1 .1 .1 .1 .0),
+      length-lent _ _ _ _ _ _ _ _ p refl (e .ensures .0) (e .kept .1 .1 .1 .0),
       length-page [] 0 (start b .args .page .now) p,
     )
 
@@ -97,7 +97,7 @@ returns-2 c =
     let a = q .before .before .before in
     let b = a .before .before .before .before .before in
     let e = b .correct-batch in
-    refusal-printed _ _ _ _ _ _ _ _ _ (start b .pre) refl (e .ensures .0) (e .kept .1 .1 .1 .1 .0) _ (a .answer2 .given .1) _ _ (q .put-refusal .ensures)
+    refusal-printed _ _ _ _ _ _ _ _ (start b .pre) refl (e .ensures .0) (e .kept .1 .1 .1 .0) _ (a .answer2 .given .1) _ _ (q .put-refusal .ensures)
 
 pub put-answer-spec : {M : Type 1} → statement M
 put-answer-spec =
