@@ -19,7 +19,7 @@ impl Library for Linked {
             Call::Read => corrector::correct_read,
             Call::Batch => corrector::correct_batch,
         };
-        call(set, job.confirm, &job.methods, &job.input, output, work).map(report).map_err(refusal)
+        call(set, corrector::Job::from_bytes(&job.entries), &job.input, output, work).map(report).map_err(refusal)
     }
 
     fn count_solid(&self, set: &[u8], read: &[u8]) -> Option<u64> {
