@@ -11,7 +11,7 @@ pub trait Library: Sync {
     /// The call that the job names, over lent buffers of the lengths that it gives.
     fn correct(&self, set: &[u8], job: &Job, output: &mut [u8], work: &mut [u8]) -> Answer;
 
-    /// How many of a read's k-mers are solid, asked one after the other: the floor of the benchmark, where there is an entry for it.
+    /// How many of a read's k-mers are solid, asked one after the other: the plain loop of the benchmark, where there is an entry for it.
     fn count_solid(&self, _set: &[u8], _read: &[u8]) -> Option<u64> {
         None
     }
