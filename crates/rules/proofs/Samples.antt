@@ -4,6 +4,7 @@ use mathlib.Core.Path.{_≡_, refl}
 use mathlib.Core.Option.{Option, none, some}
 use mathlib.Core.List.{List, [], _∷_, _++_, map}
 use lib.ListN.{replicate, set}
+use Rattle.rules.specs.Letters.{code, letter, complement}
 use Rattle.rules.specs.Refusal.{accepted, refused}
 use Rattle.rules.specs.Set.{KmerSet, check, opened}
 use Rattle.rules.specs.Driver.{Pass}
@@ -43,6 +44,11 @@ byJob s =
 pub jobs : map byJob jobTable ≡ jobTable
 unfolding byJob jobTable sampleSet
 jobs = refl
+
+-- The base pairs: A to T, C to G, T to A, G to C. Document 02, W2.
+pub basePairs : map (λ b. letter (complement (code b))) (A ∷ C ∷ T ∷ G ∷ []) ≡ T ∷ G ∷ A ∷ C ∷ []
+unfolding letter complement code
+basePairs = refl
 
 -- The set's bytes open with k = 3 and those five keys; the check words are 9 and 200.
 pub sampleOpens : (opened sampleBytes ≡ accepted sampleSet) × (check sampleBytes 0 ≡ 9) × (check sampleBytes 1 ≡ 200)
