@@ -10,4 +10,8 @@ pub mod Walk
 pub mod Correctors
 pub mod Exactly
 pub mod Opened
+pub mod Keys
+pub mod Blocks
+pub mod MakeSet
+pub mod MakeSamples
 pub mod Demands
