@@ -82,7 +82,7 @@ pub fn mask(k: usize) -> u64
     MASK_LOOKUP[k]
 }
 
-pub fn header(k: usize, n: usize, shift: u32) -> Header
+pub fn header_of(k: usize, n: usize, shift: u32) -> Header
     requires { ⌜ (1 ≤ k) × (k ≤ 31) ⌝ }
     ensures { λ r. ⌜ Shifts r × (r .k ≡ k) × (r .n ≡ n) × (r .shift ≡ shift) ⌝ }
 {
