@@ -3,20 +3,20 @@ use Prim.Native.Nat.{ℕ, zero, suc, _+_, _*_, _-_, _/_, _≤_, _<_}
 use native.Mathlib.Omega.{arith}
 use native.Mathlib.Numerals.{add-one}
 use mathlib.Core.Path.{_≡_, refl, sym, ap, ap₂, _∙_}
-use mathlib.Core.Bool.{true}
+use mathlib.Core.Bool.{true, false}
 use mathlib.Core.Option.{Option, none}
 use mathlib.Core.List.{List, [], _∷_, _++_}
 use lib.ListN.{length, getD, take, drop, replicate, length-drop, drop-of-length-le}
 use lib.Seq.{drop-cons, take-suc, take-all, length-take-le}
 use Rattle.rules.specs.Blocks.{blocksFor, blocksFrom}
-use Rattle.rules.specs.MakeSet.{textCheck, setWords, setBlocks, textLines, textKeys, formRight, lineCount, lineKey, linesCheck, lineCheck, unlessAt, lastKept, keptLines, lineKeys}
+use Rattle.rules.specs.MakeSet.{textCheck, setWords, setBlocks, textLines, textKeys, formRight, kept, lineKey, linesCheck, lineCheck, unlessAt, lastKept, keptLines, lineKeys}
 use Rattle.rules.proofs.Opened.{passed}
 use Rattle.rules.proofs.Blocks.{Bytes, zeros-at}
 use Rattle.rules.proofs.MakeSet.{unless-at, set-length, set-words, text-keys}
 use Rattle.lay.specs.Lay.{Put, Sealed, Holds, Extended}
 use Rattle.lay.proofs.Laws.{extended-none, extended-more, holds-none, holds-more, holds-same, sealed-is, cleared-length}
-use Rattle.make_set.specs.Make.{TextLine}
-use Rattle.make_set.proofs.Laws.{keysOf, key-kept, key-passed, kept-is, passed-is}
+use Rattle.kmer_text.specs.Text.{TextLine}
+use Rattle.make_set.proofs.Judging.{keysOf, key-kept, key-passed}
 
 -- Lines that all have the form.
 pub data AllFormed (k : ℕ) : List (List ℕ) → Type 0 where
@@ -82,36 +82,35 @@ module _ {text : List ℕ} {k least : ℕ} {before blocks : List ℕ} {at i end 
   pub line-formed : formRight k (take (end - at) (drop at text)) ≡ true
   line-formed = first-formed lines
 
-  module _ {number : ℕ} (number-is : number ≡ lineCount k (take (end - at) (drop at text))) where
-    pub written-passed : number < least → Writing text k least before blocks end i
-    written-passed l = record {
-      within = t .within;
-      few = w .few;
-      formed = rest-formed lines;
-      left = w .left ∙ ap (keysOf k least) (t .is) ∙ key-passed k least _ (textLines (drop end text)) (passed-is k least number _ number-is l);
-      written = w .written;
-    }
+  pub written-passed : kept k least (take (end - at) (drop at text)) ≡ false → Writing text k least before blocks end i
+  written-passed is-passed = record {
+    within = t .within;
+    few = w .few;
+    formed = rest-formed lines;
+    left = w .left ∙ ap (keysOf k least) (t .is) ∙ key-passed k least _ (textLines (drop end text)) is-passed;
+    written = w .written;
+  }
 
-    module _ (l : least ≤ number) where
-      left-kept : drop i (textKeys k least text) ≡ lineKey k (take (end - at) (drop at text)) ∷ keysOf k least (textLines (drop end text))
-      left-kept = w .left ∙ ap (keysOf k least) (t .is) ∙ key-kept k least _ (textLines (drop end text)) (kept-is k least number _ number-is l)
+  module _ (is-kept : kept k least (take (end - at) (drop at text)) ≡ true) where
+    left-kept : drop i (textKeys k least text) ≡ lineKey k (take (end - at) (drop at text)) ∷ keysOf k least (textLines (drop end text))
+    left-kept = w .left ∙ ap (keysOf k least) (t .is) ∙ key-kept k least _ (textLines (drop end text)) is-kept
 
-      pub written-inside : i < length (textKeys k least text)
-      written-inside = left-inside (textKeys k least text) i _ _ left-kept
+    pub written-inside : i < length (textKeys k least text)
+    written-inside = left-inside (textKeys k least text) i _ _ left-kept
 
-      pub written-kept : {key : ℕ} {after : List ℕ} → key ≡ lineKey k (take (end - at) (drop at text)) → Put blocks (63 + i + (63 + i) / 63) key after
-          → Writing text k least before after end (i + 1)
-      written-kept {key} {after} key-is p =
-          let keys : List ℕ = textKeys k least text in
-          record {
-            within = t .within;
-            few = omega (arith, written-inside);
-            formed = rest-formed lines;
-            left = left-rest keys i _ _ left-kept;
-            written =
-                rw (add-one i, take-suc keys i 0 written-inside, left-first keys i _ _ left-kept, ← key-is)
-                (extended-more before 63 (take i keys) blocks (63 + i) key after (w .written) (omega (arith, length-take-le i keys (w .few))) p);
-          }
+    pub written-kept : {key : ℕ} {after : List ℕ} → key ≡ lineKey k (take (end - at) (drop at text)) → Put blocks (63 + i + (63 + i) / 63) key after
+        → Writing text k least before after end (i + 1)
+    written-kept {key} {after} key-is p =
+        let keys : List ℕ = textKeys k least text in
+        record {
+          within = t .within;
+          few = omega (arith, written-inside);
+          formed = rest-formed lines;
+          left = left-rest keys i _ _ left-kept;
+          written =
+              rw (add-one i, take-suc keys i 0 written-inside, left-first keys i _ _ left-kept, ← key-is)
+              (extended-more before 63 (take i keys) blocks (63 + i) key after (w .written) (omega (arith, length-take-le i keys (w .few))) p);
+        }
 
 -- The block of key i is there.
 pub key-room : (i n : ℕ) (before blocks : List ℕ) → i < n → 512 * (1 + blocksFor n) ≤ length before → length blocks ≡ length before

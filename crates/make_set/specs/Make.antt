@@ -1,9 +1,9 @@
 -- What the functions over a text answer, in the rules' terms.
-use Prim.Native.Nat.{ℕ, _-_, _≤_, _<_}
+use Prim.Native.Nat.{ℕ}
 use mathlib.Core.Path.{_≡_}
 use mathlib.Core.Option.{none, some}
-use mathlib.Core.List.{List, _∷_}
-use lib.ListN.{length, take, drop}
+use mathlib.Core.List.{List}
+use lib.ListN.{length}
 use Rattle.rules.specs.Refusal.{Outcome, accepted, refused}
 use Rattle.rules.specs.Blocks as Rules
 use Rattle.rules.specs.MakeSet.{textLines, textKeys, linesCheck}
@@ -12,12 +12,6 @@ use Rattle.make_set.specs.declared.Judged.{Judged}
 use Rattle.make_set.specs.declared.Judged.the-variants as Judgement
 use Rattle.make_set.specs.declared.Made.{Made}
 use Rattle.make_set.specs.declared.Made.the-variants.{Blocks, Refused}
-
--- The line from `from` on ends before `end`; the other lines follow.
-pub record TextLine (text : List ℕ) (from end : ℕ) : Type 0 where
-  pub after : from < end
-  pub within : end ≤ length text
-  pub is : textLines (drop from text) ≡ take (end - from) (drop from text) ∷ textLines (drop end text)
 
 -- Checks 12 and 13: they let pass, with the number of keys; or refuse.
 abbrev pub JudgedAs : List ℕ → ℕ → ℕ → Judged → Type 0

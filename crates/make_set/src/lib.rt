@@ -3,17 +3,16 @@
 use kmer::Header;
 use refusal::Refusal;
 ghost use mathlib.Core.Path.{_≡_};
-ghost use mathlib.Core.Bool.{true};
 ghost use mathlib.Core.Option.{none};
 ghost use mathlib.Core.List.{_++_};
-ghost use Prim.Native.Nat.{_+_, _*_, _-_, _≤_, _<_};
+ghost use Prim.Native.Nat.{_+_, _*_, _-_, _≤_};
 ghost use lib.ListN.{length, replicate};
-ghost use Rattle.rules.specs.Set.{maxK, maxKeys};
+ghost use Rattle.rules.specs.Set.{maxKeys};
 ghost use Rattle.rules.specs.Blocks.{blocksFor};
 ghost use Rattle.rules.specs.MakeSet as Rules;
 ghost use Rattle.kmer.specs.Kmer.{Shifts};
 ghost use Rattle.lay.specs.Lay.{Extended};
-ghost use Rattle.make_set.specs.Make.{TextLine, JudgedAs, IsRefused, madeOf};
+ghost use Rattle.make_set.specs.Make.{JudgedAs, IsRefused, madeOf};
 
 const MAX_KEYS: usize = 16777216;
 
@@ -29,111 +28,6 @@ enum Judged {
     Refused(Refusal),
 }
 
-fn is_letter(b: u8) -> bool
-    ensures { λ r. ⌜ r ≡ Rules.isLetter b ⌝ }
-{
-    match b {
-        b'A' | b'C' | b'G' | b'T' => true,
-        _ => false,
-    }
-}
-
-fn is_digit(b: u8) -> bool
-    ensures { λ r. ⌜ r ≡ Rules.isDigit b ⌝ }
-{
-    b'0' <= b && b <= b'9'
-}
-
-fn all_letters(part: &[u8]) -> bool
-    ensures { λ r. ⌜ r ≡ Rules.all Rules.isLetter (now (part .entry)) ⌝ }
-{
-    for i in 0..part.len() {
-        if !is_letter(part[i]) {
-            return false;
-        }
-    }
-    true
-}
-
-fn all_digits(part: &[u8]) -> bool
-    ensures { λ r. ⌜ r ≡ Rules.all Rules.isDigit (now (part .entry)) ⌝ }
-{
-    for i in 0..part.len() {
-        if !is_digit(part[i]) {
-            return false;
-        }
-    }
-    true
-}
-
-fn number_of(digits: &[u8]) -> u64
-    requires { ⌜ (Rules.all Rules.isDigit (now digits) ≡ true) × (length (now digits) ≤ 10) ⌝ }
-    ensures { λ r. ⌜ r ≡ Rules.number 0 (now (digits .entry)) ⌝ }
-{
-    let mut sum: u64 = 0;
-    for i in 0..digits.len() {
-        sum = 10 * sum + (number::wide(digits[i]) - 48);
-    }
-    sum
-}
-
-// Refusal 12, unless it holds.
-fn form_right(line: &[u8], k: usize) -> bool
-    requires { ⌜ k ≤ maxK ⌝ }
-    ensures { λ r. ⌜ r ≡ Rules.formRight k (now (line .entry)) ⌝ }
-{
-    let length = line.len();
-    if length < k + 3 {
-        return false;
-    }
-    if k + 12 < length {
-        return false;
-    }
-    let first = k + 1;
-    let last = length - 1;
-    if !all_letters(&line[..k]) {
-        return false;
-    }
-    if line[k] != b',' {
-        return false;
-    }
-    if !all_digits(&line[first..last]) {
-        return false;
-    }
-    line[last] == 10
-}
-
-fn line_count(line: &[u8], k: usize) -> u64
-    requires { ⌜ (k ≤ maxK) × (Rules.formRight k (now line) ≡ true) ⌝ }
-    ensures { λ r. ⌜ r ≡ Rules.lineCount k (now (line .entry)) ⌝ }
-{
-    let first = k + 1;
-    let last = line.len() - 1;
-    number_of(&line[first..last])
-}
-
-fn line_key(line: &[u8], head: Header) -> u64
-    requires { ⌜ Shifts head × (Rules.formRight (head .k) (now line) ≡ true) ⌝ }
-    ensures { λ r. ⌜ r ≡ Rules.lineKey (head .k) (now (line .entry)) ⌝ }
-{
-    kmer::canonical(kmer::seq2bit(line, head), head)
-}
-
-// Where the line from `from` on ends: behind its byte 10, or where the text does.
-fn line_end(text: &[u8], from: usize) -> usize
-    requires { ⌜ from < length (now text) ⌝ }
-    ensures { λ r. ⌜ TextLine (now (text .entry)) from r ⌝ }
-{
-    let mut end = from;
-    while end < text.len() {
-        if text[end] == 10 {
-            return end + 1;
-        }
-        end += 1;
-    }
-    end
-}
-
 // Refusals 12 and 13, line by line.
 fn judge(text: &[u8], head: Header, least: u64) -> Judged
     requires { ⌜ Shifts head ⌝ }
@@ -145,12 +39,12 @@ fn judge(text: &[u8], head: Header, least: u64) -> Judged
     // The least that the next kept code may be.
     let mut floor: u64 = 0;
     while at < text.len() {
-        let end = line_end(text, at);
-        if !form_right(&text[at..end], head.k) {
+        let end = kmer_text::line_end(text, at);
+        if !kmer_text::form_right(&text[at..end], head.k) {
             return Judged::Refused(Refusal::Line(line));
         }
-        if least <= line_count(&text[at..end], head.k) {
-            let key = line_key(&text[at..end], head);
+        if kmer_text::is_kept(&text[at..end], head.k, least) {
+            let key = kmer_text::line_key(&text[at..end], head);
             if key < floor {
                 return Judged::Refused(Refusal::NotRising(line));
             }
@@ -184,9 +78,9 @@ fn write_keys(text: &[u8], head: Header, least: u64, blocks: &mut [u8])
     let mut at = 0;
     let mut i = 0;
     while at < text.len() {
-        let end = line_end(text, at);
-        if least <= line_count(&text[at..end], head.k) {
-            let key = line_key(&text[at..end], head);
+        let end = kmer_text::line_end(text, at);
+        if kmer_text::is_kept(&text[at..end], head.k, least) {
+            let key = kmer_text::line_key(&text[at..end], head);
             lay::put(blocks, 63 + i, key);
             i += 1;
         }

@@ -64,8 +64,8 @@ keysOf text least = textKeys 3 least text
 pub readings :
     (keysOf sampleText 5 ≡ 6 ∷ 51 ∷ 58 ∷ 60 ∷ [])
     × (keysOf sampleText 18446744073709551615 ≡ [])
-    × (keysOf (row CCG (52 ∷ []) ++ row ACT (57 ∷ [])) 5 ≡ 6 ∷ [])
-    × (textCheck (row CCG (52 ∷ []) ++ row ACT (57 ∷ [])) 3 5 ≡ none)
+    × (textCheck (row CCG (57 ∷ []) ++ row ACT (52 ∷ []) ++ row (A ∷ A ∷ C ∷ []) (57 ∷ [])) 3 5 ≡ none)
+    × (keysOf (row CCG (57 ∷ []) ++ row ACT (52 ∷ []) ++ row (A ∷ A ∷ C ∷ []) (57 ∷ [])) 5 ≡ 23 ∷ 58 ∷ [])
     × (keysOf (row AGT (57 ∷ 57 ∷ 57 ∷ 57 ∷ 57 ∷ 57 ∷ 57 ∷ 57 ∷ 57 ∷ 57 ∷ [])) 9999999999 ≡ 6 ∷ [])
     × (keysOf (row AGT (57 ∷ 57 ∷ 57 ∷ 57 ∷ 57 ∷ 57 ∷ 57 ∷ 57 ∷ 57 ∷ 57 ∷ [])) 10000000000 ≡ [])
     × (keysOf (row ACT (48 ∷ 48 ∷ 48 ∷ 48 ∷ 48 ∷ 48 ∷ 48 ∷ 48 ∷ 49 ∷ 55 ∷ []) ++ row CCG (48 ∷ [])) 17 ≡ 6 ∷ [])

@@ -4,7 +4,7 @@ use side::bench::measure::{cell, gap, loops, opening, placing, Cell};
 use side::bench::page::{Peak, Results};
 use side::bench::split::{split, Split};
 use side::bench::system::{count_running_time, on_huge_pages, Allocator};
-use side::bench::{chart, memory, page};
+use side::bench::{chart, make, memory, page};
 use side::cases::batch_of;
 use side::library::{library, Library};
 use side::referee::correctors::{Method, METHODS};
@@ -16,7 +16,7 @@ use std::process::ExitCode;
 static ALLOCATOR: Allocator = Allocator;
 
 const USAGE: &str =
-    "compare/bench [--quick] [--stand-in] [--out FOLDER] [--keys N] [--k K] [--method NAME] [--errors N] [--huge] [--split] [--running-time]; each of --keys to --errors as often as you like";
+    "compare/bench [--make] [--quick] [--stand-in] [--out FOLDER] [--keys N] [--k K] [--method NAME] [--errors N] [--huge] [--split] [--running-time]; each of --keys to --errors as often as you like";
 const KEYS: [usize; 4] = [1_000, 100_000, 4_000_000, 16_000_000];
 /// How many of these --quick takes.
 const QUICK: usize = 2;
@@ -35,6 +35,10 @@ fn main() -> ExitCode {
     let arguments: Vec<String> = std::env::args().skip(1).collect();
     let outcome = match arguments.iter().map(String::as_str).collect::<Vec<_>>()[..] {
         ["--memory", side, set, batch] => memory::run(side, set, batch),
+        ["--make"] | ["--make", "--stand-in"] => {
+            make::measure_all(library());
+            Ok(())
+        }
         _ => bench(&arguments),
     };
     match outcome {
@@ -126,7 +130,8 @@ fn bench(arguments: &[String]) -> Result<(), String> {
     let write = |file: &str, text: String| std::fs::write(folder.join(file), text).map_err(|error| format!("{file}: {error}"));
     let k = if options.k.contains(&ONE_K) { ONE_K } else { options.k[0] };
     write(chart, chart::draw(&results.cells, k, &options.keys, &options.errors))?;
-    write("BENCHMARK.md", page::write(&results, chart))?;
+    let made = make::section(&make::measure_all(library()));
+    write("BENCHMARK.md", page::write(&results, chart) + &made)?;
     println!("{}", folder.join("BENCHMARK.md").display());
     Ok(())
 }

@@ -6,7 +6,7 @@ use lib.ListN.{length, take, drop}
 use borrow.Author.Needs.{needs}
 use borrow.Author.Tests.{not-true, not-false}
 use Rattle.rules.specs.MakeSet.{formRight}
-use Rattle.make_set.proofs.Laws.{Judging, judging-starts, judging-ends, judged-breaks, judged-falls, judged-kept, judged-passed, key-fits}
+use Rattle.make_set.proofs.Judging.{Judging, judging-starts, judging-ends, judged-breaks, judged-falls, judged-kept, judged-passed, key-fits}
 use Rattle.make_set.proofs.judge.Statement.{statement}
 use Rattle.make_set.proofs.judge.Tie as tie
 
@@ -44,17 +44,17 @@ right : (c : tie.Else1 Inv-loop μ-loop) → let e = c .before .before .before i
     formRight (s .args .head .k) (take (e .line-end .result - l .loop .at) (drop (l .loop .at) (s .args .text .now))) ≡ true
 right c = sym (c .before .form-right .ensures) ∙ not-false _ (c .if1 .left)
 
-sub-line-count : tie.Need-sub-line-count Inv-loop μ-loop
-sub-line-count c = search needs
+sub-is-kept : tie.Need-sub-is-kept Inv-loop μ-loop
+sub-is-kept c = search needs
 
-part-line-count-start : tie.Need-part-line-count-start Inv-loop μ-loop
-part-line-count-start c = search needs
+part-is-kept-start : tie.Need-part-is-kept-start Inv-loop μ-loop
+part-is-kept-start c = search needs
 
-part-line-count-end : tie.Need-part-line-count-end Inv-loop μ-loop
-part-line-count-end c = search needs
+part-is-kept-end : tie.Need-part-is-kept-end Inv-loop μ-loop
+part-is-kept-end c = search needs
 
-line-count-requires : tie.Need-line-count-requires Inv-loop μ-loop
-line-count-requires c κs = (search needs, right (c .before))
+is-kept-requires : tie.Need-is-kept-requires Inv-loop μ-loop
+is-kept-requires c κs = (search needs, right (c .before))
 
 sub-line-key : tie.Need-sub-line-key Inv-loop μ-loop
 sub-line-key c = search needs
@@ -75,7 +75,7 @@ returns-2 c =
     let n = t .before in
     let f = n .before .before in
     let e = f .before .before .before in
-    judged-falls (e .before .before .loop .inv) (e .line-end .ensures) (right f) (n .line-count .ensures) (y .line-key .ensures) (t .if2 .taken) (c .if3 .taken)
+    judged-falls (e .before .before .loop .inv) (e .line-end .ensures) (right f) (sym (n .is-kept .ensures) ∙ t .if2 .taken) (y .line-key .ensures) (c .if3 .taken)
 
 add-floor : tie.Need-add-floor Inv-loop μ-loop
 add-floor c =
@@ -100,8 +100,8 @@ loop-again c =
     let j = e .before .before .loop .inv in
     ⊎-elim
     (λ w. rw (w .4, w .5)
-    (judged-kept j (e .line-end .ensures) (right f) (n .line-count .ensures) (w .2 .ensures) (w .0 .taken) (w .3 .left)))
-    (λ w. rw (w .1, w .2) (judged-passed j (e .line-end .ensures) (right f) (n .line-count .ensures) (w .0 .left)))
+    (judged-kept j (e .line-end .ensures) (right f) (sym (n .is-kept .ensures) ∙ w .0 .taken) (w .2 .ensures) (w .3 .left)))
+    (λ w. rw (w .1, w .2) (judged-passed j (e .line-end .ensures) (right f) (sym (n .is-kept .ensures) ∙ w .0 .left)))
     (c .if2 .came)
 
 returns-3 : tie.Need-returns-3 Inv-loop μ-loop
@@ -120,10 +120,10 @@ judge-spec =
     part-form-right-end
     form-right-requires
     returns
-    sub-line-count
-    part-line-count-start
-    part-line-count-end
-    line-count-requires
+    sub-is-kept
+    part-is-kept-start
+    part-is-kept-end
+    is-kept-requires
     sub-line-key
     part-line-key-start
     part-line-key-end

@@ -1,5 +1,5 @@
 use Prim.Native.Nat.{_-_, _<_}
-use mathlib.Core.Path.{_≡_}
+use mathlib.Core.Path.{_≡_, sym, _∙_}
 use mathlib.Core.Bool.{true}
 use lib.ListN.{length, take, drop}
 use borrow.Author.Needs.{needs}
@@ -25,17 +25,17 @@ right : (c : tie.After-line-end Inv-loop μ-loop) → let l = c .before .before 
     formRight (s .args .head .k) (take (c .line-end .result - l .loop .at) (drop (l .loop .at) (s .args .text .now))) ≡ true
 right c = line-formed (c .before .before .loop .inv) (c .line-end .ensures)
 
-sub-line-count : tie.Need-sub-line-count Inv-loop μ-loop
-sub-line-count c = search needs
+sub-is-kept : tie.Need-sub-is-kept Inv-loop μ-loop
+sub-is-kept c = search needs
 
-part-line-count-start : tie.Need-part-line-count-start Inv-loop μ-loop
-part-line-count-start c = search needs
+part-is-kept-start : tie.Need-part-is-kept-start Inv-loop μ-loop
+part-is-kept-start c = search needs
 
-part-line-count-end : tie.Need-part-line-count-end Inv-loop μ-loop
-part-line-count-end c = search needs
+part-is-kept-end : tie.Need-part-is-kept-end Inv-loop μ-loop
+part-is-kept-end c = search needs
 
-line-count-requires : tie.Need-line-count-requires Inv-loop μ-loop
-line-count-requires c κs = (search needs, right (c .before))
+is-kept-requires : tie.Need-is-kept-requires Inv-loop μ-loop
+is-kept-requires c κs = (search needs, right (c .before))
 
 sub-line-key : tie.Need-sub-line-key Inv-loop μ-loop
 sub-line-key c = search needs
@@ -55,7 +55,7 @@ inside : (c : tie.Then1 Inv-loop μ-loop) → let l = c .before .before .before 
 inside c =
     let n = c .before in
     let e = n .before .before in
-    written-inside (e .before .before .loop .inv) (e .line-end .ensures) (n .line-count .ensures) (c .if1 .taken)
+    written-inside (e .before .before .loop .inv) (e .line-end .ensures) (sym (n .is-kept .ensures) ∙ c .if1 .taken)
 
 add-put : tie.Need-add-put Inv-loop μ-loop
 add-put c = search needs
@@ -80,7 +80,7 @@ loop-again c =
     let t = y .before .before in
     let n = t .before in
     let e = n .before .before in
-    written-kept (e .before .before .loop .inv) (e .line-end .ensures) (n .line-count .ensures) (t .if1 .taken) (y .line-key .ensures) (p .put .ensures)
+    written-kept (e .before .before .loop .inv) (e .line-end .ensures) (sym (n .is-kept .ensures) ∙ t .if1 .taken) (y .line-key .ensures) (p .put .ensures)
 
 loop-less-2 : tie.Need-loop-less-2 Inv-loop μ-loop
 loop-less-2 c = search needs
@@ -89,7 +89,7 @@ loop-again-2 : tie.Need-loop-again-2 Inv-loop μ-loop
 loop-again-2 c =
     let n = c .before in
     let e = n .before .before in
-    written-passed (e .before .before .loop .inv) (e .line-end .ensures) (n .line-count .ensures) (c .if1 .left)
+    written-passed (e .before .before .loop .inv) (e .line-end .ensures) (sym (n .is-kept .ensures) ∙ c .if1 .left)
 
 same-length : tie.Need-same-length Inv-loop μ-loop
 same-length c = search needs
@@ -105,10 +105,10 @@ write-keys-spec =
     μ-loop
     loop-holds
     line-end-requires
-    sub-line-count
-    part-line-count-start
-    part-line-count-end
-    line-count-requires
+    sub-is-kept
+    part-is-kept-start
+    part-is-kept-end
+    is-kept-requires
     sub-line-key
     part-line-key-start
     part-line-key-end
