@@ -70,7 +70,7 @@ fn count(rng: &mut Rng, from: u64) -> String {
 
 fn line(rng: &mut Rng, k: usize, code: u64, count: &str) -> Vec<u8> {
     let code = if rng.percent(50) { code } else { reverse_complement(k, code) };
-    [&letters(k, code), b",", count.as_bytes(), b"\n"].concat()
+    [&letters(k, code)[..], b",", count.as_bytes(), b"\n"].concat()
 }
 
 /// Lines of rising codes, and between them lines that are passed over, in any order.
