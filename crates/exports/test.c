@@ -193,7 +193,7 @@ static int set_refused(const uint8_t *set, size_t length, uint64_t number, uint6
         set, length, 1, (const uint8_t *)"\1", 1, (const uint8_t *)"AAC", 3, done.output, OUTPUT, done.work, WORK, done.answer, CORRECTOR_CALL_NUMBERS);
     return refuses(&done, OUTPUT, number, place) && corrector_open(set, length, opened, CORRECTOR_OPEN_NUMBERS) == number
         && opened[CORRECTOR_NUMBER] == number && opened[CORRECTOR_PLACE] == place && opened[CORRECTOR_K] == 0 && opened[CORRECTOR_N] == 0
-        && corrector_count_solid(set, length, (const uint8_t *)"AAC", 3) == 0;
+        && corrector_count_solid(set, length, (const uint8_t *)"AAC", 3, (uint64_t[]){0}, 0) == number;
 }
 
 static void test_set_refusals(void)
@@ -280,7 +280,7 @@ static void test_answers(const uint8_t *set)
     check("answers of a refused batch", short_answers(corrector_batch, set, 1, "AACGC"));
 }
 
-static int counts(const uint8_t *set, size_t length, const char *read, uint64_t kmers, uint64_t solid)
+static int counted(const uint8_t *set, size_t length, const char *read, uint64_t kmers, uint64_t solid)
 {
     uint64_t answer[CORRECTOR_SOLID_NUMBERS];
     uint64_t number = corrector_count_solid(set, length, (const uint8_t *)read, strlen(read), answer, CORRECTOR_SOLID_NUMBERS);
@@ -302,9 +302,9 @@ static void test_count(const uint8_t *set)
     uint8_t wrong[SET];
     memcpy(wrong, set, SET);
     wrong[SET - 1]++;
-    check("solid k-mers", counts(set, SET, "AACTCCG", 5, 5) && counts(set, SET, "AACGC", 3, 1) && counts(set, SET, "AAC", 1, 1)
-        && counts(set, SET, "ACGT", 2, 0));
-    check("no k-mers", counts(set, SET, "AA", 0, 0) && counts(set, SET, "", 0, 0));
+    check("solid k-mers", counted(set, SET, "AACTCCG", 5, 5) && counted(set, SET, "AACGC", 3, 1) && counted(set, SET, "AAC", 1, 1)
+        && counted(set, SET, "ACGT", 2, 0));
+    check("no k-mers", counted(set, SET, "AA", 0, 0) && counted(set, SET, "", 0, 0));
     check("a count is refused", not_counted(set, SET, long_read, sizeof long_read, CORRECTOR_INPUT_LENGTH, 0)
         && not_counted(set, SET - 1, long_read, 3, CORRECTOR_SET_LENGTH, 0) && not_counted(wrong, SET, long_read, 3, CORRECTOR_SET_CHECK, 1));
 }
