@@ -9,9 +9,9 @@ use mathlib.Core.List.{List, _++_}
 use lib.Dec.{eqb, leb}
 use lib.ListN.{length, replicate}
 use Rattle.rules.specs.Refusal.{Refusal, accepted, refused, Check, _orElse_, unless}
-use Rattle.rules.specs.Set.{maxKeys}
+use Rattle.rules.specs.Set.{maxKeys, kRight}
 use Rattle.rules.specs.Blocks.{blocksFor, unmade}
-use Rattle.rules.specs.MakeSet.{textLines, textKeys, linesCheck, kRight, textCheck, setWords, setBlocks, makeSet}
+use Rattle.rules.specs.MakeSet.{textLines, textKeys, linesCheck, textCheck, setWords, setBlocks, makeSet}
 use Rattle.rules.proofs.Opened.{passed, unless-passed}
 use Rattle.rules.proofs.Blocks.{blocks-length}
 use Rattle.lay.proofs.Laws.{laid-short, laid-fits}
@@ -74,13 +74,10 @@ module _ (text : List ℕ) (k least : ℕ) where
 -- ---- k
 
 pub k-right : (k : ℕ) → k % 2 ≡ 1 → k ≤ 31 → kRight k ≡ true
-unfolding kRight
 k-right k o h = rw (eq-eqb (k % 2) 1 o, le-leb k 31 h)
 
 pub k-even : (k : ℕ) → k % 2 ≡ 0 → kRight k ≡ false
-unfolding kRight
 k-even k e = rw (ne-eqb (k % 2) 1 (λ o. omega arith))
 
 pub k-large : (k : ℕ) → 31 < k → kRight k ≡ false
-unfolding kRight
 k-large k h = rw (lt-leb k 31 h) (and-false (eqb (k % 2) 1))

@@ -13,9 +13,9 @@ use lib.ListN.{length, getD, take, drop, replicate, length-append, List·getD-ap
 use lib.Seq.{getD-append-add, drop-cons, take-at}
 use Rattle.rules.specs.Letters.{add, addAll, kmer, canonical, evenOnes, revcomp, code}
 use Rattle.rules.specs.Refusal.{Refusal, accepted, refused, Check, _orElse_, unless, atPlace, firstFailing}
-use Rattle.rules.specs.Set.{KmerSet, maxK, maxKeys, word, blockWord, blocks, headerK, headerN, keyWord, keysFrom, setOf, check, lengthRight, checkRight, isNone, headerRight, keyRight, setCheck, opened}
+use Rattle.rules.specs.Set.{KmerSet, maxK, maxKeys, kRight, word, blockWord, blocks, headerK, headerN, keyWord, keysFrom, setOf, check, lengthRight, checkRight, isNone, headerRight, keyRight, setCheck, opened}
 use Rattle.rules.specs.Blocks.{blocksFrom, blocksFor, checkOf, unmade, fits, filled, laidInto}
-use Rattle.rules.specs.MakeSet.{Keys, textLines, kept, keptLines, formRight, lineKey, lineKeys, textKeys, unlessAt, risesFrom, lineCheck, lastKept, linesCheck, setWords, setBlocks, kRight, textCheck, makeSet}
+use Rattle.rules.specs.MakeSet.{Keys, textLines, kept, keptLines, formRight, lineKey, lineKeys, textKeys, unlessAt, risesFrom, lineCheck, lastKept, linesCheck, setWords, setBlocks, textCheck, makeSet}
 use Rattle.rules.proofs.Kmer.{four-pos, add-lt, revcomp-lt, canonical-one}
 use Rattle.rules.proofs.Opened.{both, passed, unless-passed, checked, opened-check, opened-set}
 use Rattle.rules.proofs.Keys.{none-fails, keys-length, keys-at, the-header, spare-zero, checked-keys}
@@ -296,7 +296,6 @@ unfolding lineKey
 line-key-same k line odd = canonical-twice k (kmer k (take k line)) odd (kmer-lt k (take k line))
 
 k-odd-of : (k : ℕ) → kRight k ≡ true → (k % 2 ≡ 1) × (k ≤ maxK)
-unfolding kRight
 k-odd-of k h = go (eqb (k % 2) 1) refl
   where
     go : (t : Bool) → eqb (k % 2) 1 ≡ t → (k % 2 ≡ 1) × (k ≤ maxK)

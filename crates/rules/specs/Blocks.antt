@@ -1,4 +1,4 @@
--- Document 01, "Records", Set, the other way round: a list of words as blocks; and what a maker of blocks answers (document 02, W3 and W7).
+-- Document 01, "Records", Set, the other way round: a list of words as blocks; and what a maker of blocks answers (document 02).
 use Prim.Native.Nat.{ℕ, zero, suc, _+_, _*_, _-_, _/_, _%_, _^_}
 use mathlib.Core.Bool.{Bool, true, false}
 use mathlib.Core.List.{List, [], _∷_, _++_}

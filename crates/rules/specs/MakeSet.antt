@@ -9,7 +9,7 @@ use lib.Seq.{slice}
 use lib.Dec.{eqb, ltb, leb}
 use Rattle.rules.specs.Letters.{kmer, canonical}
 use Rattle.rules.specs.Refusal.{Check, _orElse_, unless}
-use Rattle.rules.specs.Set.{maxK, maxKeys}
+use Rattle.rules.specs.Set.{maxK, maxKeys, kRight}
 use Rattle.rules.specs.Blocks.{blocksFrom, blocksFor, Made, unmade, laidInto}
 
 -- ---- the text's lines
@@ -141,13 +141,9 @@ setBlocks k keys = blocksFrom (setWords k keys) 0 (1 + blocksFor (length keys))
 
 -- ---- the call
 
--- k within 01's limits: odd, from 1 to 31.
-unfoldable pub kRight : ℕ → Bool
-kRight k = eqb (k % 2) 1 && leb k maxK
-
--- 9 for k before any line, 12 and 13 line by line, 9 for too many keys after the last line.
+-- 9 for a k outside 01's limits before any line, 12 and 13 line by line, 9 for too many keys after the last line.
 unfoldable pub textCheck : List ℕ → ℕ → ℕ → Check
-unfolding kRight linesCheck textLines textKeys unless _orElse_
+unfolding linesCheck textLines textKeys unless _orElse_
 textCheck text k least =
     unless (kRight k) 9
     orElse (let c = linesCheck k least 0 none (textLines text) in c)

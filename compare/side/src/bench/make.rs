@@ -27,9 +27,10 @@ fn text(rng: &mut Rng, k: usize) -> Vec<u8> {
     let mut codes = set_file::keys_of(k as u8, (0..kept.min((most / 2) as usize)).map(|_| rng.word() & mask(k))).into_iter();
     let mut text = Vec::with_capacity(LINES * (k + 6));
     for line in 0..LINES {
-        let (code, count) = match (line % PASSED, codes.next()) {
-            (1.., Some(code)) => (code, LEAST as usize + rng.below(5000)),
-            _ => (rng.word() & mask(k), rng.below(LEAST as usize)),
+        let kept = if line % PASSED == 0 { None } else { codes.next() };
+        let (code, count) = match kept {
+            Some(code) => (code, LEAST as usize + rng.below(5000)),
+            None => (rng.word() & mask(k), rng.below(LEAST as usize)),
         };
         text.extend((0..k).rev().map(|place| letter(code >> (2 * place) & 3)));
         let _ = std::io::Write::write_fmt(&mut text, format_args!(",{count}\n"));

@@ -35,10 +35,6 @@ fn main() -> ExitCode {
     let arguments: Vec<String> = std::env::args().skip(1).collect();
     let outcome = match arguments.iter().map(String::as_str).collect::<Vec<_>>()[..] {
         ["--memory", side, set, batch] => memory::run(side, set, batch),
-        ["--make"] | ["--make", "--stand-in"] => {
-            make::measure_all(library());
-            Ok(())
-        }
         _ => bench(&arguments),
     };
     match outcome {
@@ -59,6 +55,7 @@ struct Options {
     errors: Vec<usize>,
     huge: bool,
     split: bool,
+    make: bool,
     folder: Option<String>,
 }
 
@@ -107,6 +104,7 @@ fn options(arguments: &[String]) -> Result<Options, String> {
             "--errors" => options.errors.push(number(value()?)?),
             "--huge" => options.huge = true,
             "--split" => options.split = true,
+            "--make" => options.make = true,
             "--running-time" => count_running_time(),
             "--out" => options.folder = Some(value()?.clone()),
             // Chosen when this was built.
@@ -124,6 +122,10 @@ fn method(name: &str) -> Result<Method, String> {
 
 fn bench(arguments: &[String]) -> Result<(), String> {
     let options = options(arguments)?;
+    if options.make {
+        make::measure_all(library());
+        return Ok(());
+    }
     let results = measure_all(&options);
     let Some(folder) = &options.folder else { return Ok(()) };
     let (chart, folder) = ("benchmark.svg", Path::new(folder));

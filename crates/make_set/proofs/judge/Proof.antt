@@ -1,4 +1,5 @@
 use Prim.Native.Nat.{_-_}
+use native.Mathlib.Omega.{arith}
 use mathlib.Core.Path.{_≡_, sym, _∙_}
 use mathlib.Core.Bool.{true}
 use mathlib.Core.Logic.{⊎-elim}
@@ -81,7 +82,8 @@ add-floor : tie.Need-add-floor Inv-loop μ-loop
 add-floor c =
     let y = c .before in
     let s = y .before .before .before .before .before .before .before .before .before .before .before .before in
-    record { fits = key-fits _ _ _ (s .pre .k-high) (y .line-key .ensures) }
+    let room = key-fits _ _ _ (s .pre .k-high) (y .line-key .ensures) in
+    record { fits = omega (arith, room) }
 
 add-kept : tie.Need-add-kept Inv-loop μ-loop
 add-kept c = search needs

@@ -6,7 +6,8 @@ use mathlib.Core.List.{_++_}
 use lib.ListN.{length, replicate}
 use mathlib.Core.Bool.{true}
 use Rattle.rules.specs.Blocks.{blocksFor}
-use Rattle.rules.specs.MakeSet.{kRight, textKeys, textCheck, setBlocks}
+use Rattle.rules.specs.Set.{kRight}
+use Rattle.rules.specs.MakeSet.{textKeys, textCheck, setBlocks}
 use Rattle.make_set.specs.declared.Judged.the-variants.{Kept}
 use Rattle.make_set.specs.Make.{JudgedAs}
 use Rattle.make_set.proofs.Makes.{is-refused, at-k, at-line, at-keys, at-none, made-refused, made-short, made-blocks, k-right, k-even, k-large}
