@@ -5,7 +5,7 @@
  * The formats of a set, a job, a batch and k-mer counts are in README.md, "Formats".
  *
  * Threads. A call keeps no state and allocates nothing: it reads and writes what it is lent, and nothing else. Any number of threads
- * may call at once. They may share a set, methods and input; output, work, blocks and answer must be each call's own.
+ * may call at once. They may share a set, a job and input; output, work, blocks and answer must be each call's own.
  *
  * Stack. A call keeps its tables on the stack: a thread that calls needs CORRECTOR_STACK bytes of it.
  *
@@ -27,7 +27,7 @@ extern "C" {
 /* Limits; what is beyond them is refused. */
 enum {
     CORRECTOR_MAX_INPUT = 1048576,  /* bytes of a read or a batch */
-    CORRECTOR_MAX_METHODS = 8,
+    CORRECTOR_MAX_ENTRIES = 8,      /* of a job */
     CORRECTOR_MAX_OUTPUT = 1048576, /* bytes */
     CORRECTOR_MAX_WORK = 2097152,   /* bytes */
     CORRECTOR_MAX_LINES = 1024,     /* lines of a batch */
@@ -47,15 +47,25 @@ enum {
 };
 
 /*
+ * A job is bytes, as its file has them: entries of a method byte and its own confirm, which says how many bases behind a correction must
+ * agree, 1 to 255. An array of these, lent by its address and its size in bytes, is a job; so is a file that was read. An entry without
+ * its second byte counts as one with confirm 0. A job of 0 bytes has no methods: reads come out as they went in.
+ */
+struct corrector_entry {
+    uint8_t method;
+    uint8_t confirm;
+};
+
+/*
  * Why a call is refused: what it returns, and number 0 of its answer. Checked upward, so that the least that applies is told;
  * corrector_make_set has an order of its own.
  */
 enum corrector_refusal {
     CORRECTOR_NOT_REFUSED = 0,
     CORRECTOR_INPUT_LENGTH = 1,   /* read or batch over CORRECTOR_MAX_INPUT bytes */
-    CORRECTOR_METHOD_COUNT = 2,   /* over CORRECTOR_MAX_METHODS methods */
-    CORRECTOR_METHOD_UNKNOWN = 3, /* place: its index */
-    CORRECTOR_CONFIRM_ZERO = 4,
+    CORRECTOR_ENTRY_COUNT = 2,    /* over CORRECTOR_MAX_ENTRIES entries */
+    CORRECTOR_METHOD_UNKNOWN = 3, /* place: the first such entry; told before any confirm is looked at */
+    CORRECTOR_CONFIRM_ZERO = 4,   /* place: the first such entry */
     CORRECTOR_BUFFERS = 5,        /* output or work too long, or work shorter than corrector_work_length */
     CORRECTOR_BATCH = 6,          /* not empty without a final byte 10, or over CORRECTOR_MAX_LINES lines */
     CORRECTOR_SET_LENGTH = 7,     /* 0 or not a multiple of 512 */
@@ -114,9 +124,8 @@ uint64_t corrector_open(
     uint64_t *answer, size_t answer_length);
 
 /*
- * Corrects a read by the methods, each of which reads the result of the one before. Returns 0, or the refusal.
+ * Corrects a read by the entries of a job, each of which reads the result of the one before. Returns 0, or the refusal.
  *
- * confirm: how many bases behind a correction must agree, 1 to 255.
  * Afterwards: accepted, the output has the result in its first CORRECTOR_WRITTEN bytes and zeros behind it, and work is all zero;
  * refused with 11, both are all zero; refused otherwise, neither has changed.
  *
@@ -124,8 +133,7 @@ uint64_t corrector_open(
  */
 uint64_t corrector_read(
     const uint8_t *set, size_t set_length,
-    uint8_t confirm,
-    const uint8_t *methods, size_t methods_length,
+    const uint8_t *job, size_t job_length,
     const uint8_t *read, size_t read_length,
     uint8_t *output, size_t output_length,
     uint8_t *work, size_t work_length,
@@ -134,8 +142,7 @@ uint64_t corrector_read(
 /* The same for a batch: lines each ended by byte 10, corrected in turn; so is the output. The numbers are sums over the lines. */
 uint64_t corrector_batch(
     const uint8_t *set, size_t set_length,
-    uint8_t confirm,
-    const uint8_t *methods, size_t methods_length,
+    const uint8_t *job, size_t job_length,
     const uint8_t *batch, size_t batch_length,
     uint8_t *output, size_t output_length,
     uint8_t *work, size_t work_length,

@@ -47,20 +47,14 @@ fn print_case(name: &[u8], answer: Answer, output: &[u8], work: &[u8]) {
     io::write_all(STDOUT_FILENO, b"\n");
 }
 
-fn read_case(name: &[u8], set: &[u8], read: &[u8], output: &mut [u8], work: &mut [u8]) {
-    let answer = job::correct_read(set, 1, b"\x01", read, output, work);
+fn read_case(name: &[u8], set: &[u8], job: &[u8], read: &[u8], output: &mut [u8], work: &mut [u8]) {
+    let answer = job::correct_read(set, job, read, output, work);
     print_case(name, answer, output, work);
 }
 
 fn batch_case(name: &[u8], set: &[u8], batch: &[u8], output: &mut [u8], work: &mut [u8]) {
-    let answer = job::correct_batch(set, 1, b"\x01", batch, output, work);
+    let answer = job::correct_batch(set, b"\x01\x01", batch, output, work);
     print_case(name, answer, output, work);
-}
-
-fn long_read() -> [u8; 1048577]
-    ensures { λ r. ⌜ 1048577 ≡ length r ⌝ }
-{
-    [b'A'; 1048577]
 }
 
 // The sample set: k = 3, keys 6, 23, 51, 58, 60.
@@ -80,18 +74,153 @@ fn sample_set() -> [u8; 1024]
     set
 }
 
-fn long_cases(set: &[u8]) {
-    let read = long_read();
+// A read of the first bytes of `long`, into the first bytes of output and work.
+fn part_case(
+    name: &[u8],
+    set: &[u8],
+    long: &[u8],
+    read: usize,
+    output: &mut [u8],
+    room: usize,
+    work: &mut [u8],
+    rest: usize,
+) {
+    if long.len() < read {
+        return;
+    }
+    if output.len() < room {
+        return;
+    }
+    if work.len() < rest {
+        return;
+    }
+    read_case(
+        name,
+        set,
+        b"\x01\x01",
+        &long[..read],
+        &mut output[..room],
+        &mut work[..rest],
+    );
+}
+
+// Refusal 1.
+fn long_cases(set: &[u8], long: &[u8], output: &mut [u8], work: &mut [u8]) {
+    batch_case(b"batch of 1048577 bytes", set, long, output, work);
+    part_case(
+        b"read of 1048577 bytes",
+        set,
+        long,
+        1048577,
+        output,
+        1048576,
+        work,
+        2097152,
+    );
+}
+
+// Refusal 5, the longest buffers.
+fn buffer_cases(set: &[u8], long: &[u8], output: &mut [u8], work: &mut [u8]) {
+    part_case(
+        b"output of 1048577 bytes",
+        set,
+        long,
+        3,
+        output,
+        1048577,
+        work,
+        2097152,
+    );
+    part_case(
+        b"work of 2097153 bytes",
+        set,
+        long,
+        3,
+        output,
+        1048576,
+        work,
+        2097153,
+    );
+}
+
+// Refusals 1 and 5 at their limits: the last call is accepted, and clears the buffers.
+fn limit_cases(set: &[u8], long: &[u8], output: &mut [u8], work: &mut [u8]) {
+    long_cases(set, long, output, work);
+    buffer_cases(set, long, output, work);
+    part_case(
+        b"read of 1048576 bytes",
+        set,
+        long,
+        1048576,
+        output,
+        1048576,
+        work,
+        2097152,
+    );
+}
+
+fn longest_cases(set: &[u8]) {
+    let long = [b'A'; 1048577];
+    let mut output = [FILL; 1048577];
+    let mut work = [FILL; 2097153];
+    limit_cases(set, &long, &mut output, &mut work);
+}
+
+// Refusal 5, work against twice the longer of output and read.
+fn work_cases(set: &[u8]) {
+    let mut output = [FILL; 8];
+    let mut short_by_output = [FILL; 15];
+    let mut by_output = [FILL; 16];
+    let mut short_by_read = [FILL; 17];
+    let mut by_read = [FILL; 18];
+    read_case(
+        b"work of 15, output of 8",
+        set,
+        b"\x01\x01",
+        b"AAC",
+        &mut output,
+        &mut short_by_output,
+    );
+    read_case(
+        b"work of 17, read of 9",
+        set,
+        b"\x01\x01",
+        b"AACAACAAC",
+        &mut output,
+        &mut short_by_read,
+    );
+    read_case(
+        b"work of 18, read of 9",
+        set,
+        b"\x01\x01",
+        b"AACAACAAC",
+        &mut output,
+        &mut by_read,
+    );
+    read_case(
+        b"work of 16, output of 8",
+        set,
+        b"\x01\x01",
+        b"AAC",
+        &mut output,
+        &mut by_output,
+    );
+}
+
+// Refusal 2; the last call but one has eight entries and half of one.
+fn entry_cases(set: &[u8]) {
     let mut output = [FILL; 8];
     let mut work = [FILL; 16];
-    read_case(b"read of 1048577 bytes", set, &read, &mut output, &mut work);
-    batch_case(
-        b"batch of 1048577 bytes",
+    read_case(b"9 entries", set, &[1; 18], b"AACC", &mut output, &mut work);
+    read_case(
+        b"job of 17 bytes",
         set,
-        &read,
+        &[1; 17],
+        b"AACC",
         &mut output,
         &mut work,
     );
+    read_case(b"8 entries", set, &[1; 16], b"AACC", &mut output, &mut work);
 }
 
 fn line_cases(set: &[u8]) {
@@ -125,7 +254,9 @@ fn key_cases(sample: [u8; 1024]) {
 
 fn main() {
     let set = sample_set();
-    long_cases(&set);
+    longest_cases(&set);
+    work_cases(&set);
+    entry_cases(&set);
     line_cases(&set);
     set_case(b"no set", b"");
     set_case(b"set of 513 bytes", &[0; 513]);

@@ -6,7 +6,7 @@ use mathlib.Core.List.{List, [], _∷_}
 use lib.ListN.{length}
 use Rattle.rules.specs.Refusal.{Outcome}
 use Rattle.rules.specs.Set.{KmerSet, opened}
-use Rattle.rules.specs.Job.{Method}
+use Rattle.rules.specs.Job.{Entry}
 use Rattle.rules.specs.Calls.{After}
 use Rattle.rules.specs.Blocks.{Made}
 use Rattle.refusal.specs.declared.Refusal.{Refusal}
@@ -53,7 +53,7 @@ number-pos : (x : Refusal) → 0 < refusalOf x .number
 number-pos Refusals.Long = omega arith
 number-pos Refusals.Methods = omega arith
 number-pos (Refusals.Method i) = omega arith
-number-pos Refusals.Confirm = omega arith
+number-pos (Refusals.Confirm i) = omega arith
 number-pos Refusals.Buffers = omega arith
 number-pos Refusals.Batch = omega arith
 number-pos Refusals.Length = omega arith
@@ -65,8 +65,8 @@ number-pos (Refusals.Line line) = omega arith
 number-pos (Refusals.NotRising line) = omega arith
 number-pos Refusals.TooShort = omega arith
 
-module _ (set : KmerSet) (c : ℕ) (ms : List Method) (reads : List (List ℕ)) {old new : List ℕ} {r : ℕ} where
-  pub told-ceiling : (a : Answer) → Told (numbersOf (answerOf a)) old r new → Report.Ceiling set c ms reads a → Ceiling set c ms reads r new
+module _ (set : KmerSet) (es : List Entry) (reads : List (List ℕ)) {old new : List ℕ} {r : ℕ} where
+  pub told-ceiling : (a : Answer) → Told (numbersOf (answerOf a)) old r new → Report.Ceiling set es reads a → Ceiling set es reads r new
   unfolding numbersOf
   told-ceiling (Answers.Report x) t h z room =
       let ns : List ℕ = numbersOf (answerOf (Answers.Report x)) in

@@ -6,7 +6,7 @@ use lib.ListN.{length, getD, take, drop}
 use Rattle.rules.specs.Refusal.{Refusal, Outcome, accepted, refused}
 use Rattle.rules.specs.Report.{Report}
 use Rattle.rules.specs.Set.{KmerSet, opened}
-use Rattle.rules.specs.Job.{Method}
+use Rattle.rules.specs.Job.{Entry}
 use Rattle.rules.specs.Counts.{Demand3}
 use Rattle.rules.specs.Calls.{After}
 use Rattle.rules.specs.Solid.{Solids}
@@ -58,8 +58,8 @@ pub record Exact (after : After) (old : List ℕ) (r : ℕ) (o w new : List ℕ)
   pub work : w ≡ after .work
 
 -- Demand 3, of an accepted call: turns and lookups are numbers 3 and 4 of an answer that has so many.
-abbrev pub Ceiling : KmerSet → ℕ → List Method → List (List ℕ) → ℕ → List ℕ → Type 0
-Ceiling set c ms reads r new = r ≡ 0 → 5 ≤ length new → Demand3 set c ms reads (getD new 3 0) (getD new 4 0)
+abbrev pub Ceiling : KmerSet → List Entry → List (List ℕ) → ℕ → List ℕ → Type 0
+Ceiling set es reads r new = r ≡ 0 → 5 ≤ length new → Demand3 set es reads (getD new 3 0) (getD new 4 0)
 
 -- A maker of blocks: its numbers and every byte of the lent buffer are those of the rules.
 pub record MadeExact (made : Made) (old : List ℕ) (r : ℕ) (b new : List ℕ) : Type 0 where

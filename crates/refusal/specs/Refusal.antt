@@ -10,8 +10,8 @@ numbered number place = record { number = number; place = place }
 abbrev pub refusalOf : Refusal → Rules.Refusal
 refusalOf Long = numbered 1 0
 refusalOf Methods = numbered 2 0
-refusalOf (Method index) = numbered 3 index
-refusalOf Confirm = numbered 4 0
+refusalOf (Method entry) = numbered 3 entry
+refusalOf (Confirm entry) = numbered 4 entry
 refusalOf Buffers = numbered 5 0
 refusalOf Batch = numbered 6 0
 refusalOf Length = numbered 7 0

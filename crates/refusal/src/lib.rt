@@ -7,7 +7,7 @@ pub enum Refusal {
     Long,
     Methods,
     Method(usize),
-    Confirm,
+    Confirm(usize),
     Buffers,
     Batch,
     Length,
@@ -27,7 +27,7 @@ pub fn number_of(refusal: Refusal) -> u64
         Refusal::Long => 1,
         Refusal::Methods => 2,
         Refusal::Method(_) => 3,
-        Refusal::Confirm => 4,
+        Refusal::Confirm(_) => 4,
         Refusal::Buffers => 5,
         Refusal::Batch => 6,
         Refusal::Length => 7,
@@ -45,7 +45,8 @@ pub fn place_of(refusal: Refusal) -> u64
     ensures { λ r. ⌜ r ≡ refusalOf refusal .place ⌝ }
 {
     match refusal {
-        Refusal::Method(i) => i as u64,
+        Refusal::Method(entry) => entry as u64,
+        Refusal::Confirm(entry) => entry as u64,
         Refusal::Check(block) => block as u64,
         Refusal::Key(word) => word as u64,
         Refusal::NoRoom(line) => line as u64,
@@ -53,7 +54,6 @@ pub fn place_of(refusal: Refusal) -> u64
         Refusal::NotRising(line) => line as u64,
         Refusal::Long => 0,
         Refusal::Methods => 0,
-        Refusal::Confirm => 0,
         Refusal::Buffers => 0,
         Refusal::Batch => 0,
         Refusal::Length => 0,

@@ -1,4 +1,5 @@
 pub mod Samples
+pub mod Program
 pub mod Kmer
 pub mod Counted
 pub mod Scan
@@ -10,6 +11,7 @@ pub mod Walk
 pub mod Correctors
 pub mod Exactly
 pub mod Opened
+pub mod Job
 pub mod Keys
 pub mod Blocks
 pub mod MakeSet

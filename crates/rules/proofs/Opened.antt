@@ -26,7 +26,7 @@ unfolding unless
 unless-passed true r h = refl
 unless-passed false r h = absurd (let z : _≡_ {A = ℕ} 0 1 = cc in omega arith)
 
-at-none : (r : ℕ) (p : Option ℕ) → atPlace r p ≡ none → p ≡ none
+pub at-none : (r : ℕ) (p : Option ℕ) → atPlace r p ≡ none → p ≡ none
 unfolding atPlace
 at-none r none h = refl
 at-none r (some p) h = absurd (let z : _≡_ {A = ℕ} 0 1 = cc in omega arith)

@@ -105,15 +105,15 @@ unfolding moved
 moved-moves w y = refl
 
 -- the mark after a move: set, or kept
-record Marked (w : Walk) (y : ℕ) : Type 0 where
+record MarkAfter (w : Walk) (y : ℕ) : Type 0 where
   marks : ((suc (w .moves) ≡ w .marks-at) × (moved w y .mark ≡ y) × (moved w y .marks-at ≡ 2 * w .marks-at))
       ⊎ ((suc (w .moves) ≡ w .marks-at → ⊥) × (moved w y .mark ≡ w .mark) × (moved w y .marks-at ≡ w .marks-at))
 
-marked : (w : Walk) (y : ℕ) → Marked w y
+marked : (w : Walk) (y : ℕ) → MarkAfter w y
 unfolding moved
 marked w y = go (eqb (suc (w .moves)) (w .marks-at)) refl
   where
-    go : (b : Bool) → eqb (suc (w .moves)) (w .marks-at) ≡ b → Marked w y
+    go : (b : Bool) → eqb (suc (w .moves)) (w .marks-at) ≡ b → MarkAfter w y
     go true e = record { marks = inl (eqb-true _ _ e, rw (e, moved), rw (e, moved) (omega arith)) }
     go false e = record { marks = inr (eqb-false _ _ e, rw (e, moved), rw (e, moved)) }
 

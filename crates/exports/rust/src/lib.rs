@@ -14,34 +14,29 @@
 //! #     [block(0, &[k, keys.len() as u64]), block(1, keys)].concat()
 //! # }
 //! # let set = set_of(3, &[6, 23, 51, 58, 60]);
+//! use corrector::{Entry, Job, Method};
+//! let entries = [Entry::new(Method::Graph, 1).expect("confirm is not 0")];
 //! let read = b"AACGCCG";
 //! let mut output = [0; 16];
 //! let mut work = vec![0; corrector::work_length(output.len(), read.len())];
-//! let report = corrector::correct_read(&set, 1, &[corrector::GRAPH], read, &mut output, &mut work)?;
+//! let report = corrector::correct_read(&set, Job::new(&entries), read, &mut output, &mut work)?;
 //! assert_eq!(output[..report.written], *b"AACTCCG");
 //! # Ok::<(), corrector::Refusal>(())
 //! ```
 #![deny(missing_docs)]
 #![deny(unsafe_code)]
 
+mod job;
 mod raw;
 mod refusal;
 
+pub use job::{Entry, Job, Method};
 pub use refusal::Refusal;
-
-/// The method One.
-pub const ONE: u8 = 1;
-/// The method Two.
-pub const TWO: u8 = 2;
-/// The method Graph.
-pub const GRAPH: u8 = 3;
-/// The method GapSize.
-pub const GAP_SIZE: u8 = 4;
 
 /// The longest read or batch, in bytes.
 pub const MAX_INPUT: usize = 1_048_576;
-/// The most methods of a job.
-pub const MAX_METHODS: usize = 8;
+/// The most entries of a job.
+pub const MAX_ENTRIES: usize = 8;
 /// The longest output, in bytes.
 pub const MAX_OUTPUT: usize = 1_048_576;
 /// The longest work buffer, in bytes.
@@ -100,18 +95,18 @@ pub fn open(set: &[u8]) -> Result<Set, Refusal> {
     }
 }
 
-/// Corrects a read by the methods, each of which reads the result of the one before. At least `confirm` bases behind a correction must agree.
+/// Corrects a read by the job's entries, each of which reads the result of the one before and has its own confirm.
 ///
 /// Accepted, `output` has the result in its first [`written`](Report::written) bytes and zeros behind it, and `work` is all zero. Refused
 /// with [`Refusal::NoRoom`], both are all zero; refused otherwise, neither has changed. The set is checked at each call, so many reads are
 /// better sent as a batch.
-pub fn correct_read(set: &[u8], confirm: u8, methods: &[u8], read: &[u8], output: &mut [u8], work: &mut [u8]) -> Result<Report, Refusal> {
-    answer(raw::correct(raw::Call::Read, raw::Lent { set, confirm, methods, input: read, output, work }))
+pub fn correct_read(set: &[u8], job: Job<'_>, read: &[u8], output: &mut [u8], work: &mut [u8]) -> Result<Report, Refusal> {
+    answer(raw::correct(raw::Call::Read, raw::Lent { set, job: job.as_bytes(), input: read, output, work }))
 }
 
 /// Corrects a batch, lines each ended by byte 10, as [`correct_read`] does a read. The output is lines too.
-pub fn correct_batch(set: &[u8], confirm: u8, methods: &[u8], batch: &[u8], output: &mut [u8], work: &mut [u8]) -> Result<Report, Refusal> {
-    answer(raw::correct(raw::Call::Batch, raw::Lent { set, confirm, methods, input: batch, output, work }))
+pub fn correct_batch(set: &[u8], job: Job<'_>, batch: &[u8], output: &mut [u8], work: &mut [u8]) -> Result<Report, Refusal> {
+    answer(raw::correct(raw::Call::Batch, raw::Lent { set, job: job.as_bytes(), input: batch, output, work }))
 }
 
 /// The k-mers of a read, and the solid ones among them. A read that is shorter than k has none.
