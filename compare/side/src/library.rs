@@ -15,7 +15,7 @@ pub trait Library: Sync {
     /// The set file made from k-mer counts as text: the length of the blocks in bytes, or a refusal.
     fn make_set(&self, text: &[u8], k: u64, least: u64, blocks: &mut [u8]) -> Result<u64, Refusal>;
 
-    /// How many of a read's k-mers are solid, asked one after the other: the floor of the benchmark, where there is an entry for it.
+    /// How many of a read's k-mers are solid, asked one after the other: the plain loop of the benchmark, where there is an entry for it.
     fn count_solid(&self, _set: &[u8], _read: &[u8]) -> Option<u64> {
         None
     }

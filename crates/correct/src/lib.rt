@@ -58,7 +58,9 @@ fn turns_of(
         r ⌝ }
 {
     let mut p = first;
+    let mut ahead = scan::first_ahead(head.n, read.len());
     while p.at < read.len() {
+        ahead = scan::read_on(set, starts, head, p.kmer, read, p.at, ahead);
         let Turned::To(next) = turn::turn(set, starts, head, method, c, p, read, out) else {
             return Pass::Full;
         };

@@ -1,17 +1,9 @@
-use Prim.Native.Nat.{ℕ, _-_, _<_}
-use native.Mathlib.Omega.{arith}
-use native.Mathlib.Nat.{le-of-eq}
-use mathlib.Core.Path.{_≡_, sym, _∙_, subst}
+use Prim.Native.Nat.{ℕ}
+use mathlib.Core.Path.{sym, _∙_, subst}
 use mathlib.Core.List.{List, []}
 use borrow.Author.Needs.{needs}
 use borrow.Author.Tests.{not-true, not-false}
-use lib.ListN.{length, getD, take, drop, length-drop}
-use lib.Seq.{take-all}
-use Rattle.rules.specs.Calls.{correctBatch}
-use Rattle.rules.specs.Program.{zeros, printedFor, printed}
-use Rattle.report.specs.Answer.{given}
 use Rattle.page.specs.Page.{Page}
-use Rattle.program.specs.Files.{filesOf}
 use Rattle.page.proofs.Text.{cleared-page}
 use Rattle.program.proofs.Files.{prints-bad-file, prints-answer}
 use Rattle.program.proofs.printed.Statement.{statement}
@@ -45,11 +37,11 @@ returns c =
     (c .put .ensures .1 [] (empty t))
 
 put-answer-requires : tie.Need-put-answer-requires
-put-answer-requires c κs = empty (c .before)
+put-answer-requires c κs = empty (c .before .before)
 
 returns-2 : tie.Need-returns-2
 returns-2 c =
-    let i = c .before in
+    let i = c .before .before in
     let t = i .before in
     let a = start t .args in
     subst (λ (x : List ℕ). Page x (c .put-answer .result) (c .put-answer .last .1 .1 .1 .0))
