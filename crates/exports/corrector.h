@@ -2,16 +2,16 @@
  * The read corrector for C and C++ on x86-64 Linux: link libexports.a, which `rt staticlib exports` writes.
  *
  * Every call is proved to answer what the rules of crates/rules say and to leave every lent byte as they say, whatever it is given.
- * The formats of a set, a job and a batch are in README.md, "Formats".
+ * The formats of a set, a job, a batch and k-mer counts are in README.md, "Formats".
  *
  * Threads. A call keeps no state and allocates nothing: it reads and writes what it is lent, and nothing else. Any number of threads
- * may call at once. They may share a set, a job and input; output, work and answer must be each call's own.
+ * may call at once. They may share a set, a job and input; output, work, blocks and answer must be each call's own.
  *
  * Stack. A call keeps its tables on the stack: a thread that calls needs CORRECTOR_STACK bytes of it.
  *
  * Slices. A slice is a pointer and a count of elements. As for Rust's slices, the pointer must not be null and must be aligned for its
- * elements, also where the count is 0, and every element must be initialised, those of output and work too. `output`, `work` and `answer`
- * may overlap neither each other nor anything that is lent as const, and until the call returns nothing else may write to what is lent:
+ * elements, also where the count is 0, and every element must be initialised, those of output, work and blocks too. `output`, `work`, `blocks`
+ * and `answer` may overlap neither each other nor anything that is lent as const, and until the call returns nothing else may write to what is lent:
  * a file that is mapped must not be changed or cut meanwhile. Nothing checks this.
  */
 #ifndef CORRECTOR_H
@@ -56,7 +56,10 @@ struct corrector_entry {
     uint8_t confirm;
 };
 
-/* Why a call is refused: what it returns, and number 0 of its answer. Checked upward, so that the least that applies is told. */
+/*
+ * Why a call is refused: what it returns, and number 0 of its answer. Checked upward, so that the least that applies is told;
+ * corrector_make_set has an order of its own.
+ */
 enum corrector_refusal {
     CORRECTOR_NOT_REFUSED = 0,
     CORRECTOR_INPUT_LENGTH = 1,   /* read or batch over CORRECTOR_MAX_INPUT bytes */
@@ -69,7 +72,10 @@ enum corrector_refusal {
     CORRECTOR_SET_CHECK = 8,      /* a wrong check word; place: the first such block */
     CORRECTOR_SET_HEADER = 9,     /* k, n, a header word or the number of blocks */
     CORRECTOR_SET_KEY = 10,       /* a key or a spare word; place: its index among the words of the key blocks */
-    CORRECTOR_NO_ROOM = 11        /* a result does not fit the output; place: the line, 0 for a single read */
+    CORRECTOR_NO_ROOM = 11,       /* a result does not fit the output; place: the line, 0 for a single read */
+    CORRECTOR_LINE = 12,          /* a line of counts breaks the form; place: the line */
+    CORRECTOR_NOT_RISING = 13,    /* the canonical code of a kept line doesn't rise; place: the line */
+    CORRECTOR_TOO_SHORT = 14      /* the buffer is too short for the blocks */
 };
 
 /*
@@ -87,6 +93,9 @@ enum {
     CORRECTOR_KMERS = 2, /* of the read */
     CORRECTOR_SOLID = 3, /* those of them that are solid */
     CORRECTOR_SOLID_NUMBERS = 4, /* how many there are */
+    /* corrector_make_set */
+    CORRECTOR_LENGTH = 2, /* of the blocks, in bytes */
+    CORRECTOR_MADE_NUMBERS = 3, /* how many there are */
     /* corrector_read and corrector_batch */
     CORRECTOR_WRITTEN = 2, /* bytes of the output */
     CORRECTOR_TURNS = 3,
@@ -101,6 +110,12 @@ enum {
 static inline size_t corrector_work_length(size_t output_length, size_t input_length)
 {
     return 2 * (output_length < input_length ? input_length : output_length);
+}
+
+/* The length of a set of n keys, in bytes. */
+static inline size_t corrector_set_length(size_t n)
+{
+    return 512 * (1 + (n + 62) / 63);
 }
 
 /* Whether a set is right, with its k and its number of keys n. Returns 0, or refusal 7 to 10. */
@@ -137,6 +152,21 @@ uint64_t corrector_batch(
 uint64_t corrector_count_solid(
     const uint8_t *set, size_t set_length,
     const uint8_t *read, size_t read_length,
+    uint64_t *answer, size_t answer_length);
+
+/*
+ * Makes a set from k-mer counts as text: lines of k letters A, C, G, T, a comma, a count of 1 to 10 digits, and byte 10. Lines whose count is
+ * below `least` are passed over; the canonical codes of the others must rise strictly, in the order of the lines. A text of any length is
+ * taken; nothing else limits it.
+ *
+ * Returns 0, or a refusal: 9 for a k that is not odd from 1 to 31; then line by line 12, and 13 for a line that is kept; then 9 for over
+ * CORRECTOR_MAX_KEYS kept lines; then 14. Accepted, the set stands in the first CORRECTOR_LENGTH bytes of `blocks`, with zeros behind it;
+ * refused, `blocks` has not changed. corrector_set_length says how many bytes n kept lines take.
+ */
+uint64_t corrector_make_set(
+    const uint8_t *text, size_t text_length,
+    uint64_t k, uint64_t least,
+    uint8_t *blocks, size_t blocks_length,
     uint64_t *answer, size_t answer_length);
 
 #ifdef __cplusplus

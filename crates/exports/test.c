@@ -350,6 +350,63 @@ static void test_count(const uint8_t *set)
         && not_counted(set, SET - 1, long_read, 3, CORRECTOR_SET_LENGTH, 0) && not_counted(wrong, SET, long_read, 3, CORRECTOR_SET_CHECK, 1));
 }
 
+/* ---- a set made from text: the sample set's keys, in the order of their codes */
+
+static const char counts_text[] = "ACT,9\nCCG,4\nCTC,7\nAAC,5\nTCC,0000000008\n";
+
+enum { ROOM = SET + 8 };
+
+static int makes(const char *text, uint64_t k, uint64_t least, const uint8_t *set, size_t length)
+{
+    uint8_t blocks[ROOM];
+    uint64_t answer[CORRECTOR_MADE_NUMBERS];
+    memset(blocks, FILL, ROOM);
+    uint64_t number = corrector_make_set((const uint8_t *)text, strlen(text), k, least, blocks, ROOM, answer, CORRECTOR_MADE_NUMBERS);
+    return number == 0 && answer[CORRECTOR_NUMBER] == 0 && answer[CORRECTOR_PLACE] == 0 && answer[CORRECTOR_LENGTH] == length
+        && memcmp(blocks, set, length) == 0 && all(blocks + length, ROOM - length, 0);
+}
+
+static int not_made(const char *text, uint64_t k, uint64_t least, size_t room, uint64_t refusal, uint64_t place)
+{
+    uint8_t blocks[ROOM];
+    uint64_t answer[CORRECTOR_MADE_NUMBERS];
+    memset(blocks, FILL, ROOM);
+    uint64_t number = corrector_make_set((const uint8_t *)text, strlen(text), k, least, blocks, room, answer, CORRECTOR_MADE_NUMBERS);
+    return number == refusal && answer[CORRECTOR_NUMBER] == refusal && answer[CORRECTOR_PLACE] == place && answer[CORRECTOR_LENGTH] == 0
+        && all(blocks, ROOM, FILL);
+}
+
+static int short_made(const char *text, const uint64_t *whole)
+{
+    for (size_t length = 0; length <= 5; length++) {
+        uint8_t blocks[SET];
+        uint64_t answer[8];
+        for (size_t i = 0; i < 8; i++)
+            answer[i] = KEPT;
+        memset(blocks, FILL, SET);
+        if (corrector_make_set((const uint8_t *)text, strlen(text), 3, 1, blocks, SET, answer, length) != whole[0]
+            || !starts_alike(answer, length, whole, CORRECTOR_MADE_NUMBERS, 8))
+            return 0;
+    }
+    return 1;
+}
+
+static void test_make(const uint8_t *set)
+{
+    static const uint64_t made[] = {0, 0, SET}, falls[] = {13, 1, 0};
+    uint8_t none[BLOCK] = {3};
+    put_word(none, 63, 4);
+    check("a set from text", makes(counts_text, 3, 1, set, SET) && corrector_set_length(5) == SET);
+    check("no keys", makes("", 3, 0, none, BLOCK) && makes(counts_text, 3, 10, none, BLOCK) && makes(counts_text, 3, UINT64_MAX, none, BLOCK));
+    check("9 for k", not_made("A", 2, 1, 0, CORRECTOR_SET_HEADER, 0) && not_made("A", 33, 1, 0, CORRECTOR_SET_HEADER, 0)
+        && not_made("A", 4294967299, 1, 0, CORRECTOR_SET_HEADER, 0));
+    check("12", not_made("A", 3, 1, 0, CORRECTOR_LINE, 0) && not_made("ACT,9\nACT,99", 3, 1, 0, CORRECTOR_LINE, 1)
+        && not_made("ACT,9\nCCg,1\n", 3, 5, 0, CORRECTOR_LINE, 1) && not_made("ACT,00000000009\n", 3, 1, 0, CORRECTOR_LINE, 0));
+    check("13", not_made("CCG,4\nACT,9\nA\n", 3, 1, 0, CORRECTOR_NOT_RISING, 1) && not_made("ACT,4\nAGT,9\n", 3, 1, 0, CORRECTOR_NOT_RISING, 1));
+    check("14", not_made(counts_text, 3, 1, SET - 1, CORRECTOR_TOO_SHORT, 0) && not_made("", 3, 1, 0, CORRECTOR_TOO_SHORT, 0));
+    check("answers of make_set", short_made(counts_text, made) && short_made("CCG,4\nACT,9\n", falls));
+}
+
 /* ---- threads: the set is shared, the buffers are each thread's own, and its stack is what the header asks for */
 
 static struct done alone[SAMPLES];
@@ -398,6 +455,7 @@ int main(void)
     test_no_room(set);
     test_answers(set);
     test_count(set);
+    test_make(set);
     test_threads(set);
     printf("%d passed, %d failed\n", passed, failed);
     return failed != 0;

@@ -22,6 +22,10 @@ impl Library for Linked {
         call(set, corrector::Job::from_bytes(&job.entries), &job.input, output, work).map(report).map_err(refusal)
     }
 
+    fn make_set(&self, text: &[u8], k: u64, least: u64, blocks: &mut [u8]) -> Result<u64, Refusal> {
+        corrector::make_set(text, k, least, blocks).map(|length| length as u64).map_err(refusal)
+    }
+
     fn count_solid(&self, set: &[u8], read: &[u8]) -> Option<u64> {
         Some(corrector::count_solid(set, read).expect("a set that opens").solid)
     }

@@ -6,6 +6,7 @@ use crate::rng::Rng;
 use crate::set_file;
 
 pub mod damage;
+pub mod make;
 pub mod reads;
 pub mod sets;
 

@@ -18,6 +18,7 @@ pub mod cases;
 pub mod check;
 pub mod library;
 pub mod list;
+pub mod make;
 pub mod oracle;
 pub mod referee;
 pub mod rng;

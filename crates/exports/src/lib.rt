@@ -1,6 +1,7 @@
 // The calls of documents 01 and 02 for C and Rust: a slice passes as pointer and length, and what a call answers stands as numbers in a lent slice.
 // corrector.h says the same for a host.
 use blocks::Opened;
+use make_set::Made;
 use refusal::Refusal;
 use report::Answer;
 use solid::Count;
@@ -12,10 +13,12 @@ ghost use Rattle.rules.specs.Set.{setOf, opened};
 ghost use Rattle.rules.specs.Job.{entriesOf, lines};
 ghost use Rattle.rules.specs.Calls.{correctRead, correctBatch};
 ghost use Rattle.rules.specs.Solid.{countSolid};
+ghost use Rattle.rules.specs.MakeSet.{makeSet};
 ghost use Rattle.refusal.specs.Refusal.{refusalOf};
 ghost use Rattle.report.specs.Answer.{given, answerOf};
 ghost use Rattle.solid.specs.Solid.{countOf};
-ghost use Rattle.exports.specs.Numbers.{numbersOf, refusedNumbers, openNumbers, OpenNumbers, solidNumbers, Told, Exact, Ceiling};
+ghost use Rattle.make_set.specs.Make.{outcomeOf};
+ghost use Rattle.exports.specs.Numbers.{numbersOf, refusedNumbers, openNumbers, OpenNumbers, solidNumbers, madeNumbers, Told, Exact, Ceiling, MadeExact};
 
 // The numbers of a call.
 fn numbers_of(answer: Answer) -> [u64; 8]
@@ -74,6 +77,16 @@ fn solid_numbers(count: Count) -> [u64; 4]
     match count {
         Count::Solid(kmers, solid) => [0, 0, kmers, solid],
         Count::Refused(refusal) => refused_numbers(refusal),
+    }
+}
+
+// The numbers of a maker of blocks.
+fn made_numbers(made: Made) -> [u64; 3]
+    ensures { λ r. ⌜ r ≡ madeNumbers (outcomeOf made) ⌝ }
+{
+    match made {
+        Made::Blocks(length) => [0, 0, length as u64],
+        Made::Refused(reason) => [refusal::number_of(reason), refusal::place_of(reason), 0],
     }
 }
 
@@ -150,5 +163,20 @@ pub extern "C" fn corrector_count_solid(set: &[u8], read: &[u8], answer: &mut [u
     ensures { λ r. ⌜ Told (solidNumbers (countSolid (now (set .entry)) (now (read .entry)))) (now (answer .entry)) r (now (answer .exit)) ⌝ }
 {
     let numbers = solid_numbers(solid::count_solid(set, read));
+    tell(&numbers, answer)
+}
+
+// The set file made from k-mer counts as text. Refusals 9 and 12 to 14, which leave the blocks as they are.
+#[no_mangle]
+pub extern "C" fn corrector_make_set(
+    text: &[u8],
+    k: u64,
+    least: u64,
+    blocks: &mut [u8],
+    answer: &mut [u64],
+) -> u64
+    ensures { λ r. ⌜ MadeExact (makeSet (now (text .entry)) k least (now (blocks .entry))) (now (answer .entry)) r (now (blocks .exit)) (now (answer .exit)) ⌝ }
+{
+    let numbers = made_numbers(make_set::make_set(text, k, least, blocks));
     tell(&numbers, answer)
 }

@@ -95,6 +95,19 @@ pub fn mask(k: usize) -> u64
     MASK_LOOKUP[k]
 }
 
+pub fn header_of(k: usize, n: usize, shift: u32) -> Header
+    requires { ⌜ (1 ≤ k) × (k ≤ 31) ⌝ }
+    ensures { λ r. ⌜ Shifts r × (r .k ≡ k) × (r .n ≡ n) × (r .shift ≡ shift) ⌝ }
+{
+    Header {
+        k,
+        n,
+        mask: mask(k),
+        top: mask(k - 1) + 1,
+        shift,
+    }
+}
+
 // The first letter out at the mask, another in at the end.
 fn shift_in(code: u64, nuc: u64, head: Header) -> u64
     requires { ⌜ Shifts head × (code < 4 ^ head .k) × (nuc < 4) ⌝ }

@@ -15,6 +15,9 @@ pub enum Refusal {
     Header,
     Key(usize),
     NoRoom(usize),
+    Line(usize),
+    NotRising(usize),
+    TooShort,
 }
 
 pub fn number_of(refusal: Refusal) -> u64
@@ -32,6 +35,9 @@ pub fn number_of(refusal: Refusal) -> u64
         Refusal::Header => 9,
         Refusal::Key(_) => 10,
         Refusal::NoRoom(_) => 11,
+        Refusal::Line(_) => 12,
+        Refusal::NotRising(_) => 13,
+        Refusal::TooShort => 14,
     }
 }
 
@@ -44,11 +50,14 @@ pub fn place_of(refusal: Refusal) -> u64
         Refusal::Check(block) => block as u64,
         Refusal::Key(word) => word as u64,
         Refusal::NoRoom(line) => line as u64,
+        Refusal::Line(line) => line as u64,
+        Refusal::NotRising(line) => line as u64,
         Refusal::Long => 0,
         Refusal::Methods => 0,
         Refusal::Buffers => 0,
         Refusal::Batch => 0,
         Refusal::Length => 0,
         Refusal::Header => 0,
+        Refusal::TooShort => 0,
     }
 }

@@ -11,8 +11,7 @@ use lib.ListN.{length, getD}
 use Rattle.rules.specs.Refusal.{Check, _orElse_, unless, atPlace, firstFailing}
 use Rattle.rules.specs.Job.{known, methodByte, confirmByte, entryCount, lines}
 use Rattle.rules.specs.Calls.{maxRead, maxMethods, maxOutput, maxWork, maxLines, buffersRight, inputCheck, batchRight}
-use Rattle.blocks.proofs.Tests.{both as and-true}
-use Rattle.rules.proofs.Opened.{passed, unless-passed, at-none}
+use Rattle.rules.proofs.Opened.{both as and-true, passed, unless-passed, at-none}
 use Rattle.rules.proofs.Job.{confirmed}
 use Rattle.input.specs.Input.{Within}
 

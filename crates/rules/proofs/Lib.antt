@@ -12,4 +12,8 @@ pub mod Correctors
 pub mod Exactly
 pub mod Opened
 pub mod Job
+pub mod Keys
+pub mod Blocks
+pub mod MakeSet
+pub mod MakeSamples
 pub mod Demands

@@ -1,8 +1,9 @@
 -- Document 01, "Sample reads": its set and its reads marked *; document 02, W1: jobs of several entries.
-use Prim.Native.Nat.{ℕ, zero, suc, _/_, _%_}
+use Prim.Native.Nat.{ℕ}
 use mathlib.Core.List.{List, [], _∷_, _++_}
 use lib.ListN.{replicate}
 use Rattle.rules.specs.Set.{KmerSet}
+use Rattle.rules.specs.Blocks.{bytesOf}
 use Rattle.rules.specs.Job.{Method, One, Two, Graph, GapSize}
 
 abbrev pub A : ℕ
@@ -32,11 +33,6 @@ AACTCCG = A ∷ A ∷ C ∷ T ∷ C ∷ C ∷ G ∷ []
 -- k = 3, keys 6, 23, 51, 58, 60.
 unfoldable pub sampleSet : KmerSet
 sampleSet = record { k = 3; keys = 6 ∷ 23 ∷ 51 ∷ 58 ∷ 60 ∷ [] }
-
--- The m bytes of a number, lowest first.
-unfoldable pub bytesOf : ℕ → ℕ → List ℕ
-bytesOf zero w = []
-bytesOf (suc m) w = w % 256 ∷ bytesOf m (w / 256)
 
 -- 64-bit words as bytes.
 unfoldable pub wordBytes : List ℕ → List ℕ

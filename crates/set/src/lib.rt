@@ -113,13 +113,7 @@ fn header(k: usize, n: usize, bits: usize) -> Header
     requires { ⌜ (1 ≤ k) × (k ≤ maxK) × (bits ≤ 2 * k) ⌝ }
     ensures { λ r. ⌜ Shifts r × (r .k ≡ k) × (r .n ≡ n) × (r .shift ≡ 2 * k - bits) ⌝ }
 {
-    Header {
-        k,
-        n,
-        mask: kmer::mask(k),
-        top: kmer::mask(k - 1) + 1,
-        shift: (2 * k - bits) as u32,
-    }
+    kmer::header_of(k, n, (2 * k - bits) as u32)
 }
 
 fn clear(starts: &mut [u32], entries: usize)

@@ -8,4 +8,5 @@ pub mod calls;
 pub mod correctors;
 pub mod driver;
 pub mod letters;
+pub mod make;
 pub mod set;

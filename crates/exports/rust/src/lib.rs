@@ -44,6 +44,9 @@ pub const MAX_WORK: usize = 2_097_152;
 /// The most lines of a batch.
 pub const MAX_LINES: usize = 1_024;
 
+/// The most keys of a set.
+pub const MAX_KEYS: usize = 16_777_216;
+
 /// What the header of a set says.
 #[derive(Clone, Copy, Debug, PartialEq, Eq)]
 pub struct Set {
@@ -111,6 +114,32 @@ pub fn count_solid(set: &[u8], read: &[u8]) -> Result<Count, Refusal> {
     match raw::count_solid(set, read) {
         [0, _, kmers, solid] => Ok(Count { kmers, solid }),
         [number, place, ..] => Err(Refusal::from_numbers(number, place)),
+    }
+}
+
+/// The length of a set of n keys, in bytes.
+pub fn set_length(n: usize) -> usize {
+    512 * (1 + n.div_ceil(63))
+}
+
+/// Makes a set from k-mer counts as text: lines of k letters A, C, G, T, a comma, a count of 1 to 10 digits, and byte 10. Lines whose count is
+/// below `least` are passed over. The canonical codes of the others must rise strictly, in the order of the lines; README.md says how a text is
+/// brought into that order.
+///
+/// Accepted, `blocks` has the set in its first bytes, as many as the call answers, and zeros behind them; [`set_length`] of the lines' number is
+/// always enough. Refused, `blocks` has not changed: with [`Refusal::SetHeader`] k is not odd from 1 to 31 or over [`MAX_KEYS`] lines are kept.
+///
+/// ```
+/// let text = b"ACT,9\nCCG,4\nCTC,7\nAAC,5\nTCC,8\n";
+/// let mut blocks = vec![0; corrector::set_length(5)];
+/// let length = corrector::make_set(text, 3, 5, &mut blocks)?;
+/// assert_eq!(corrector::open(&blocks[..length])?, corrector::Set { k: 3, n: 4 });
+/// # Ok::<(), corrector::Refusal>(())
+/// ```
+pub fn make_set(text: &[u8], k: u64, least: u64, blocks: &mut [u8]) -> Result<usize, Refusal> {
+    match raw::make_set(text, k, least, blocks) {
+        [0, _, length] => Ok(length as usize),
+        [number, place, _] => Err(Refusal::from_numbers(number, place)),
     }
 }
 

@@ -17,6 +17,9 @@ extern "C" {
     fn corrector_count_solid(
         set: *const u8, set_length: usize, read: *const u8, read_length: usize, answer: *mut u64, answer_length: usize,
     ) -> u64;
+    fn corrector_make_set(
+        text: *const u8, text_length: usize, k: u64, least: u64, blocks: *mut u8, blocks_length: usize, answer: *mut u64, answer_length: usize,
+    ) -> u64;
 }
 
 /// What a read or a batch call is lent, but for its answer.
@@ -84,5 +87,15 @@ pub fn count_solid(set: &[u8], read: &[u8]) -> [u64; 4] {
     let mut answer = [0; 4];
     // SAFETY: each pointer and length are a live slice's, and `answer` is lent to this call alone.
     unsafe { corrector_count_solid(set.as_ptr(), set.len(), read.as_ptr(), read.len(), answer.as_mut_ptr(), answer.len()) };
+    answer
+}
+
+/// Number, place, length of the blocks.
+pub fn make_set(text: &[u8], k: u64, least: u64, blocks: &mut [u8]) -> [u64; 3] {
+    let mut answer = [0; 3];
+    // SAFETY: each pointer and length are a live slice's; `blocks` and `answer` are lent to this call alone.
+    unsafe {
+        corrector_make_set(text.as_ptr(), text.len(), k, least, blocks.as_mut_ptr(), blocks.len(), answer.as_mut_ptr(), answer.len());
+    }
     answer
 }

@@ -2,7 +2,8 @@
 use std::error::Error;
 use std::fmt::{Display, Formatter, Result};
 
-/// Why a call is refused. Checked in this order: the first that applies is told. Places count from 0.
+/// Why a call is refused. Checked in this order: the first that applies is told; [`make_set`](crate::make_set) has an order of its own. Places
+/// count from 0.
 #[derive(Clone, Copy, Debug, PartialEq, Eq)]
 pub enum Refusal {
     /// 1: the read or batch is longer than [`MAX_INPUT`](crate::MAX_INPUT) bytes.
@@ -42,6 +43,18 @@ pub enum Refusal {
         /// The line of the batch; 0 for a single read.
         line: usize,
     },
+    /// 12: a line of k-mer counts breaks the form.
+    Line {
+        /// The line of the text.
+        line: usize,
+    },
+    /// 13: the canonical code of a kept line of k-mer counts does not rise.
+    NotRising {
+        /// The line of the text.
+        line: usize,
+    },
+    /// 14: the buffer is too short for the blocks.
+    TooShort,
 }
 
 impl Refusal {
@@ -60,11 +73,14 @@ impl Refusal {
             9 => Self::SetHeader,
             10 => Self::SetKey { word: place },
             11 => Self::NoRoom { line: place },
-            _ => unreachable!("the library refuses by 1 to 11"),
+            12 => Self::Line { line: place },
+            13 => Self::NotRising { line: place },
+            14 => Self::TooShort,
+            _ => unreachable!("the library refuses by 1 to 14"),
         }
     }
 
-    /// The number, 1 to 11.
+    /// The number, 1 to 14.
     pub fn number(self) -> u8 {
         match self {
             Self::InputLength => 1,
@@ -78,17 +94,18 @@ impl Refusal {
             Self::SetHeader => 9,
             Self::SetKey { .. } => 10,
             Self::NoRoom { .. } => 11,
+            Self::Line { .. } => 12,
+            Self::NotRising { .. } => 13,
+            Self::TooShort => 14,
         }
     }
 
     /// The place: an entry, a block, a word or a line; 0 for a refusal that has none.
     pub fn place(self) -> usize {
         match self {
-            Self::MethodUnknown { index: place }
-            | Self::ConfirmZero { index: place }
-            | Self::SetCheck { block: place }
-            | Self::SetKey { word: place }
-            | Self::NoRoom { line: place } => place,
+            Self::MethodUnknown { index: place } | Self::ConfirmZero { index: place } => place,
+            Self::SetCheck { block: place } | Self::SetKey { word: place } => place,
+            Self::NoRoom { line: place } | Self::Line { line: place } | Self::NotRising { line: place } => place,
             _ => 0,
         }
     }
@@ -108,6 +125,9 @@ impl Display for Refusal {
             Self::SetHeader => write!(to, "the set's header is wrong"),
             Self::SetKey { word } => write!(to, "word {word} of the set's keys is wrong"),
             Self::NoRoom { line } => write!(to, "the result of line {line} does not fit the output"),
+            Self::Line { line } => write!(to, "line {line} of the counts breaks the form"),
+            Self::NotRising { line } => write!(to, "the code of line {line} of the counts does not rise"),
+            Self::TooShort => write!(to, "the buffer is too short for the blocks"),
         }
     }
 }
