@@ -1,4 +1,5 @@
 pub mod Calls
 pub mod Exact
+pub mod Yield
 pub mod Totals
 pub mod Within

@@ -10,4 +10,5 @@ pub mod Walk
 pub mod Correctors
 pub mod Exactly
 pub mod Opened
+pub mod Report
 pub mod Demands
