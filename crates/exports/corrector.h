@@ -2,16 +2,16 @@
  * The read corrector for C and C++ on x86-64 Linux: link libexports.a, which `rt staticlib exports` writes.
  *
  * Every call is proved to answer what the rules of crates/rules say and to leave every lent byte as they say, whatever it is given.
- * The formats of a set, a job and a batch are in README.md, "Formats".
+ * The formats of a set, a job, a batch and k-mer counts are in README.md, "Formats".
  *
  * Threads. A call keeps no state and allocates nothing: it reads and writes what it is lent, and nothing else. Any number of threads
- * may call at once. They may share a set, methods and input; output, work and answer must be each call's own.
+ * may call at once. They may share a set, a job and input; output, work, blocks and answer must be each call's own.
  *
  * Stack. A call keeps its tables on the stack: a thread that calls needs CORRECTOR_STACK bytes of it.
  *
  * Slices. A slice is a pointer and a count of elements. As for Rust's slices, the pointer must not be null and must be aligned for its
- * elements, also where the count is 0, and every element must be initialised, those of output and work too. `output`, `work` and `answer`
- * may overlap neither each other nor anything that is lent as const, and until the call returns nothing else may write to what is lent:
+ * elements, also where the count is 0, and every element must be initialised, those of output, work and blocks too. `output`, `work`, `blocks`
+ * and `answer` may overlap neither each other nor anything that is lent as const, and until the call returns nothing else may write to what is lent:
  * a file that is mapped must not be changed or cut meanwhile. Nothing checks this.
  */
 #ifndef CORRECTOR_H
@@ -27,7 +27,7 @@ extern "C" {
 /* Limits; what is beyond them is refused. */
 enum {
     CORRECTOR_MAX_INPUT = 1048576,  /* bytes of a read or a batch */
-    CORRECTOR_MAX_METHODS = 8,
+    CORRECTOR_MAX_ENTRIES = 8,      /* of a job */
     CORRECTOR_MAX_OUTPUT = 1048576, /* bytes */
     CORRECTOR_MAX_WORK = 2097152,   /* bytes */
     CORRECTOR_MAX_LINES = 1024,     /* lines of a batch */
@@ -46,20 +46,36 @@ enum {
     CORRECTOR_GAP_SIZE = 4
 };
 
-/* Why a call is refused: what it returns, and number 0 of its answer. Checked upward, so that the least that applies is told. */
+/*
+ * A job is bytes, as its file has them: entries of a method byte and its own confirm, which says how many bases behind a correction must
+ * agree, 1 to 255. An array of these, lent by its address and its size in bytes, is a job; so is a file that was read. An entry without
+ * its second byte counts as one with confirm 0. A job of 0 bytes has no methods: reads come out as they went in.
+ */
+struct corrector_entry {
+    uint8_t method;
+    uint8_t confirm;
+};
+
+/*
+ * Why a call is refused: what it returns, and number 0 of its answer. Checked upward, so that the least that applies is told;
+ * corrector_make_set has an order of its own.
+ */
 enum corrector_refusal {
     CORRECTOR_NOT_REFUSED = 0,
     CORRECTOR_INPUT_LENGTH = 1,   /* read or batch over CORRECTOR_MAX_INPUT bytes */
-    CORRECTOR_METHOD_COUNT = 2,   /* over CORRECTOR_MAX_METHODS methods */
-    CORRECTOR_METHOD_UNKNOWN = 3, /* place: its index */
-    CORRECTOR_CONFIRM_ZERO = 4,
+    CORRECTOR_ENTRY_COUNT = 2,    /* over CORRECTOR_MAX_ENTRIES entries */
+    CORRECTOR_METHOD_UNKNOWN = 3, /* place: the first such entry; told before any confirm is looked at */
+    CORRECTOR_CONFIRM_ZERO = 4,   /* place: the first such entry */
     CORRECTOR_BUFFERS = 5,        /* output or work too long, or work shorter than corrector_work_length */
     CORRECTOR_BATCH = 6,          /* not empty without a final byte 10, or over CORRECTOR_MAX_LINES lines */
     CORRECTOR_SET_LENGTH = 7,     /* 0 or not a multiple of 512 */
     CORRECTOR_SET_CHECK = 8,      /* a wrong check word; place: the first such block */
     CORRECTOR_SET_HEADER = 9,     /* k, n, a header word or the number of blocks */
     CORRECTOR_SET_KEY = 10,       /* a key or a spare word; place: its index among the words of the key blocks */
-    CORRECTOR_NO_ROOM = 11        /* a result does not fit the output; place: the line, 0 for a single read */
+    CORRECTOR_NO_ROOM = 11,       /* a result does not fit the output; place: the line, 0 for a single read */
+    CORRECTOR_LINE = 12,          /* a line of counts breaks the form; place: the line */
+    CORRECTOR_NOT_RISING = 13,    /* the canonical code of a kept line doesn't rise; place: the line */
+    CORRECTOR_TOO_SHORT = 14      /* the buffer is too short for the blocks */
 };
 
 /*
@@ -77,6 +93,9 @@ enum {
     CORRECTOR_KMERS = 2, /* of the read */
     CORRECTOR_SOLID = 3, /* those of them that are solid */
     CORRECTOR_SOLID_NUMBERS = 4, /* how many there are */
+    /* corrector_make_set */
+    CORRECTOR_LENGTH = 2, /* of the blocks, in bytes */
+    CORRECTOR_MADE_NUMBERS = 3, /* how many there are */
     /* corrector_read and corrector_batch */
     CORRECTOR_WRITTEN = 2, /* bytes of the output */
     CORRECTOR_TURNS = 3,
@@ -93,15 +112,20 @@ static inline size_t corrector_work_length(size_t output_length, size_t input_le
     return 2 * (output_length < input_length ? input_length : output_length);
 }
 
+/* The length of a set of n keys, in bytes. */
+static inline size_t corrector_set_length(size_t n)
+{
+    return 512 * (1 + (n + 62) / 63);
+}
+
 /* Whether a set is right, with its k and its number of keys n. Returns 0, or refusal 7 to 10. */
 uint64_t corrector_open(
     const uint8_t *set, size_t set_length,
     uint64_t *answer, size_t answer_length);
 
 /*
- * Corrects a read by the methods, each of which reads the result of the one before. Returns 0, or the refusal.
+ * Corrects a read by the entries of a job, each of which reads the result of the one before. Returns 0, or the refusal.
  *
- * confirm: how many bases behind a correction must agree, 1 to 255.
  * Afterwards: accepted, the output has the result in its first CORRECTOR_WRITTEN bytes and zeros behind it, and work is all zero;
  * refused with 11, both are all zero; refused otherwise, neither has changed.
  *
@@ -109,8 +133,7 @@ uint64_t corrector_open(
  */
 uint64_t corrector_read(
     const uint8_t *set, size_t set_length,
-    uint8_t confirm,
-    const uint8_t *methods, size_t methods_length,
+    const uint8_t *job, size_t job_length,
     const uint8_t *read, size_t read_length,
     uint8_t *output, size_t output_length,
     uint8_t *work, size_t work_length,
@@ -119,8 +142,7 @@ uint64_t corrector_read(
 /* The same for a batch: lines each ended by byte 10, corrected in turn; so is the output. The numbers are sums over the lines. */
 uint64_t corrector_batch(
     const uint8_t *set, size_t set_length,
-    uint8_t confirm,
-    const uint8_t *methods, size_t methods_length,
+    const uint8_t *job, size_t job_length,
     const uint8_t *batch, size_t batch_length,
     uint8_t *output, size_t output_length,
     uint8_t *work, size_t work_length,
@@ -130,6 +152,21 @@ uint64_t corrector_batch(
 uint64_t corrector_count_solid(
     const uint8_t *set, size_t set_length,
     const uint8_t *read, size_t read_length,
+    uint64_t *answer, size_t answer_length);
+
+/*
+ * Makes a set from k-mer counts as text: lines of k letters A, C, G, T, a comma, a count of 1 to 10 digits, and byte 10. Lines whose count is
+ * below `least` are passed over; the canonical codes of the others must rise strictly, in the order of the lines. A text of any length is
+ * taken; nothing else limits it.
+ *
+ * Returns 0, or a refusal: 9 for a k that is not odd from 1 to 31; then line by line 12, and 13 for a line that is kept; then 9 for over
+ * CORRECTOR_MAX_KEYS kept lines; then 14. Accepted, the set stands in the first CORRECTOR_LENGTH bytes of `blocks`, with zeros behind it;
+ * refused, `blocks` has not changed. corrector_set_length says how many bytes n kept lines take.
+ */
+uint64_t corrector_make_set(
+    const uint8_t *text, size_t text_length,
+    uint64_t k, uint64_t least,
+    uint8_t *blocks, size_t blocks_length,
     uint64_t *answer, size_t answer_length);
 
 #ifdef __cplusplus

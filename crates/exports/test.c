@@ -1,4 +1,4 @@
-/* The library through corrector.h: document 01's samples, every refusal, answers of every length, and many threads. */
+/* The library through corrector.h: document 01's samples, jobs of several confirms, every refusal, answers of every length, and many threads. */
 #include "corrector.h"
 
 #include <pthread.h>
@@ -45,7 +45,12 @@ static void sample_set(uint8_t *set)
 /* ---- one call on buffers of its own, filled before it */
 
 typedef uint64_t call(
-    const uint8_t *, size_t, uint8_t, const uint8_t *, size_t, const uint8_t *, size_t, uint8_t *, size_t, uint8_t *, size_t, uint64_t *, size_t);
+    const uint8_t *, size_t, const uint8_t *, size_t, const uint8_t *, size_t, uint8_t *, size_t, uint8_t *, size_t, uint64_t *, size_t);
+
+/* A job and its length in bytes: of one entry, of a text, of an array. */
+#define ENTRY(method, confirm) (const uint8_t[]){method, confirm}, 2
+#define JOB(text) (const uint8_t *)(text), sizeof(text) - 1
+#define ENTRIES(array) (const uint8_t *)(array), sizeof(array)
 
 struct done {
     uint64_t number;
@@ -54,13 +59,12 @@ struct done {
     uint8_t work[WORK];
 };
 
-static struct done run(call *entry, const uint8_t *set, uint8_t confirm, const char *methods, const char *input, size_t room)
+static struct done run(call *entry, const uint8_t *set, const uint8_t *job, size_t job_length, const char *input, size_t room)
 {
     struct done done;
     memset(&done, FILL, sizeof done);
     done.number = entry(
-        set, SET, confirm, (const uint8_t *)methods, strlen(methods), (const uint8_t *)input, strlen(input), done.output, room, done.work, WORK,
-        done.answer, CORRECTOR_CALL_NUMBERS);
+        set, SET, job, job_length, (const uint8_t *)input, strlen(input), done.output, room, done.work, WORK, done.answer, CORRECTOR_CALL_NUMBERS);
     return done;
 }
 
@@ -92,24 +96,23 @@ static int refuses(const struct done *done, size_t room, uint64_t number, uint64
 /* ---- document 01, "Sample reads"; -1 where it says no number */
 
 static const struct sample {
-    const char *methods;
-    uint8_t confirm;
+    uint8_t method, confirm;
     const char *read, *result;
     int turns, lookups;
 } samples[] = {
-    {"\1", 1, "AACGC", "AACTC", 2, 12},
-    {"\1", 1, "AACC", "AACTC", 2, 11},
-    {"\1", 1, "AACGTC", "AACTC", -1, -1},
-    {"\1", 1, "AACG", "AACG", -1, -1},
-    {"\1", 1, "AACGCCG", "AACTCCG", -1, 16},
-    {"\2", 1, "AACCG", "AACCG", -1, -1},
-    {"\2", 2, "AACCG", "AACTCCG", -1, -1},
-    {"\3", 1, "AACGCCG", "AACTCCG", 1, 24},
-    {"\3", 1, "AACGC", "AACGC", -1, -1},
-    {"\4", 1, "AACGCCG", "AACTCCG", -1, 19},
-    {"\1", 1, "AA", "AA", 0, 0},
-    {"\1", 1, "", "", 0, 0},
-    {"\1", 1, "AAC", "AAC", 0, 1},
+    {CORRECTOR_ONE, 1, "AACGC", "AACTC", 2, 12},
+    {CORRECTOR_ONE, 1, "AACC", "AACTC", 2, 11},
+    {CORRECTOR_ONE, 1, "AACGTC", "AACTC", -1, -1},
+    {CORRECTOR_ONE, 1, "AACG", "AACG", -1, -1},
+    {CORRECTOR_ONE, 1, "AACGCCG", "AACTCCG", -1, 16},
+    {CORRECTOR_TWO, 1, "AACCG", "AACCG", -1, -1},
+    {CORRECTOR_TWO, 2, "AACCG", "AACTCCG", -1, -1},
+    {CORRECTOR_GRAPH, 1, "AACGCCG", "AACTCCG", 1, 24},
+    {CORRECTOR_GRAPH, 1, "AACGC", "AACGC", -1, -1},
+    {CORRECTOR_GAP_SIZE, 1, "AACGCCG", "AACTCCG", -1, 19},
+    {CORRECTOR_ONE, 1, "AA", "AA", 0, 0},
+    {CORRECTOR_ONE, 1, "", "", 0, 0},
+    {CORRECTOR_ONE, 1, "AAC", "AAC", 0, 1},
 };
 
 enum { SAMPLES = sizeof samples / sizeof samples[0] };
@@ -125,10 +128,10 @@ static int counts(const struct done *done, const struct sample *sample)
 static int sample_right(const uint8_t *set, const struct sample *sample)
 {
     char line[16], result[16];
-    struct done read = run(corrector_read, set, sample->confirm, sample->methods, sample->read, OUTPUT);
+    struct done read = run(corrector_read, set, ENTRY(sample->method, sample->confirm), sample->read, OUTPUT);
     snprintf(line, sizeof line, "%s\n", sample->read);
     snprintf(result, sizeof result, "%s\n", sample->result);
-    struct done batch = run(corrector_batch, set, sample->confirm, sample->methods, line, OUTPUT);
+    struct done batch = run(corrector_batch, set, ENTRY(sample->method, sample->confirm), line, OUTPUT);
     return gives(&read, sample->result) && counts(&read, sample) && gives(&batch, result) && counts(&batch, sample);
 }
 
@@ -136,21 +139,61 @@ static void test_samples(const uint8_t *set)
 {
     for (size_t i = 0; i < SAMPLES; i++)
         check(samples[i].read, sample_right(set, &samples[i]));
-    struct done two = run(corrector_batch, set, 1, "\3", "AACGCCG\nAA\n", OUTPUT);
+    struct done two = run(corrector_batch, set, JOB("\3\1"), "AACGCCG\nAA\n", OUTPUT);
     check("two lines", gives(&two, "AACTCCG\nAA\n") && two.answer[CORRECTOR_TURNS] == 1 && two.answer[CORRECTOR_LOOKUPS] == 24);
-    struct done none = run(corrector_batch, set, 1, "\3", "", OUTPUT);
+    struct done none = run(corrector_batch, set, JOB("\3\1"), "", OUTPUT);
     check("empty batch", gives(&none, ""));
-    struct done list = run(corrector_read, set, 1, "\3\1", "AACGC", OUTPUT);
+}
+
+/* ---- jobs: Two mends AACCG with confirm 2 and not with 1, whichever entry has it */
+
+static void test_jobs(const uint8_t *set)
+{
+    static const struct corrector_entry rising[] = {{CORRECTOR_TWO, 1}, {CORRECTOR_TWO, 2}}, falling[] = {{CORRECTOR_TWO, 2}, {CORRECTOR_TWO, 1}};
+    struct done list = run(corrector_read, set, JOB("\3\1\1\1"), "AACGC", OUTPUT);
     check("two methods", gives(&list, "AACTC"));
+    struct done rise = run(corrector_read, set, ENTRIES(rising), "AACCG", OUTPUT);
+    struct done fall = run(corrector_batch, set, ENTRIES(falling), "AACCG\n", OUTPUT);
+    check("confirm 1, then 2", gives(&rise, "AACTCCG") && rise.answer[CORRECTOR_YIELD] == 500);
+    check("confirm 2, then 1", gives(&fall, "AACTCCG\n") && fall.answer[CORRECTOR_YIELD] == 1000);
+    struct done eight = run(corrector_read, set, JOB("\2\1\2\1\2\1\2\1\2\1\2\1\2\1\2\2"), "AACCG", OUTPUT);
+    check("eight entries", gives(&eight, "AACTCCG"));
+    struct done copied = run(corrector_batch, set, JOB(""), "AACGC\n\n", OUTPUT);
+    check("no entries", gives(&copied, "AACGC\n\n") && copied.answer[CORRECTOR_LOOKUPS] == 0);
 }
 
 /* ---- refusals */
 
-static int refused_alike(const uint8_t *set, uint8_t confirm, const char *methods, const char *input, size_t room, uint64_t number, uint64_t place)
+static int refused_alike(const uint8_t *set, const uint8_t *job, size_t job_length, const char *input, uint64_t number, uint64_t place)
 {
-    struct done read = run(corrector_read, set, confirm, methods, input, room);
-    struct done batch = run(corrector_batch, set, confirm, methods, input, room);
-    return refuses(&read, room, number, place) && refuses(&batch, room, number, place);
+    struct done read = run(corrector_read, set, job, job_length, input, OUTPUT);
+    struct done batch = run(corrector_batch, set, job, job_length, input, OUTPUT);
+    return refuses(&read, OUTPUT, number, place) && refuses(&batch, OUTPUT, number, place);
+}
+
+static void test_job_refusals(const uint8_t *set)
+{
+    enum { BYTES = 2 * CORRECTOR_MAX_ENTRIES };
+    uint8_t job[BYTES + 2];
+    int unknown = 1, zero = 1, half = 1;
+    memset(job, 1, sizeof job);
+    check("2, 9 entries", refused_alike(set, job, BYTES + 2, "\n", CORRECTOR_ENTRY_COUNT, 0));
+    check("2, 8 entries and a half", refused_alike(set, job, BYTES + 1, "\n", CORRECTOR_ENTRY_COUNT, 0));
+    for (size_t place = 0; place < CORRECTOR_MAX_ENTRIES; place++) {
+        half = half && refused_alike(set, job, 2 * place + 1, "\n", CORRECTOR_CONFIRM_ZERO, place);
+        job[2 * place + 1] = 0;
+        zero = zero && refused_alike(set, job, BYTES, "\n", CORRECTOR_CONFIRM_ZERO, place);
+        job[BYTES - 2] = 5;
+        unknown = unknown && refused_alike(set, job, BYTES, "\n", CORRECTOR_METHOD_UNKNOWN, CORRECTOR_MAX_ENTRIES - 1);
+        job[2 * place] = 0;
+        unknown = unknown && refused_alike(set, job, BYTES, "\n", CORRECTOR_METHOD_UNKNOWN, place);
+        memset(job, 1, sizeof job);
+    }
+    check("3, at each place, before 4", unknown);
+    check("4, at each place", zero);
+    check("4, half an entry", half);
+    memset(job, 0, sizeof job);
+    check("2 before 3 and 4", refused_alike(set, job, BYTES + 2, "\n", CORRECTOR_ENTRY_COUNT, 0));
 }
 
 static void test_input_refusals(const uint8_t *set)
@@ -159,15 +202,13 @@ static void test_input_refusals(const uint8_t *set)
     char *input = malloc(length + 1);
     memset(input, '\n', length);
     input[length] = 0;
-    check("1", refused_alike(set, 1, "\1", input, OUTPUT, CORRECTOR_INPUT_LENGTH, 0));
-    check("2", refused_alike(set, 1, "\1\1\1\1\1\1\1\1\1", "\n", OUTPUT, CORRECTOR_METHOD_COUNT, 0));
-    check("3", refused_alike(set, 1, "\1\4\5", "\n", OUTPUT, CORRECTOR_METHOD_UNKNOWN, 2));
-    check("4", refused_alike(set, 0, "\1", "\n", OUTPUT, CORRECTOR_CONFIRM_ZERO, 0));
+    check("1", refused_alike(set, JOB("\1\1"), input, CORRECTOR_INPUT_LENGTH, 0));
+    check("1 before 4", refused_alike(set, JOB("\1\0"), input, CORRECTOR_INPUT_LENGTH, 0));
     input[WORK / 2 + 1] = 0;
-    check("5", refused_alike(set, 1, "\1", input, OUTPUT, CORRECTOR_BUFFERS, 0));
-    struct done open_ended = run(corrector_batch, set, 1, "\1", "AA\nAAC", OUTPUT);
+    check("5", refused_alike(set, JOB("\1\1"), input, CORRECTOR_BUFFERS, 0));
+    check("4 before 5", refused_alike(set, JOB("\1\0"), input, CORRECTOR_CONFIRM_ZERO, 0));
+    struct done open_ended = run(corrector_batch, set, JOB("\1\1"), "AA\nAAC", OUTPUT);
     check("6, no final 10", refuses(&open_ended, OUTPUT, CORRECTOR_BATCH, 0));
-    check("2 before 4", refused_alike(set, 0, "\1\1\1\1\1\1\1\1\1", "\n", OUTPUT, CORRECTOR_METHOD_COUNT, 0));
     free(input);
 }
 
@@ -175,7 +216,7 @@ static uint64_t lines(const uint8_t *set, size_t count)
 {
     uint8_t batch[CORRECTOR_MAX_LINES + 1], output[sizeof batch], work[2 * sizeof batch];
     memset(batch, '\n', sizeof batch);
-    return corrector_batch(set, SET, 1, (const uint8_t *)"\1", 1, batch, count, output, sizeof output, work, sizeof work, (uint64_t[]){0}, 0);
+    return corrector_batch(set, SET, ENTRY(CORRECTOR_ONE, 1), batch, count, output, sizeof output, work, sizeof work, (uint64_t[]){0}, 0);
 }
 
 static void test_lines(const uint8_t *set)
@@ -184,16 +225,24 @@ static void test_lines(const uint8_t *set)
     check("6, a line more", lines(set, CORRECTOR_MAX_LINES + 1) == CORRECTOR_BATCH);
 }
 
+static int not_counted(const uint8_t *set, size_t length, const uint8_t *read, size_t read_length, uint64_t refusal, uint64_t place)
+{
+    uint64_t answer[CORRECTOR_SOLID_NUMBERS];
+    uint64_t number = corrector_count_solid(set, length, read, read_length, answer, CORRECTOR_SOLID_NUMBERS);
+    return number == refusal && answer[CORRECTOR_NUMBER] == refusal && answer[CORRECTOR_PLACE] == place && answer[CORRECTOR_KMERS] == 0
+        && answer[CORRECTOR_SOLID] == 0;
+}
+
 static int set_refused(const uint8_t *set, size_t length, uint64_t number, uint64_t place)
 {
     struct done done;
     uint64_t opened[CORRECTOR_OPEN_NUMBERS] = {KEPT, KEPT, KEPT, KEPT};
     memset(&done, FILL, sizeof done);
     done.number = corrector_read(
-        set, length, 1, (const uint8_t *)"\1", 1, (const uint8_t *)"AAC", 3, done.output, OUTPUT, done.work, WORK, done.answer, CORRECTOR_CALL_NUMBERS);
+        set, length, ENTRY(CORRECTOR_ONE, 1), (const uint8_t *)"AAC", 3, done.output, OUTPUT, done.work, WORK, done.answer, CORRECTOR_CALL_NUMBERS);
     return refuses(&done, OUTPUT, number, place) && corrector_open(set, length, opened, CORRECTOR_OPEN_NUMBERS) == number
         && opened[CORRECTOR_NUMBER] == number && opened[CORRECTOR_PLACE] == place && opened[CORRECTOR_K] == 0 && opened[CORRECTOR_N] == 0
-        && corrector_count_solid(set, length, (const uint8_t *)"AAC", 3) == 0;
+        && not_counted(set, length, (const uint8_t *)"AAC", 3, number, place);
 }
 
 static void test_set_refusals(void)
@@ -217,11 +266,11 @@ static void test_set_refusals(void)
 
 static void test_no_room(const uint8_t *set)
 {
-    struct done read = run(corrector_read, set, 1, "\1", "AACC", 4);
+    struct done read = run(corrector_read, set, ENTRY(CORRECTOR_ONE, 1), "AACC", 4);
     check("11, read", refuses(&read, 4, CORRECTOR_NO_ROOM, 0));
-    struct done batch = run(corrector_batch, set, 1, "\1", "AA\nAACC\n", 8);
+    struct done batch = run(corrector_batch, set, ENTRY(CORRECTOR_ONE, 1), "AA\nAACC\n", 8);
     check("11, batch", refuses(&batch, 8, CORRECTOR_NO_ROOM, 1));
-    batch = run(corrector_batch, set, 1, "\1", "AA\nAACC\n", 9);
+    batch = run(corrector_batch, set, ENTRY(CORRECTOR_ONE, 1), "AA\nAACC\n", 9);
     check("11, just room", batch.number == 0 && batch.answer[CORRECTOR_WRITTEN] == 9);
 }
 
@@ -237,7 +286,7 @@ static int starts_alike(const uint64_t *answer, size_t length, const uint64_t *w
 
 static int short_answers(call *entry, const uint8_t *set, uint8_t confirm, const char *input)
 {
-    struct done whole = run(entry, set, confirm, "\1", input, OUTPUT);
+    struct done whole = run(entry, set, ENTRY(CORRECTOR_ONE, confirm), input, OUTPUT);
     for (size_t length = 0; length <= 10; length++) {
         uint64_t answer[12];
         uint8_t output[OUTPUT], work[WORK];
@@ -246,7 +295,7 @@ static int short_answers(call *entry, const uint8_t *set, uint8_t confirm, const
         memset(output, FILL, OUTPUT);
         memset(work, FILL, WORK);
         uint64_t number = entry(
-            set, SET, confirm, (const uint8_t *)"\1", 1, (const uint8_t *)input, strlen(input), output, OUTPUT, work, WORK, answer, length);
+            set, SET, ENTRY(CORRECTOR_ONE, confirm), (const uint8_t *)input, strlen(input), output, OUTPUT, work, WORK, answer, length);
         if (number != whole.number || !starts_alike(answer, length, whole.answer, CORRECTOR_CALL_NUMBERS, 12)
             || memcmp(output, whole.output, OUTPUT) != 0 || memcmp(work, whole.work, WORK) != 0)
             return 0;
@@ -280,20 +329,12 @@ static void test_answers(const uint8_t *set)
     check("answers of a refused batch", short_answers(corrector_batch, set, 1, "AACGC"));
 }
 
-static int counts(const uint8_t *set, size_t length, const char *read, uint64_t kmers, uint64_t solid)
+static int counts_solid(const uint8_t *set, size_t length, const char *read, uint64_t kmers, uint64_t solid)
 {
     uint64_t answer[CORRECTOR_SOLID_NUMBERS];
     uint64_t number = corrector_count_solid(set, length, (const uint8_t *)read, strlen(read), answer, CORRECTOR_SOLID_NUMBERS);
     return number == answer[CORRECTOR_NUMBER] && number == CORRECTOR_NOT_REFUSED && answer[CORRECTOR_PLACE] == 0
         && answer[CORRECTOR_KMERS] == kmers && answer[CORRECTOR_SOLID] == solid;
-}
-
-static int not_counted(const uint8_t *set, size_t length, const uint8_t *read, size_t read_length, uint64_t refusal, uint64_t place)
-{
-    uint64_t answer[CORRECTOR_SOLID_NUMBERS];
-    uint64_t number = corrector_count_solid(set, length, read, read_length, answer, CORRECTOR_SOLID_NUMBERS);
-    return number == refusal && answer[CORRECTOR_NUMBER] == refusal && answer[CORRECTOR_PLACE] == place && answer[CORRECTOR_KMERS] == 0
-        && answer[CORRECTOR_SOLID] == 0;
 }
 
 static void test_count(const uint8_t *set)
@@ -302,11 +343,68 @@ static void test_count(const uint8_t *set)
     uint8_t wrong[SET];
     memcpy(wrong, set, SET);
     wrong[SET - 1]++;
-    check("solid k-mers", counts(set, SET, "AACTCCG", 5, 5) && counts(set, SET, "AACGC", 3, 1) && counts(set, SET, "AAC", 1, 1)
-        && counts(set, SET, "ACGT", 2, 0));
-    check("no k-mers", counts(set, SET, "AA", 0, 0) && counts(set, SET, "", 0, 0));
+    check("solid k-mers", counts_solid(set, SET, "AACTCCG", 5, 5) && counts_solid(set, SET, "AACGC", 3, 1) && counts_solid(set, SET, "AAC", 1, 1)
+        && counts_solid(set, SET, "ACGT", 2, 0));
+    check("no k-mers", counts_solid(set, SET, "AA", 0, 0) && counts_solid(set, SET, "", 0, 0));
     check("a count is refused", not_counted(set, SET, long_read, sizeof long_read, CORRECTOR_INPUT_LENGTH, 0)
         && not_counted(set, SET - 1, long_read, 3, CORRECTOR_SET_LENGTH, 0) && not_counted(wrong, SET, long_read, 3, CORRECTOR_SET_CHECK, 1));
+}
+
+/* ---- a set made from text: the sample set's keys, in the order of their codes */
+
+static const char counts_text[] = "ACT,9\nCCG,4\nCTC,7\nAAC,5\nTCC,0000000008\n";
+
+enum { ROOM = SET + 8 };
+
+static int makes(const char *text, uint64_t k, uint64_t least, const uint8_t *set, size_t length)
+{
+    uint8_t blocks[ROOM];
+    uint64_t answer[CORRECTOR_MADE_NUMBERS];
+    memset(blocks, FILL, ROOM);
+    uint64_t number = corrector_make_set((const uint8_t *)text, strlen(text), k, least, blocks, ROOM, answer, CORRECTOR_MADE_NUMBERS);
+    return number == 0 && answer[CORRECTOR_NUMBER] == 0 && answer[CORRECTOR_PLACE] == 0 && answer[CORRECTOR_LENGTH] == length
+        && memcmp(blocks, set, length) == 0 && all(blocks + length, ROOM - length, 0);
+}
+
+static int not_made(const char *text, uint64_t k, uint64_t least, size_t room, uint64_t refusal, uint64_t place)
+{
+    uint8_t blocks[ROOM];
+    uint64_t answer[CORRECTOR_MADE_NUMBERS];
+    memset(blocks, FILL, ROOM);
+    uint64_t number = corrector_make_set((const uint8_t *)text, strlen(text), k, least, blocks, room, answer, CORRECTOR_MADE_NUMBERS);
+    return number == refusal && answer[CORRECTOR_NUMBER] == refusal && answer[CORRECTOR_PLACE] == place && answer[CORRECTOR_LENGTH] == 0
+        && all(blocks, ROOM, FILL);
+}
+
+static int short_made(const char *text, const uint64_t *whole)
+{
+    for (size_t length = 0; length <= 5; length++) {
+        uint8_t blocks[SET];
+        uint64_t answer[8];
+        for (size_t i = 0; i < 8; i++)
+            answer[i] = KEPT;
+        memset(blocks, FILL, SET);
+        if (corrector_make_set((const uint8_t *)text, strlen(text), 3, 1, blocks, SET, answer, length) != whole[0]
+            || !starts_alike(answer, length, whole, CORRECTOR_MADE_NUMBERS, 8))
+            return 0;
+    }
+    return 1;
+}
+
+static void test_make(const uint8_t *set)
+{
+    static const uint64_t made[] = {0, 0, SET}, falls[] = {13, 1, 0};
+    uint8_t none[BLOCK] = {3};
+    put_word(none, 63, 4);
+    check("a set from text", makes(counts_text, 3, 1, set, SET) && corrector_set_length(5) == SET);
+    check("no keys", makes("", 3, 0, none, BLOCK) && makes(counts_text, 3, 10, none, BLOCK) && makes(counts_text, 3, UINT64_MAX, none, BLOCK));
+    check("9 for k", not_made("A", 2, 1, 0, CORRECTOR_SET_HEADER, 0) && not_made("A", 33, 1, 0, CORRECTOR_SET_HEADER, 0)
+        && not_made("A", 4294967299, 1, 0, CORRECTOR_SET_HEADER, 0));
+    check("12", not_made("A", 3, 1, 0, CORRECTOR_LINE, 0) && not_made("ACT,9\nACT,99", 3, 1, 0, CORRECTOR_LINE, 1)
+        && not_made("ACT,9\nCCg,1\n", 3, 5, 0, CORRECTOR_LINE, 1) && not_made("ACT,00000000009\n", 3, 1, 0, CORRECTOR_LINE, 0));
+    check("13", not_made("CCG,4\nACT,9\nA\n", 3, 1, 0, CORRECTOR_NOT_RISING, 1) && not_made("ACT,4\nAGT,9\n", 3, 1, 0, CORRECTOR_NOT_RISING, 1));
+    check("14", not_made(counts_text, 3, 1, SET - 1, CORRECTOR_TOO_SHORT, 0) && not_made("", 3, 1, 0, CORRECTOR_TOO_SHORT, 0));
+    check("answers of make_set", short_made(counts_text, made) && short_made("CCG,4\nACT,9\n", falls));
 }
 
 /* ---- threads: the set is shared, the buffers are each thread's own, and its stack is what the header asks for */
@@ -318,7 +416,7 @@ static void *in_thread(void *set)
     size_t *differ = calloc(1, sizeof *differ);
     for (size_t i = 0; i < CALLS * SAMPLES; i++) {
         const struct sample *sample = &samples[i % SAMPLES];
-        struct done done = run(corrector_read, set, sample->confirm, sample->methods, sample->read, OUTPUT);
+        struct done done = run(corrector_read, set, ENTRY(sample->method, sample->confirm), sample->read, OUTPUT);
         *differ += memcmp(&done, &alone[i % SAMPLES], sizeof done) != 0;
     }
     return differ;
@@ -329,7 +427,7 @@ static void test_threads(uint8_t *set)
     pthread_t threads[THREADS];
     pthread_attr_t attributes;
     for (size_t i = 0; i < SAMPLES; i++)
-        alone[i] = run(corrector_read, set, samples[i].confirm, samples[i].methods, samples[i].read, OUTPUT);
+        alone[i] = run(corrector_read, set, ENTRY(samples[i].method, samples[i].confirm), samples[i].read, OUTPUT);
     pthread_attr_init(&attributes);
     pthread_attr_setstacksize(&attributes, CORRECTOR_STACK);
     for (size_t i = 0; i < THREADS; i++)
@@ -349,12 +447,15 @@ int main(void)
     uint8_t set[SET];
     sample_set(set);
     test_samples(set);
+    test_jobs(set);
+    test_job_refusals(set);
     test_input_refusals(set);
     test_lines(set);
     test_set_refusals();
     test_no_room(set);
     test_answers(set);
     test_count(set);
+    test_make(set);
     test_threads(set);
     printf("%d passed, %d failed\n", passed, failed);
     return failed != 0;

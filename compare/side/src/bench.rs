@@ -2,6 +2,7 @@
 
 pub mod chart;
 pub mod inputs;
+pub mod make;
 pub mod measure;
 pub mod memory;
 pub mod page;

@@ -6,6 +6,7 @@ use crate::rng::Rng;
 use crate::set_file;
 
 pub mod damage;
+pub mod make;
 pub mod reads;
 pub mod sets;
 
@@ -30,7 +31,7 @@ pub enum Kind {
     Bytes,
     /// Confirm up to 255, with errors far enough apart.
     Confirm,
-    /// Lists of no to eight methods.
+    /// Lists of no to eight entries, each with its own confirm.
     Lists,
     /// Lengths around every limit, and refusals 1 to 6 and 11.
     Limits,
@@ -82,8 +83,8 @@ pub fn run(unit: &Unit, seed: u64, visit: &mut Visit) {
         Kind::AllOfThree => all_reads(&sets::up_to_two(3, unit.number as usize), 6, &mut every_job, visit),
         Kind::AllReads => {
             let site = sets::dense(rng, 3);
-            let (method, confirm) = (rng.pick(&METHODS).byte(), rng.within(1, 4) as u8);
-            all_reads(&site, 7, &mut |batch| vec![job(Call::Batch, confirm, &[method], batch)], visit);
+            let entry = [rng.pick(&METHODS).byte(), rng.within(1, 4) as u8];
+            all_reads(&site, 7, &mut |batch| vec![job(Call::Batch, &entry, batch)], visit);
         }
         Kind::Dense => {
             let k = *rng.pick(&[1, 3, 3, 5, 5, 5, 7, 7]);
@@ -119,13 +120,18 @@ pub fn run(unit: &Unit, seed: u64, visit: &mut Visit) {
 }
 
 /// A call with room enough for what the methods usually give, and the least work buffer that is accepted.
-pub fn job(call: Call, confirm: u8, methods: &[u8], input: &[u8]) -> Job {
+pub fn job(call: Call, entries: &[u8], input: &[u8]) -> Job {
     let output = (2 * input.len() + 256).min(1_048_576);
-    job_with_room(call, confirm, methods, input, output)
+    job_with_room(call, entries, input, output)
 }
 
-fn job_with_room(call: Call, confirm: u8, methods: &[u8], input: &[u8], output: usize) -> Job {
-    Job { call, confirm, methods: methods.to_vec(), input: input.to_vec(), output, work: 2 * output.max(input.len()) }
+fn job_with_room(call: Call, entries: &[u8], input: &[u8], output: usize) -> Job {
+    Job { call, entries: entries.to_vec(), input: input.to_vec(), output, work: 2 * output.max(input.len()) }
+}
+
+/// As many entries, each with a method and a confirm of its own, mostly up to `confirm`.
+pub fn any_entries(rng: &mut Rng, count: usize, confirm: usize) -> Vec<u8> {
+    (0..count).flat_map(|_| [rng.pick(&METHODS).byte(), any_confirm(rng, confirm)]).collect()
 }
 
 /// Lines, each ended by byte 10.
@@ -150,7 +156,7 @@ fn all_reads(site: &Site, longest: u32, jobs: &mut dyn FnMut(&[u8]) -> Vec<Job>,
                     continue;
                 }
                 for line in lines {
-                    let single = job_with_room(Call::Read, job.confirm, &job.methods, line, 64);
+                    let single = job_with_room(Call::Read, &job.entries, line, 64);
                     visit(site, Some(&single));
                 }
             }
@@ -160,13 +166,8 @@ fn all_reads(site: &Site, longest: u32, jobs: &mut dyn FnMut(&[u8]) -> Vec<Job>,
 
 /// All methods, with confirm 1 to 3 where it counts.
 fn every_job(batch: &[u8]) -> Vec<Job> {
-    let with = |method, confirm| job(Call::Batch, confirm, &[method], batch);
-    [1, 2, 4]
-        .into_iter()
-        .flat_map(|method| (1..=3).map(move |confirm| (method, confirm)))
-        .chain([(3, 1)])
-        .map(|(method, confirm)| with(method, confirm))
-        .collect()
+    let counting = [1, 2, 4].into_iter().flat_map(|method| (1..=3).map(move |confirm| [method, confirm]));
+    counting.chain([[3, 1]]).map(|entry| job(Call::Batch, &entry, batch)).collect()
 }
 
 /// Each read by each method alone, some by read calls and the rest as one batch, with a confirm of mostly up to `confirm`.
@@ -175,10 +176,10 @@ fn each_method(rng: &mut Rng, site: &Site, reads: &[Vec<u8>], confirm: usize, vi
     let singles = 20.min(reads.len());
     for method in METHODS {
         for read in &reads[..singles] {
-            visit(site, Some(&job(Call::Read, any_confirm(rng, confirm), &[method.byte()], read)));
+            visit(site, Some(&job(Call::Read, &[method.byte(), any_confirm(rng, confirm)], read)));
         }
         let lines = reads[singles..].iter().filter(|read| !read.contains(&10));
-        visit(site, Some(&job(Call::Batch, any_confirm(rng, confirm), &[method.byte()], &batch_of(lines))));
+        visit(site, Some(&job(Call::Batch, &[method.byte(), any_confirm(rng, confirm)], &batch_of(lines))));
     }
 }
 
@@ -196,7 +197,7 @@ fn confirm(rng: &mut Rng, visit: &mut Visit) {
         let c = if rng.percent(10) { *rng.pick(&[1, 2, 127, 128, 254, 255]) } else { rng.within(1, 255) };
         let read = reads::spaced(rng, &genome, c + k as usize + 4);
         for method in [1, 2, 4] {
-            visit(&site, Some(&job(Call::Read, c as u8, &[method], &read)));
+            visit(&site, Some(&job(Call::Read, &[method, c as u8], &read)));
         }
     }
 }
@@ -205,31 +206,37 @@ fn lists(rng: &mut Rng, visit: &mut Visit) {
     let k = sets::any_k(rng);
     let (site, genome) = if rng.percent(70) { sets::genome(rng, k) } else { sets::periodic(rng, k) };
     for _ in 0..12 {
-        let methods: Vec<u8> = (0..rng.below(9)).map(|_| rng.pick(&METHODS).byte()).collect();
-        let confirm = any_confirm(rng, 8);
+        let count = rng.below(9);
+        let entries = any_entries(rng, count, 8);
         let read = reads::noisy(rng, &genome, 240);
-        visit(&site, Some(&job(Call::Read, confirm, &methods, &read)));
+        visit(&site, Some(&job(Call::Read, &entries, &read)));
         let lines: Vec<_> = (0..rng.below(8)).map(|_| reads::noisy(rng, &genome, 160)).collect();
-        visit(&site, Some(&job(Call::Batch, confirm, &methods, &batch_of(&lines))));
+        visit(&site, Some(&job(Call::Batch, &entries, &batch_of(&lines))));
     }
 }
 
-/// Lengths about k and the end of a read, output just long enough and one short, buffers and inputs at and over their limits.
+/// Lengths about k and the end of a read, output just long enough and one short, jobs, buffers and inputs at and over their limits.
 fn limits(rng: &mut Rng, number: u64, visit: &mut Visit) {
     let k = sets::any_k(rng);
     let (site, genome) = sets::genome(rng, k);
     for length in [0, 1, k as usize - 1, k as usize, k as usize + 1, k as usize + 2, k as usize + 5] {
         let read = reads::noisy_of_length(rng, &genome, length);
         for method in METHODS {
-            room(&site, &job(Call::Read, any_confirm(rng, 4), &[method.byte()], &read), rng, visit);
+            room(&site, &job(Call::Read, &[method.byte(), any_confirm(rng, 4)], &read), rng, visit);
         }
     }
     for _ in 0..6 {
-        let methods: Vec<u8> = (0..rng.below(4)).map(|_| rng.pick(&METHODS).byte()).collect();
+        let count = rng.below(4);
+        let entries = any_entries(rng, count, 6);
         let lines: Vec<_> = (0..rng.below(6)).map(|_| reads::noisy(rng, &genome, 120)).collect();
-        room(&site, &job(Call::Read, any_confirm(rng, 6), &methods, &reads::noisy(rng, &genome, 120)), rng, visit);
-        room(&site, &job(Call::Batch, any_confirm(rng, 6), &methods, &batch_of(&lines)), rng, visit);
+        room(&site, &job(Call::Read, &entries, &reads::noisy(rng, &genome, 120)), rng, visit);
+        room(&site, &job(Call::Batch, &entries, &batch_of(&lines)), rng, visit);
     }
+    let read = reads::noisy(rng, &genome, 120);
+    damage::jobs(rng, &mut |entries| {
+        visit(&site, Some(&job(Call::Read, entries, &read)));
+        visit(&site, Some(&job(Call::Batch, entries, &batch_of([&read]))));
+    });
     for _ in 0..20 {
         damage::input(rng, &genome, number % 40 == 0, &mut |job| visit(&site, Some(job)));
     }
@@ -246,7 +253,7 @@ fn room(site: &Site, ample: &Job, rng: &mut Rng, visit: &mut Visit) {
         before += passes.last().map_or(ample.input.len(), |pass| pass.bytes.len()) + ending;
     }
     for output in [least, least.saturating_sub(1), rng.below(least + 1)] {
-        visit(site, Some(&job_with_room(ample.call, ample.confirm, &ample.methods, &ample.input, output)));
+        visit(site, Some(&job_with_room(ample.call, &ample.entries, &ample.input, output)));
     }
 }
 
@@ -255,9 +262,9 @@ fn damaged(rng: &mut Rng, visit: &mut Visit) {
     visit(&site, None);
     let length = rng.below(40);
     let read = reads::letters(rng, length);
-    let methods = [rng.pick(&METHODS).byte()];
-    visit(&site, Some(&job(Call::Read, 1, &methods, &read)));
-    visit(&site, Some(&job(Call::Batch, 1, &methods, &batch_of([&read]))));
+    let entry = [rng.pick(&METHODS).byte(), 1];
+    visit(&site, Some(&job(Call::Read, &entry, &read)));
+    visit(&site, Some(&job(Call::Batch, &entry, &batch_of([&read]))));
     // The input is refused before the set is.
     damage::input(rng, b"ACGT", false, &mut |job| visit(&site, Some(job)));
 }
@@ -270,12 +277,12 @@ fn large(rng: &mut Rng, visit: &mut Visit) {
     visit(&site, None);
     for method in METHODS {
         let lines: Vec<_> = (0..200).map(|_| reads::noisy(rng, &genome, 800)).collect();
-        visit(&site, Some(&job(Call::Batch, any_confirm(rng, 10), &[method.byte()], &batch_of(&lines))));
+        visit(&site, Some(&job(Call::Batch, &[method.byte(), any_confirm(rng, 10)], &batch_of(&lines))));
     }
     // The longest read that is taken.
     let mut longest: Vec<u8> = genome.iter().cycle().take(1_048_576 - 4).copied().collect();
     reads::substitute(rng, &mut longest, 200);
-    visit(&site, Some(&Job { output: 1_048_576, work: 2_097_152, ..job(Call::Read, 5, &[rng.pick(&METHODS).byte()], &longest) }));
+    visit(&site, Some(&Job { output: 1_048_576, work: 2_097_152, ..job(Call::Read, &[rng.pick(&METHODS).byte(), 5], &longest) }));
 }
 
 /// The set file of a site's keys without some: for shrinking.

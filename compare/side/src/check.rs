@@ -1,7 +1,7 @@
 //! One case on all sides.
 use crate::library::Library;
 use crate::oracle::{self, Keys};
-use crate::referee::calls::{self, Job};
+use crate::referee::calls::{self, Entry, Job, Outcome};
 use crate::referee::correctors::{Method, ALL_BY, ALL_EVENTS, BY, METHODS};
 use crate::referee::driver::Pass;
 use crate::referee::set::{open, Refusal, Set};
@@ -34,6 +34,9 @@ pub struct Tally {
     pub attempts: u64,
     pub accepted: u64,
     pub lookups: u64,
+    /// Accepted calls with several confirms in the job, and those of them that tell the confirms apart.
+    pub several: u64,
+    pub apart: u64,
     /// Corrections by method and scenario, by k, and by confirm.
     pub by: [[u64; BY]; 4],
     pub by_k: [u64; 32],
@@ -50,6 +53,8 @@ impl Default for Tally {
             attempts: 0,
             accepted: 0,
             lookups: 0,
+            several: 0,
+            apart: 0,
             by: [[0; BY]; 4],
             by_k: [0; 32],
             by_confirm: [0; 256],
@@ -71,6 +76,8 @@ impl Tally {
         self.attempts += other.attempts;
         self.accepted += other.accepted;
         self.lookups += other.lookups;
+        self.several += other.several;
+        self.apart += other.apart;
         add_each(&mut self.refusals, &other.refusals);
         add_each(self.by.as_flattened_mut(), other.by.as_flattened());
         add_each(&mut self.by_k, &other.by_k);
@@ -89,6 +96,7 @@ impl Tally {
         }
         println!("corrections by k: {}", counts((0..).map(|k: u32| k.to_string()), &self.by_k));
         println!("corrections at {} of 255 confirms", self.by_confirm.iter().filter(|count| **count > 0).count());
+        println!("calls with several confirms: {}, of which {} would give other bytes with any one of them alone", self.several, self.apart);
         println!("met: {}", counts(ALL_EVENTS.iter().map(|event| format!("{event:?}")), &self.events));
         println!("refusals: {}", counts((0..).map(|number: u32| number.to_string()), &self.refusals));
     }
@@ -105,6 +113,22 @@ impl Tally {
         add_each(&mut self.by[method as usize], &pass.by.map(u64::from));
         add_each(&mut self.events, &pass.events.map(u64::from));
     }
+}
+
+/// Whether entries have more than one confirm. Graph has no use for its own.
+fn several_confirms(entries: &[Entry]) -> bool {
+    let mut used = entries.iter().filter(|entry| Method::of(entry.method) != Some(Method::Graph)).map(|entry| entry.confirm);
+    used.next().is_some_and(|first| used.any(|other| other != first))
+}
+
+/// Whether a call's bytes show that each pass had its own entry's confirm: any one confirm of the job, taken for all, gives others.
+pub fn tells_confirms_apart(site: &Site, job: &Job, outcome: &Outcome) -> bool {
+    let entries = calls::entries(job);
+    several_confirms(&entries)
+        && entries.iter().all(|one| {
+            let alike = entries.iter().flat_map(|entry| [entry.method, one.confirm]).collect();
+            calls::call(&site.opened, &Job { entries: alike, ..job.clone() }).bytes != outcome.bytes
+        })
 }
 
 fn counts(names: impl Iterator<Item = String>, counts: &[u64]) -> String {
@@ -186,25 +210,29 @@ pub fn check_call(library: &dyn Library, site: &Site, job: &Job, buffers: &mut B
     same_everywhere("the rest of the output", rest, spare)?;
     same_everywhere("the work buffer", rest, &buffers.work)?;
     tally.calls += 1;
-    if let Err(refusal) = answer {
-        tally.refusals[refusal.number as usize] += 1;
+    match answer {
+        Err(refusal) => tally.refusals[refusal.number as usize] += 1,
+        Ok(_) => {
+            tally.several += several_confirms(&calls::entries(job)) as u64;
+            tally.apart += tells_confirms_apart(site, job, &outcome) as u64;
+        }
     }
     Ok(())
 }
 
-/// A read through the job's methods: natir/br, fed its own results, against the referee.
+/// A read through the job's entries: natir/br with each one's confirm, fed its own results, against the referee.
 fn check_passes(keys: &Keys, job: &Job, read: &[u8], passes: &[Pass], tally: &mut Tally) -> Result<(), Disagreement> {
     let mut fed = read.to_vec();
-    for (byte, expected) in job.methods.iter().zip(passes) {
-        let Some(method) = Method::of(*byte) else { break };
-        let found = oracle::pass(keys, method, job.confirm, &fed);
+    for (entry, expected) in calls::entries(job).into_iter().zip(passes) {
+        let Some(method) = Method::of(entry.method) else { break };
+        let found = oracle::pass(keys, method, entry.confirm, &fed);
         same_bytes("a pass of natir/br (expected: the referee)", &expected.bytes, &found.bytes)?;
         same(
             "natir/br's turns, attempts, corrections, lookups (expected: the referee, with what the Rust asks again)",
             (expected.turns, expected.attempts, expected.accepted, expected.lookups as i64 + expected.again),
             (found.turns, found.attempts, found.accepted, found.lookups as i64),
         )?;
-        tally.add_pass(keys.k(), job.confirm, method, expected);
+        tally.add_pass(keys.k(), entry.confirm, method, expected);
         fed = found.bytes;
     }
     Ok(())

@@ -2,7 +2,7 @@
 //!
 //! Three sides see the same sets and reads:
 //! - `oracle`: natir/br's unchanged source, over a set of the same keys that counts what it is asked;
-//! - `referee`: document 01 written down once more in plain Rust, from the document alone, with its counts;
+//! - `referee`: documents 01 and 02 written down once more in plain Rust, from the documents alone, with their counts;
 //! - `library`: the corrector itself, linked through `boundary`, or the referee in its place.
 //!
 //! Bytes are compared on all three; turns, attempts and corrections too; lookups of the corrector with the referee's, and the Rust's
@@ -18,6 +18,7 @@ pub mod cases;
 pub mod check;
 pub mod library;
 pub mod list;
+pub mod make;
 pub mod oracle;
 pub mod referee;
 pub mod rng;

@@ -1,5 +1,6 @@
 //! The corrector as the comparison sees it: the linked library, or the referee in its place.
 use crate::referee::calls::{call, Answer, Call, Job};
+use crate::referee::make::make_set;
 use crate::referee::set::{open, Refusal};
 
 pub trait Library: Sync {
@@ -11,7 +12,10 @@ pub trait Library: Sync {
     /// The call that the job names, over lent buffers of the lengths that it gives.
     fn correct(&self, set: &[u8], job: &Job, output: &mut [u8], work: &mut [u8]) -> Answer;
 
-    /// How many of a read's k-mers are solid, asked one after the other: the floor of the benchmark, where there is an entry for it.
+    /// The set file made from k-mer counts as text: the length of the blocks in bytes, or a refusal.
+    fn make_set(&self, text: &[u8], k: u64, least: u64, blocks: &mut [u8]) -> Result<u64, Refusal>;
+
+    /// How many of a read's k-mers are solid, asked one after the other: the plain loop of the benchmark, where there is an entry for it.
     fn count_solid(&self, _set: &[u8], _read: &[u8]) -> Option<u64> {
         None
     }
@@ -40,6 +44,13 @@ impl Library for StandIn {
             }
         }
         outcome.answer
+    }
+
+    fn make_set(&self, text: &[u8], k: u64, least: u64, blocks: &mut [u8]) -> Result<u64, Refusal> {
+        let made = make_set(text, k, least, blocks.len())?;
+        blocks.fill(0);
+        blocks[..made.len()].copy_from_slice(&made);
+        Ok(made.len() as u64)
     }
 }
 

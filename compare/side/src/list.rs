@@ -1,9 +1,9 @@
 //! The fixed list of cases, for a replay with no Rust at hand. Its format is in compare/README.md.
-use crate::cases::{batch_of, damage, job, reads, sets};
-use crate::check::{check_call, Buffers, Site, Tally, LENT};
+use crate::cases::{any_entries, batch_of, damage, job, reads, sets};
+use crate::check::{check_call, tells_confirms_apart, Buffers, Site, Tally, LENT};
 use crate::library::{Library, StandIn};
-use crate::referee::calls::{call, Answer, Call, Job, Report};
-use crate::referee::correctors::METHODS;
+use crate::referee::calls::{call, entries, Answer, Call, Job, Report};
+use crate::referee::correctors::{Method, METHODS};
 use crate::referee::set::Refusal;
 use crate::rng::Rng;
 
@@ -22,12 +22,16 @@ const HEAD: usize = 8;
 
 /// What a replay has room for.
 const MOST_SET: usize = 8192;
+const MOST_ENTRIES: usize = 20;
 const MOST_INPUT: usize = 2048;
 const MOST_OUTPUT: usize = 4096;
 const MOST_WORK: usize = 8192;
 
 /// Each of these is seen so often, and then only by chance.
-const QUOTA: u32 = 24;
+const QUOTA: u64 = 24;
+
+/// So many calls give other bytes if one confirm of the job is taken for all.
+const APART: u64 = 300;
 
 #[derive(Default)]
 struct List {
@@ -35,7 +39,6 @@ struct List {
     set: Vec<u8>,
     cases: u32,
     tally: Tally,
-    confirms: Vec<u8>,
     buffers: Buffers,
 }
 
@@ -80,55 +83,37 @@ impl List {
 
     /// A call, after natir/br and the referee have agreed on it.
     fn call(&mut self, site: &Site, job: &Job) {
-        assert!(site.bytes.len() <= MOST_SET && job.input.len() <= MOST_INPUT && job.output <= MOST_OUTPUT && job.work <= MOST_WORK);
+        assert!(site.bytes.len() <= MOST_SET && job.entries.len() <= MOST_ENTRIES);
+        assert!(job.input.len() <= MOST_INPUT && job.output <= MOST_OUTPUT && job.work <= MOST_WORK);
         check_call(&StandIn, site, job, &mut self.buffers, &mut self.tally).expect("all sides agree");
         self.use_set(site);
         let outcome = call(&site.opened, job);
         let kind = if job.call == Call::Read { READ } else { BATCH };
-        let lengths = [job.methods.len(), job.input.len(), job.output, job.work, outcome.bytes.len()].map(|length| length as u32);
-        let [methods, input, output, work, result] = lengths;
+        let lengths = [job.entries.len(), job.input.len(), job.output, job.work, outcome.bytes.len()].map(|length| length as u32);
+        let [entries, input, output, work, result] = lengths;
         let answer = match outcome.answer {
             Ok(report) => [0, 0, report.written, report.turns, report.lookups, report.attempts, report.accepted, report.yields],
             Err(refusal) => [refusal.number, refusal.place, 0, 0, 0, 0, 0, 0],
         };
         let [number, place, written, turns, lookups, attempts, accepted, yields] = answer.map(small);
-        self.record([
-            kind,
-            job.confirm as u32,
-            methods,
-            input,
-            output,
-            work,
-            result,
-            0,
-            number,
-            place,
-            written,
-            turns,
-            lookups,
-            attempts,
-            accepted,
-            yields,
-        ]);
-        for part in [&job.methods, &job.input, &outcome.bytes] {
+        self.record([kind, 0, entries, input, output, work, result, 0, number, place, written, turns, lookups, attempts, accepted, yields]);
+        for part in [&job.entries, &job.input, &outcome.bytes] {
             self.bytes.extend_from_slice(part);
         }
         self.cases += 1;
     }
 
-    /// A call that shows a scenario or a confirm not seen often, or any by chance.
+    /// A call that shows a scenario or a confirm not seen often, or that its passes have each their own confirm; or any by chance.
     fn call_if_wanted(&mut self, rng: &mut Rng, site: &Site, job: &Job, chance: usize) {
         let outcome = call(&site.opened, job);
-        let new_confirm = outcome.answer.is_ok_and(|report| report.accepted > 0) && !self.confirms.contains(&job.confirm);
-        let rare = outcome.passes.iter().flatten().zip(job.methods.iter().cycle()).any(|(pass, method)| {
-            let seen = self.tally.by[*method as usize - 1];
-            pass.by.iter().zip(seen).any(|(now, seen)| *now > 0 && seen < QUOTA as u64)
+        let rare = outcome.passes.iter().flatten().zip(entries(job).iter().cycle()).any(|(pass, entry)| {
+            let seen = self.tally.by[entry.method as usize - 1];
+            let new_confirm = entry.method != Method::Graph.byte() && self.tally.by_confirm[entry.confirm as usize] == 0;
+            pass.by.iter().zip(seen).any(|(now, seen)| *now > 0 && (new_confirm || seen < QUOTA))
         });
-        if new_confirm || rare || rng.percent(chance) {
+        let apart = self.tally.apart < APART && tells_confirms_apart(site, job, &outcome);
+        if rare || apart || rng.percent(chance) {
             self.call(site, job);
-            if new_confirm {
-                self.confirms.push(job.confirm);
-            }
         }
     }
 
@@ -149,17 +134,22 @@ fn samples(list: &mut List) {
     for method in METHODS {
         for confirm in [1, 2] {
             for read in ["AACGC", "AACC", "AACGTC", "AACG", "AACGCCG", "AACCG", "AAC", "AA", ""] {
-                list.call(&site, &job(Call::Read, confirm, &[method.byte()], read.as_bytes()));
+                list.call(&site, &job(Call::Read, &[method.byte(), confirm], read.as_bytes()));
             }
         }
     }
-    list.call(&site, &job(Call::Batch, 1, &[3], b"AACGCCG\nAA\n"));
-    list.call(&site, &job(Call::Batch, 1, &[], b""));
-    // 11 compares pass results: One's fits into 5 bytes, the read that Graph leaves does not.
-    for methods in [&[1][..], &[3, 1], &[]] {
-        list.call(&site, &Job { output: 5, work: 12, ..job(Call::Read, 1, methods, b"AACGTC") });
+    list.call(&site, &job(Call::Batch, &[3, 1], b"AACGCCG\nAA\n"));
+    list.call(&site, &job(Call::Batch, &[], b""));
+    // Two corrects AACCG with confirm 2 only, whichever entry has it.
+    for entries in [[2, 1, 2, 2], [2, 2, 2, 1]] {
+        list.call(&site, &job(Call::Read, &entries, b"AACCG"));
+        list.call(&site, &job(Call::Batch, &entries, b"AACCG\nAACGC\n"));
     }
-    list.call(&site, &Job { output: 0, work: 2, ..job(Call::Batch, 1, &[], b"\n") });
+    // 11 compares pass results: One's fits into 5 bytes, the read that Graph leaves does not.
+    for entries in [&[1, 1][..], &[3, 1, 1, 1], &[]] {
+        list.call(&site, &Job { output: 5, work: 12, ..job(Call::Read, entries, b"AACGTC") });
+    }
+    list.call(&site, &Job { output: 0, work: 2, ..job(Call::Batch, &[], b"\n") });
 }
 
 /// For every k: sets of genomes, of cycles, dense ones; reads with errors, of arbitrary bytes, at every limit.
@@ -186,13 +176,15 @@ fn correct(list: &mut List, rng: &mut Rng) {
                     (_, 2) => reads::noisy(rng, &genome, 90),
                     _ => reads::spaced(rng, &genome, k as usize + 6),
                 };
-                let (method, confirm) = (rng.pick(&METHODS).byte(), rng.within(1, 6) as u8);
-                list.call_if_wanted(rng, &site, &job(Call::Read, confirm, &[method], &read), 50);
+                let count = *rng.pick(&[1, 1, 2, 3]);
+                let entries = any_entries(rng, count, 6);
+                list.call_if_wanted(rng, &site, &job(Call::Read, &entries, &read), 42);
             }
             for _ in 0..4 {
-                let methods: Vec<u8> = (0..rng.below(9)).map(|_| rng.pick(&METHODS).byte()).collect();
+                let count = rng.below(9);
+                let entries = any_entries(rng, count, 6);
                 let lines: Vec<_> = (0..rng.below(5)).map(|_| reads::noisy(rng, &genome, 60)).collect();
-                let mut batch = job(Call::Batch, rng.within(1, 6) as u8, &methods, &batch_of(&lines));
+                let mut batch = job(Call::Batch, &entries, &batch_of(&lines));
                 if rng.percent(40) {
                     batch.output = rng.within(batch.input.len().saturating_sub(6), batch.input.len() + 4);
                 }
@@ -220,7 +212,7 @@ fn confirms(list: &mut List, rng: &mut Rng) {
                 let place = k as usize + 1 + rng.below(2);
                 let others: Vec<u8> = b"ACGT".iter().filter(|letter| **letter != read[place]).copied().collect();
                 read[place] = *rng.pick(&others);
-                list.call_if_wanted(rng, &site, &job(Call::Read, confirm as u8, &[method], &read), if confirm % 16 == 0 { 100 } else { 0 });
+                list.call_if_wanted(rng, &site, &job(Call::Read, &[method, confirm as u8], &read), if confirm % 16 == 0 { 100 } else { 0 });
             }
         }
     }
@@ -239,8 +231,22 @@ fn rare(list: &mut List, rng: &mut Rng) {
             continue;
         }
         let read = if genome.is_empty() { reads::in_set(rng, &site) } else { reads::spaced(rng, &genome, k as usize + 5) };
-        let (method, confirm) = (rng.pick(&[2, 2, 4]), rng.within(1, 5) as u8);
-        list.call_if_wanted(rng, &site, &job(Call::Read, confirm, &[*method], &read), 0);
+        let entry = [*rng.pick(&[2, 2, 4]), rng.within(1, 5) as u8];
+        list.call_if_wanted(rng, &site, &job(Call::Read, &entry, &read), 0);
+    }
+}
+
+/// Jobs that show that each pass has its own confirm, sought among reads whose errors are close together.
+fn own_confirms(list: &mut List, rng: &mut Rng) {
+    while list.tally.apart < APART {
+        let k = 2 * rng.within(2, 15) as u8 + 1;
+        let (site, genome) = small_genome(rng, k);
+        for _ in 0..80 {
+            let apart = rng.within(1, k as usize);
+            let read = reads::spaced(rng, &genome, apart);
+            let entries: Vec<u8> = (0..rng.within(2, 4)).flat_map(|_| [*rng.pick(&[1, 2, 2, 4]), rng.within(1, 9) as u8]).collect();
+            list.call_if_wanted(rng, &site, &job(Call::Read, &entries, &read), 0);
+        }
     }
 }
 
@@ -254,10 +260,15 @@ fn refused(list: &mut List, rng: &mut Rng) {
         list.open(&site);
         if rng.percent(40) {
             let read = reads::letters(rng, 20);
-            list.call(&site, &job(Call::Read, 1, &[rng.pick(&METHODS).byte()], &read));
+            list.call(&site, &job(Call::Read, &[rng.pick(&METHODS).byte(), 1], &read));
         }
     }
     let (site, genome) = small_genome(rng, 11);
+    let read = reads::noisy(rng, &genome, 60);
+    damage::jobs(rng, &mut |entries| {
+        list.call(&site, &job(Call::Read, entries, &read));
+        list.call(&site, &job(Call::Batch, entries, &batch_of([&read])));
+    });
     for _ in 0..300 {
         damage::input(rng, &genome, false, &mut |job| {
             if job.input.len() <= MOST_INPUT && job.output <= MOST_OUTPUT && job.work <= MOST_WORK {
@@ -274,6 +285,7 @@ pub fn write(file: &str, seed: u64) -> Result<(), String> {
     correct(&mut list, rng);
     confirms(&mut list, rng);
     rare(&mut list, rng);
+    own_confirms(&mut list, rng);
     refused(&mut list, rng);
     list.tally.print();
     println!("{} cases, seed {seed}", list.cases);
@@ -336,11 +348,10 @@ fn expected_open(record: &[u32; RECORD]) -> Result<(u64, u64), Refusal> {
 }
 
 fn replay_call(reader: &mut Reader, record: &[u32; RECORD], set: &[u8], lent: u8, library: &dyn Library) -> Result<bool, String> {
-    let [methods, input, output, work, result] = [2, 3, 4, 5, 6].map(|at| record[at] as usize);
+    let [entries, input, output, work, result] = [2, 3, 4, 5, 6].map(|at| record[at] as usize);
     let job = Job {
         call: if record[0] == READ { Call::Read } else { Call::Batch },
-        confirm: record[1] as u8,
-        methods: reader.take(methods)?.to_vec(),
+        entries: reader.take(entries)?.to_vec(),
         input: reader.take(input)?.to_vec(),
         output,
         work,

@@ -29,16 +29,16 @@ pub fn set() -> Vec<u8> {
     set_file::make(3, &[6, 23, 51, 58, 60])
 }
 
-/// The samples that a library gives otherwise than the document prints.
+/// The samples that a library gives otherwise than the document prints. Document 02 has the printed job as bytes 3, 1.
 pub fn wrong(library: &dyn Library) -> Vec<String> {
     let mut wrong = Vec::new();
     for (method, confirm, read, result, turns, lookups) in SAMPLES {
-        let job = job(Call::Read, confirm, &[method.byte()], read.as_bytes());
+        let job = job(Call::Read, &[method.byte(), confirm], read.as_bytes());
         if !gives(library, &job, result.as_bytes(), turns, lookups) {
             wrong.push(format!("{method:?}, confirm {confirm}, {read:?} does not give {result:?}, turns {turns:?}, lookups {lookups:?}"));
         }
     }
-    let batch = job(Call::Batch, 1, &[Graph.byte()], b"AACGCCG\nAA\n");
+    let batch = job(Call::Batch, &[3, 1], b"AACGCCG\nAA\n");
     if !gives(library, &batch, b"AACTCCG\nAA\n", Some(1), Some(24)) {
         wrong.push("the printed batch differs".to_string());
     }

@@ -31,10 +31,10 @@ pub fn check(library: &dyn Library, site: &Site, job: Option<&Job>, buffers: &mu
 
 impl Failure {
     pub fn size(&self) -> usize {
-        self.site.bytes.len() + self.job.as_ref().map_or(0, |job| job.input.len() + job.methods.len())
+        self.site.bytes.len() + self.job.as_ref().map_or(0, |job| job.input.len() + job.entries.len())
     }
 
-    /// The smallest that is found by leaving out keys, blocks, methods and bytes in turn, until none can go.
+    /// The smallest that is found by leaving out keys, blocks, entries and bytes in turn, until none can go.
     pub fn shrink(mut self, library: &dyn Library) -> Self {
         let begun = Instant::now();
         let mut size = usize::MAX;
@@ -84,20 +84,25 @@ impl Failure {
         let first = job_now(self);
         if first.call == Call::Batch {
             for read in reads(&first) {
-                let single = job(Call::Read, first.confirm, &first.methods, read);
+                let single = job(Call::Read, &first.entries, read);
                 if self.try_with(library, None, Some(single)) {
                     break;
                 }
             }
         }
-        for place in (0..job_now(self).methods.len()).rev() {
+        for place in (0..job_now(self).entries.len()).step_by(2).rev() {
             let mut job = job_now(self);
-            job.methods.remove(place);
+            let end = (place + 2).min(job.entries.len());
+            job.entries.drain(place..end);
             self.try_with(library, None, Some(job));
         }
-        for confirm in 1..first.confirm {
-            if self.try_with(library, None, Some(Job { confirm, ..job_now(self) })) {
-                break;
+        for place in (1..job_now(self).entries.len()).step_by(2) {
+            for confirm in 1..job_now(self).entries[place] {
+                let mut job = job_now(self);
+                job.entries[place] = confirm;
+                if self.try_with(library, None, Some(job)) {
+                    break;
+                }
             }
         }
         let mut count = job_now(self).input.len().div_ceil(2);
@@ -130,7 +135,7 @@ impl Failure {
             }
         }
         if let Some(job) = &self.job {
-            println!("  {} call, confirm {}, methods {:?}, output {}, work {}", call_name(job.call), job.confirm, job.methods, job.output, job.work);
+            println!("  {} call, job {:?}, output {}, work {}", call_name(job.call), job.entries, job.output, job.work);
             println!("  input of {} bytes: {}", job.input.len(), show(&job.input[..job.input.len().min(4096)]));
         }
     }

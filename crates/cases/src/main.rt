@@ -47,20 +47,13 @@ fn print_case(name: &[u8], answer: Answer, output: &[u8], work: &[u8]) {
     io::write_all(STDOUT_FILENO, b"\n");
 }
 
-fn read_case(
-    name: &[u8],
-    set: &[u8],
-    methods: &[u8],
-    read: &[u8],
-    output: &mut [u8],
-    work: &mut [u8],
-) {
-    let answer = job::correct_read(set, 1, methods, read, output, work);
+fn read_case(name: &[u8], set: &[u8], job: &[u8], read: &[u8], output: &mut [u8], work: &mut [u8]) {
+    let answer = job::correct_read(set, job, read, output, work);
     print_case(name, answer, output, work);
 }
 
 fn batch_case(name: &[u8], set: &[u8], batch: &[u8], output: &mut [u8], work: &mut [u8]) {
-    let answer = job::correct_batch(set, 1, b"\x01", batch, output, work);
+    let answer = job::correct_batch(set, b"\x01\x01", batch, output, work);
     print_case(name, answer, output, work);
 }
 
@@ -104,7 +97,7 @@ fn part_case(
     read_case(
         name,
         set,
-        b"\x01",
+        b"\x01\x01",
         &long[..read],
         &mut output[..room],
         &mut work[..rest],
@@ -183,7 +176,7 @@ fn work_cases(set: &[u8]) {
     read_case(
         b"work of 15, output of 8",
         set,
-        b"\x01",
+        b"\x01\x01",
         b"AAC",
         &mut output,
         &mut short_by_output,
@@ -191,7 +184,7 @@ fn work_cases(set: &[u8]) {
     read_case(
         b"work of 17, read of 9",
         set,
-        b"\x01",
+        b"\x01\x01",
         b"AACAACAAC",
         &mut output,
         &mut short_by_read,
@@ -199,7 +192,7 @@ fn work_cases(set: &[u8]) {
     read_case(
         b"work of 18, read of 9",
         set,
-        b"\x01",
+        b"\x01\x01",
         b"AACAACAAC",
         &mut output,
         &mut by_read,
@@ -207,19 +200,27 @@ fn work_cases(set: &[u8]) {
     read_case(
         b"work of 16, output of 8",
         set,
-        b"\x01",
+        b"\x01\x01",
         b"AAC",
         &mut output,
         &mut by_output,
     );
 }
 
-// Refusal 2.
-fn method_cases(set: &[u8]) {
+// Refusal 2; the last call but one has eight entries and half of one.
+fn entry_cases(set: &[u8]) {
     let mut output = [FILL; 8];
     let mut work = [FILL; 16];
-    read_case(b"9 methods", set, &[1; 9], b"AACC", &mut output, &mut work);
-    read_case(b"8 methods", set, &[1; 8], b"AACC", &mut output, &mut work);
+    read_case(b"9 entries", set, &[1; 18], b"AACC", &mut output, &mut work);
+    read_case(
+        b"job of 17 bytes",
+        set,
+        &[1; 17],
+        b"AACC",
+        &mut output,
+        &mut work,
+    );
+    read_case(b"8 entries", set, &[1; 16], b"AACC", &mut output, &mut work);
 }
 
 fn line_cases(set: &[u8]) {
@@ -255,7 +256,7 @@ fn main() {
     let set = sample_set();
     longest_cases(&set);
     work_cases(&set);
-    method_cases(&set);
+    entry_cases(&set);
     line_cases(&set);
     set_case(b"no set", b"");
     set_case(b"set of 513 bytes", &[0; 513]);

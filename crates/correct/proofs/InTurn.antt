@@ -1,18 +1,17 @@
--- Passes one after the other: what is done so far and what is left of the methods.
-use Prim.Native.Nat.{ℕ, _+_, _%_, _≤_, _<_, max}
+-- Passes one after the other: what is done so far and what is left of the entries.
+use Prim.Native.Nat.{ℕ, suc, _+_, _-_, _%_, _≤_, _<_, max}
 use native.Mathlib.Omega.{arith}
-use native.Mathlib.Nat.{add-zero, add-assoc}
+use native.Mathlib.Nat.{add-zero, add-assoc, sub-zero}
 use native.Mathlib.Numerals.{add-one}
 use borrow.Author.Tests.{eq-eqb, ne-eqb}
-use mathlib.Core.Path.{_≡_, refl}
+use mathlib.Core.Path.{_≡_, refl, sym, ap}
 use mathlib.Core.Bool.{Bool, true, false}
 use mathlib.Core.List.{List, [], _∷_}
-use lib.ListN.{length, getD, drop, drop-of-length-le}
-use lib.Seq.{drop-cons}
+use lib.ListN.{length}
 use lib.Dec.{eqb}
 use Rattle.rules.specs.Set.{KmerSet}
 use Rattle.rules.specs.Driver.{Pass}
-use Rattle.rules.specs.Job.{Method, methodOf, methodsOf, pass, result}
+use Rattle.rules.specs.Job.{Entry, entryAt, entryCount, entriesFrom, entriesOf, pass, result}
 use Rattle.rules.specs.Counts.{sum, passesOf, turns, lookups, attempts, corrections}
 use Rattle.rules.specs.Calls.{longest}
 use Rattle.correct.specs.Through.{through, held}
@@ -35,15 +34,23 @@ held-length n output work e = go (eqb (n % 2) 0) refl
     go true h = rw (h, held)
     go false h = rw (h, held) e
 
--- ---- the methods from i on
+-- ---- the entries from i on
 
-pub methods-next : (bs : List ℕ) (i : ℕ) → i < length bs → methodsOf (drop i bs) ≡ methodOf (getD bs i 0) ∷ methodsOf (drop (i + 1) bs)
-unfolding methodsOf
-methods-next bs i h = rw (drop-cons bs i 0 h, add-one)
+module _ (job : List ℕ) where
+  abbrev pub entriesLeft : ℕ → List Entry
+  entriesLeft i = entriesFrom job i (entryCount job - i)
 
-pub methods-over : (bs : List ℕ) (i : ℕ) → length bs ≤ i → methodsOf (drop i bs) ≡ []
-unfolding methodsOf
-methods-over bs i h = rw (drop-of-length-le bs h)
+  pub entries-all : entriesOf job ≡ entriesLeft 0
+  unfolding entriesOf
+  entries-all = ap (entriesFrom job 0) (sym (sub-zero (entryCount job)))
+
+  pub entries-next : (i : ℕ) → i < entryCount job → entriesLeft i ≡ entryAt job i ∷ entriesLeft (i + 1)
+  unfolding entriesFrom
+  entries-next i h = let more : entryCount job - i ≡ suc (entryCount job - suc i) = omega arith in rw (more, add-one i, entriesFrom)
+
+  pub entries-over : (i : ℕ) → entryCount job ≤ i → entriesLeft i ≡ []
+  unfolding entriesFrom
+  entries-over i h = let none : entryCount job - i ≡ 0 = omega arith in rw (none, entriesFrom)
 
 -- ---- counts
 
@@ -58,20 +65,20 @@ both p q =
       accepted = p .accepted + q .accepted;
     }
 
-module _ (set : KmerSet) (c : ℕ) where
-  -- The passes so far and then the methods that are left.
-  abbrev pub goOn : Pass → List Method → Pass
-  goOn p ms = both p (through set c ms (p .bytes))
+module _ (set : KmerSet) where
+  -- The passes so far and then the entries that are left.
+  abbrev pub goOn : Pass → List Entry → Pass
+  goOn p es = both p (through set es (p .bytes))
 
-  pub begun : (m : Method) (ms : List Method) (read : List ℕ) → goOn (pass set c m read) ms ≡ through set c (m ∷ ms) read
+  pub begun : (e : Entry) (es : List Entry) (read : List ℕ) → goOn (pass set e read) es ≡ through set (e ∷ es) read
   unfolding through passesOf sum turns lookups attempts corrections result
-  begun m ms read = refl
+  begun e es read = refl
 
-  pub next : (p : Pass) (m : Method) (ms : List Method) → goOn (both p (pass set c m (p .bytes))) ms ≡ goOn p (m ∷ ms)
+  pub next : (p : Pass) (e : Entry) (es : List Entry) → goOn (both p (pass set e (p .bytes))) es ≡ goOn p (e ∷ es)
   unfolding through passesOf sum turns lookups attempts corrections result
-  next p m ms =
-      let q = pass set c m (p .bytes) in
-      let r = through set c ms (q .bytes) in
+  next p e es =
+      let q = pass set e (p .bytes) in
+      let r = through set es (q .bytes) in
       λ i. record {
         bytes = r .bytes;
         turns = add-assoc (p .turns) (q .turns) (r .turns) i;
@@ -93,18 +100,18 @@ module _ (set : KmerSet) (c : ℕ) where
 
   -- ---- refusal 11
 
-  module _ (room : ℕ) (m : Method) (l : List Method) (fed : List ℕ) where
+  module _ (room : ℕ) (e : Entry) (es : List Entry) (fed : List ℕ) where
     abbrev p : Pass
-    p = pass set c m fed
+    p = pass set e fed
 
-    pub fits : length (p .bytes) ≤ room → max room (longest set c l (p .bytes)) ≡ max room (longest set c (m ∷ l) fed)
+    pub fits : length (p .bytes) ≤ room → max room (longest set es (p .bytes)) ≡ max room (longest set (e ∷ es) fed)
     unfolding longest
     fits h = omega arith
 
-    pub long : room < length (p .bytes) → room < longest set c (m ∷ l) fed
+    pub long : room < length (p .bytes) → room < longest set (e ∷ es) fed
     unfolding longest
     long h = omega arith
 
-  pub longest-end : (fed : List ℕ) → longest set c [] fed ≡ length fed
+  pub longest-end : (fed : List ℕ) → longest set [] fed ≡ length fed
   unfolding longest
   longest-end fed = refl

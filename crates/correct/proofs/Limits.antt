@@ -9,19 +9,16 @@ use mathlib.Core.List.{List}
 use lib.ListN.{length}
 use Rattle.rules.specs.Set.{solid, setCheck, setOf}
 use Rattle.rules.specs.Driver.{Pass, drive}
-use Rattle.rules.specs.Job.{Method, One, Two, Graph, GapSize, correctError, pass}
+use Rattle.rules.specs.Job.{Method, One, Two, Graph, GapSize, methodOf, entry, correctError, pass}
 use Rattle.rules.specs.Counts.{F}
 use Rattle.rules.proofs.Driver.{drive-turns}
 use Rattle.rules.proofs.Lookups.{drive-lookups, drive-short}
 use Rattle.rules.proofs.Demands.{fair, steady}
 use Rattle.set.proofs.Opened.{opened-k-low, opened-k-high, opened-n-le, set-count}
 use Rattle.rules.specs.Calls.{maxRead}
+use Rattle.correct.specs.Pass.{maxF, Small}
 use Rattle.correct.proofs.Drives.{drive-fewer}
 use Rattle.correct.proofs.InTurn.{both}
-
--- The largest F of demand 3: GapSize's, at k = 31, confirm 255 and 16,777,216 keys.
-abbrev pub maxF : ℕ
-maxF = 503317293
 
 -- What a pass that is fed w bytes can count.
 pub record Limited (w : ℕ) (p : Pass) : Type 0 where
@@ -42,16 +39,19 @@ module _ (bytes : List ℕ) (opens : setCheck bytes ≡ none) (c : ℕ) (c-low :
   unfolding setOf
   k-low = opened-k-low bytes opens
 
-  pub pass-limited : (m : Method) (fed : List ℕ) → Limited (length fed) (pass (setOf bytes) c m fed)
-  unfolding pass
-  pass-limited m fed =
+  pub pass-limited : (method : ℕ) (fed : List ℕ) → Limited (length fed) (pass (setOf bytes) (entry method c) fed)
+  unfolding pass entry
+  pass-limited method fed =
       let k = setOf bytes .k in
       let sol = solid (setOf bytes) in
-      let ce = correctError (setOf bytes) c m in
-      let t : drive k sol ce fed .turns ≤ 2 * length fed = omega (arith, drive-turns k sol ce (steady (setOf bytes) k-low c c-low m) fed) in
+      let ce = correctError (setOf bytes) c (methodOf method) in
+      let t : drive k sol ce fed .turns ≤ 2 * length fed = omega (arith, drive-turns k sol ce (steady (setOf bytes) k-low c c-low (methodOf method)) fed) in
       let f = drive-fewer k sol ce fed in
       record { turns = t; lookups = looked; attempts = omega (arith, f .attempts); accepted = omega (arith, f .accepted) }
     where
+      m : Method
+      m = methodOf method
+
       looked : drive (setOf bytes .k) (solid (setOf bytes)) (correctError (setOf bytes) c m) fed .lookups ≤ 1 + length fed * maxF
       looked = elim (decLe (setOf bytes .k) (length fed)) [
         | yes le ↦ omega (
@@ -64,17 +64,8 @@ module _ (bytes : List ℕ) (opens : setCheck bytes ≡ none) (c : ℕ) (c-low :
 
 -- ---- several passes, none of them fed more than maxRead bytes
 
-abbrev pub maxCount : ℕ
-maxCount = 1 + maxRead * maxF
-
-pub record Totals (i : ℕ) (p : Pass) : Type 0 where
-  pub turns : p .turns ≤ i * maxCount
-  pub lookups : p .lookups ≤ i * maxCount
-  pub attempts : p .attempts ≤ i * maxCount
-  pub accepted : p .accepted ≤ i * maxCount
-
-pub one-total : (w : ℕ) (p : Pass) → w ≤ maxRead → Limited w p → Totals 1 p
-one-total w p h l =
+pub one-small : (w : ℕ) (p : Pass) → w ≤ maxRead → Limited w p → Small 1 p
+one-small w p h l =
     let m = mul-le-mul-right maxF h in
     record {
       turns = omega (arith, l .turns);
@@ -83,8 +74,8 @@ one-total w p h l =
       accepted = omega (arith, l .accepted);
     }
 
-pub add-total : (i j : ℕ) (p q : Pass) → Totals i p → Totals j q → Totals (i + j) (both p q)
-add-total i j p q a b =
+pub add-small : (i j : ℕ) (p q : Pass) → Small i p → Small j q → Small (i + j) (both p q)
+add-small i j p q a b =
     record {
       turns = omega (arith, a .turns, b .turns);
       lookups = omega (arith, a .lookups, b .lookups);

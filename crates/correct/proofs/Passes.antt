@@ -10,18 +10,18 @@ use Rattle.rules.specs.Letters.{kmer}
 use Rattle.rules.specs.Set.{setOf, solid}
 use Rattle.rules.specs.Driver as Rules
 use Rattle.rules.specs.Driver.{begin, drive}
-use Rattle.rules.specs.Job.{methodOf, pass}
+use Rattle.rules.specs.Job.{entry, pass}
 use Rattle.kmer.specs.declared.Header.{Header}
 use Rattle.kmer.specs.declared.Kmer.{Kmer}
 use Rattle.kmer.specs.Kmer.{HasCode}
 use Rattle.set.specs.Ready.{Ready}
 use Rattle.turn.specs.declared.Place.{Place}
 use Rattle.rules.specs.Calls.{maxRead}
-use Rattle.correct.specs.Pass.{returned}
+use Rattle.correct.specs.Pass.{returned, maxF}
 use Rattle.turn.specs.Turn.{stateOf, Countable, attemptOf, endOf}
 use Rattle.turn.proofs.Turns.{set-k}
 use Rattle.correct.proofs.Drives.{drive-short-is, drive-is, drive-long}
-use Rattle.correct.proofs.Limits.{maxF, Limited}
+use Rattle.correct.proofs.Limits.{Limited}
 
 pub countable : (w : ℕ) (p : Rules.Pass) → w ≤ maxRead → Limited w p → Countable p
 countable w p h l =
@@ -38,19 +38,19 @@ abbrev pub firstPlace : ℕ → Kmer → Bool → Place
 firstPlace k y v = record { kmer = y; previous = v; at = k; written = k; turns = 0; lookups = 1; attempts = 0; accepted = 0 }
 
 module _ (bytes starts : List ℕ) (head : Header) (ready : Ready bytes starts head) (method c : ℕ) (read : List ℕ) where
-  pass-is : pass (setOf bytes) c (methodOf method) read ≡ drive (head .k) (solid (setOf bytes)) (attemptOf bytes method c) read
-  unfolding pass
+  pass-is : pass (setOf bytes) (entry method c) read ≡ drive (head .k) (solid (setOf bytes)) (attemptOf bytes method c) read
+  unfolding pass entry
   pass-is = ap (λ (k : ℕ). drive k (solid (setOf bytes)) (attemptOf bytes method c) read) (set-k ready)
 
-  pub pass-short : length read < head .k → pass (setOf bytes) c (methodOf method) read ≡ returned read
+  pub pass-short : length read < head .k → pass (setOf bytes) (entry method c) read ≡ returned read
   pass-short lt = pass-is ∙ drive-short-is (head .k) (solid (setOf bytes)) (attemptOf bytes method c) read lt
 
-  pub pass-long : head .k ≤ length read → head .k ≤ length (pass (setOf bytes) c (methodOf method) read .bytes)
+  pub pass-long : head .k ≤ length read → head .k ≤ length (pass (setOf bytes) (entry method c) read .bytes)
   pass-long le = rw pass-is (drive-long (head .k) (solid (setOf bytes)) (attemptOf bytes method c) read le)
 
   pub pass-begun : (y : Kmer) (v : Bool) (out : List ℕ) → head .k ≤ length read → HasCode (head .k) (kmer (head .k) (take (head .k) read)) y
       → v ≡ solid (setOf bytes) (y .code) → take (head .k) out ≡ take (head .k) read
-      → endOf bytes head method c (stateOf (firstPlace (head .k) y v) read out) ≡ pass (setOf bytes) c (methodOf method) read
+      → endOf bytes head method c (stateOf (firstPlace (head .k) y v) read out) ≡ pass (setOf bytes) (entry method c) read
   unfolding stateOf begin
   pass-begun y v out le h e same =
       let k = head .k in

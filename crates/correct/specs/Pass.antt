@@ -1,9 +1,10 @@
 -- A pass: what its answer means by the rules.
-use Prim.Native.Nat.{ℕ, _≤_, _<_}
+use Prim.Native.Nat.{ℕ, _+_, _*_, _≤_, _<_}
 use mathlib.Core.Path.{_≡_}
 use mathlib.Core.List.{List}
 use lib.ListN.{length, take}
 use Rattle.rules.specs.Driver as rules
+use Rattle.rules.specs.Calls.{maxRead}
 use Rattle.correct.specs.declared.Counts.{Counts}
 use Rattle.correct.specs.declared.Pass.{Pass}
 use Rattle.correct.specs.declared.Pass.the-variants.{Done, Full}
@@ -21,6 +22,22 @@ abbrev pub PassIs : ℕ → List ℕ → rules.Pass → Pass → Type 0
 PassIs room out n (Done r) = (passOf r out ≡ n) × (r .written ≤ length out)
 PassIs room out n Full = room < length (n .bytes)
 
+-- The largest F of demand 3: GapSize's, at k = 31, confirm 255 and 16,777,216 keys.
+abbrev pub maxF : ℕ
+maxF = 503317293
+
+-- What i passes can count, none of them fed more than 1,048,576 bytes: sums of it do not wrap.
+pub record Small (i : ℕ) (p : rules.Pass) : Type 0 where
+  pub turns : p .turns ≤ i * (2 * maxRead)
+  pub lookups : p .lookups ≤ i * (1 + maxRead * maxF)
+  pub attempts : p .attempts ≤ i * (2 * maxRead)
+  pub accepted : p .accepted ≤ i * (2 * maxRead)
+
+pub record PassInto (room : ℕ) (out : List ℕ) (n : rules.Pass) (r : Pass) : Type 0 where
+  pub is : PassIs room out n r
+  pub small : Small 1 n
+
 pub record Passed (out out′ : List ℕ) (n : rules.Pass) (r : Pass) : Type 0 where
   pub is : PassIs (length out) out′ n r
   pub room : length out′ ≡ length out
+  pub small : Small 1 n

@@ -1,4 +1,4 @@
--- Document 01, "Records", Job and Counts, and refusal 11: a read through a list of methods.
+-- Document 01, "Records", Job and Counts, and refusal 11: a read through the entries of a job.
 use Prim.Native.Nat.{ℕ, _+_, _≤_, _<_, _%_}
 use mathlib.Core.Path.{_≡_}
 use mathlib.Core.Bool.{true, false}
@@ -7,35 +7,36 @@ use lib.ListN.{length}
 use lib.Dec.{eqb}
 use Rattle.rules.specs.Set.{KmerSet}
 use Rattle.rules.specs.Driver as rules
-use Rattle.rules.specs.Job.{Method, methodsOf, result}
+use Rattle.rules.specs.Job.{Entry, entriesOf, result}
 use Rattle.rules.specs.Counts.{Fed, sum, passesOf, turns, lookups, attempts, corrections}
 use Rattle.rules.specs.Calls.{longest}
 use Rattle.correct.specs.declared.Pass.{Pass}
 use Rattle.correct.specs.declared.Pass.the-variants.{Done, Full}
 use Rattle.correct.specs.declared.Counts.{Counts}
-use Rattle.correct.specs.Pass.{passOf}
+use Rattle.correct.specs.Pass.{passOf, Small}
 
--- The methods' result, and what their passes count.
-unfoldable pub through : KmerSet → ℕ → List Method → List ℕ → rules.Pass
+-- The entries' result, and what their passes count.
+unfoldable pub through : KmerSet → List Entry → List ℕ → rules.Pass
 unfolding result sum passesOf turns lookups attempts corrections
-through set c ms read =
-    let ps : List Fed = passesOf set c ms read in
+through set es read =
+    let ps : List Fed = passesOf set es read in
     record {
-      bytes = result set c ms read;
-      turns = sum (turns set c) ps;
-      lookups = sum (lookups set c) ps;
-      attempts = sum (attempts set c) ps;
-      accepted = sum (corrections set c) ps;
+      bytes = result set es read;
+      turns = sum (turns set) ps;
+      lookups = sum (lookups set) ps;
+      attempts = sum (attempts set) ps;
+      accepted = sum (corrections set) ps;
     }
 
--- The answer to a read through a list of methods: the result with its counts; Full exactly where a pass result (the read, if no
--- methods) is longer than the room.
-abbrev pub ThroughIs : KmerSet → ℕ → List Method → List ℕ → ℕ → List ℕ → Pass → Type 0
-ThroughIs set c ms read room out (Done r) = (passOf r out ≡ through set c ms read) × (r .written ≤ length out) × (longest set c ms read ≤ room)
-ThroughIs set c ms read room out Full = room < longest set c ms read
+-- The answer to a read through a list of entries: the result with its counts; Full exactly where a pass result (the read, if no
+-- entries) is longer than the room.
+abbrev pub ThroughIs : KmerSet → List Entry → List ℕ → ℕ → List ℕ → Pass → Type 0
+ThroughIs set es read room out (Done r) =
+    (passOf r out ≡ through set es read) × (r .written ≤ length out) × (longest set es read ≤ room) × Small (length es) (passOf r out)
+ThroughIs set es read room out Full = room < longest set es read
 
-pub record Through (set : KmerSet) (c : ℕ) (methods read output output′ work work′ : List ℕ) (r : Pass) : Type 0 where
-  pub is : ThroughIs set c (methodsOf methods) read (length output) output′ r
+pub record Through (set : KmerSet) (job read output output′ work work′ : List ℕ) (r : Pass) : Type 0 where
+  pub is : ThroughIs set (entriesOf job) read (length output) output′ r
   pub output-room : length output′ ≡ length output
   pub work-room : length work′ ≡ length work
 

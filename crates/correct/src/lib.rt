@@ -1,5 +1,5 @@
-// The driver, `Corrector::correct` of src/correct/mod.rs: a pass, which is one read through one method, and a read through a list of
-// methods. Document 01, "Driver".
+// The driver, `Corrector::correct` of src/correct/mod.rs: a pass, which is one read through one method, and a read through the entries
+// of a job. Document 01, "Driver", and document 02, W1.
 use kmer::Header;
 use turn::Place;
 use turn::Turned;
@@ -7,10 +7,10 @@ ghost use mathlib.Core.Path.{_≡_};
 ghost use Prim.Native.Nat.{_+_, _-_, _≤_, _<_, _^_};
 ghost use lib.ListN.{length, take};
 ghost use Rattle.rules.specs.Set.{setOf};
-ghost use Rattle.rules.specs.Job.{methodOf, pass};
+ghost use Rattle.rules.specs.Job.{entry, entryAt, entryCount, entriesOf, Confirmed, pass};
 ghost use Rattle.set.specs.Ready.{Ready};
 ghost use Rattle.rules.specs.Calls.{maxRead, maxOutput, maxMethods};
-ghost use Rattle.correct.specs.Pass.{returned, PassIs, Passed};
+ghost use Rattle.correct.specs.Pass.{returned, PassIs, PassInto, Passed};
 ghost use Rattle.turn.specs.Turn.{stateOf, Stands, Countable, endOf};
 ghost use Rattle.correct.specs.Through.{held, Through, joined};
 
@@ -58,7 +58,9 @@ fn turns_of(
         r ⌝ }
 {
     let mut p = first;
+    let mut ahead = scan::first_ahead(head.n, read.len());
     while p.at < read.len() {
+        ahead = scan::read_on(set, starts, head, p.kmer, read, p.at, ahead);
         let Turned::To(next) = turn::turn(set, starts, head, method, c, p, read, out) else {
             return Pass::Full;
         };
@@ -102,7 +104,7 @@ pub fn correct(
 ) -> Pass
     requires { ⌜ Ready (now set) (now starts) head × (1 ≤ c) × (length (now read) ≤ maxRead) ⌝ }
     ensures { λ r. ⌜
-        Passed (now (out .entry)) (now (out .exit)) (pass (setOf (now (set .entry))) c (methodOf method) (now (read .entry))) r ⌝ }
+        Passed (now (out .entry)) (now (out .exit)) (pass (setOf (now (set .entry))) (entry method c) (now (read .entry))) r ⌝ }
 {
     let k = head.k;
     if read.len() < k {
@@ -127,25 +129,27 @@ pub fn correct(
     turns_of(set, starts, head, method, c, first, read, out)
 }
 
-// The first of the passes that are left, from the read.
+// The first pass, entry 0, from the read.
 fn first_pass(
     set: &[u8],
     starts: &[u32],
     head: Header,
-    method: u8,
-    c: u8,
-    left: usize,
+    job: &[u8],
     read: &[u8],
     output: &mut [u8],
     work: &mut [u8],
 ) -> Pass
     requires { ⌜
-        Ready (now set) (now starts) head × (1 ≤ c) × (1 ≤ left) × (length (now read) ≤ maxRead) × (length (now work) ≡ length (now output)) ⌝ }
+        Ready (now set) (now starts) head × (0 < entryCount (now job)) × Confirmed (entriesOf (now job)) × (length (now read) ≤ maxRead)
+        × (length (now work) ≡ length (now output)) ⌝ }
     ensures { λ r. ⌜
-        PassIs (length (now (output .entry))) (held (left - 1) (now (output .exit)) (now (work .exit)))
-        (pass (setOf (now (set .entry))) c (methodOf method) (now (read .entry)))
+        PassInto (length (now (output .entry))) (held (entryCount (now (job .entry)) - 1) (now (output .exit)) (now (work .exit)))
+        (pass (setOf (now (set .entry))) (entryAt (now (job .entry)) 0) (now (read .entry)))
         r ⌝ }
 {
+    let method = entries::method_of(job, 0);
+    let c = entries::confirm_of(job, 0);
+    let left = entries::count(job);
     if left % 2 == 1 {
         correct(set, starts, head, method, c, read, output)
     } else {
@@ -153,26 +157,29 @@ fn first_pass(
     }
 }
 
-// The next of the passes that are left, from the buffer that the one before wrote to the other.
+// The pass of a later entry, from the buffer that the one before wrote to the other.
 fn next_pass(
     set: &[u8],
     starts: &[u32],
     head: Header,
-    method: u8,
-    c: u8,
-    left: usize,
+    job: &[u8],
+    i: usize,
     written: usize,
     output: &mut [u8],
     work: &mut [u8],
 ) -> Pass
     requires { ⌜
-        Ready (now set) (now starts) head × (1 ≤ c) × (1 ≤ left) × (written ≤ length (now output)) × (length (now output) ≤ maxOutput)
-        × (length (now work) ≡ length (now output)) ⌝ }
+        Ready (now set) (now starts) head × (i < entryCount (now job)) × Confirmed (entriesOf (now job)) × (written ≤ length (now output))
+        × (length (now output) ≤ maxOutput) × (length (now work) ≡ length (now output)) ⌝ }
     ensures { λ r. ⌜
-        PassIs (length (now (output .entry))) (held (left - 1) (now (output .exit)) (now (work .exit)))
-        (pass (setOf (now (set .entry))) c (methodOf method) (take written (held left (now (output .entry)) (now (work .entry)))))
+        PassInto (length (now (output .entry))) (held (entryCount (now (job .entry)) - i - 1) (now (output .exit)) (now (work .exit)))
+        (pass (setOf (now (set .entry))) (entryAt (now (job .entry)) i)
+        (take written (held (entryCount (now (job .entry)) - i) (now (output .entry)) (now (work .entry)))))
         r ⌝ }
 {
+    let method = entries::method_of(job, i);
+    let c = entries::confirm_of(job, i);
+    let left = entries::count(job) - i;
     if left % 2 == 0 {
         correct(set, starts, head, method, c, &output[..written], work)
     } else {
@@ -196,47 +203,38 @@ fn join(done: Counts, next: Counts) -> Counts
     }
 }
 
-// A read through a list of methods, each reading the bytes of the one before. The two buffers take turns, and the number of passes
-// that are left says which one is written, so that the last pass ends in the output. Without methods the read is copied.
+// A read through the entries of a job, each method reading the bytes of the one before and taking its own confirm. The two buffers take
+// turns, and the number of passes that are left says which one is written, so that the last pass ends in the output. Without entries
+// the read is copied.
 pub fn through(
     set: &[u8],
     starts: &[u32],
     head: Header,
-    c: u8,
-    methods: &[u8],
+    job: &[u8],
     read: &[u8],
     output: &mut [u8],
     work: &mut [u8],
 ) -> Pass
-    requires { ⌜ Ready (now set) (now starts) head × (1 ≤ c) × (length (now methods) ≤ maxMethods) × (length (now read) ≤ maxRead) ⌝ }
+    requires { ⌜
+        Ready (now set) (now starts) head × (entryCount (now job) ≤ maxMethods) × Confirmed (entriesOf (now job)) × (length (now read) ≤ maxRead) ⌝ }
     requires { ⌜ (length (now output) ≤ maxOutput) × (length (now work) ≡ length (now output)) ⌝ }
     ensures { λ r. ⌜
-        Through (setOf (now (set .entry))) c (now (methods .entry)) (now (read .entry))
+        Through (setOf (now (set .entry))) (now (job .entry)) (now (read .entry))
         (now (output .entry)) (now (output .exit)) (now (work .entry)) (now (work .exit))
         r ⌝ }
 {
-    let n = methods.len();
+    let n = entries::count(job);
     if n == 0 {
         return copied(read, output);
     }
-    let Pass::Done(first) = first_pass(set, starts, head, methods[0], c, n, read, output, work)
-    else {
+    let Pass::Done(first) = first_pass(set, starts, head, job, read, output, work) else {
         return Pass::Full;
     };
     let mut counts = first;
     for i in 1..n {
         let written = counts.written;
-        let Pass::Done(next) = next_pass(
-            set,
-            starts,
-            head,
-            methods[i],
-            c,
-            n - i,
-            written,
-            output,
-            work,
-        ) else {
+        let passed = next_pass(set, starts, head, job, i, written, output, work);
+        let Pass::Done(next) = passed else {
             return Pass::Full;
         };
         counts = join(counts, next);

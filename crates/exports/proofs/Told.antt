@@ -4,9 +4,11 @@ use native.Mathlib.Omega.{arith}
 use mathlib.Core.Path.{_≡_, ap, _∙_, subst}
 use mathlib.Core.List.{List, [], _∷_}
 use lib.ListN.{length}
+use Rattle.rules.specs.Refusal.{Outcome}
 use Rattle.rules.specs.Set.{KmerSet, opened}
-use Rattle.rules.specs.Job.{Method}
+use Rattle.rules.specs.Job.{Entry}
 use Rattle.rules.specs.Calls.{After}
+use Rattle.rules.specs.Blocks.{Made}
 use Rattle.refusal.specs.declared.Refusal.{Refusal}
 use Rattle.refusal.specs.declared.Refusal.the-variants as Refusals
 use Rattle.refusal.specs.Refusal.{refusalOf}
@@ -18,7 +20,7 @@ use Rattle.report.specs.declared.Answer.{Answer}
 use Rattle.report.specs.declared.Answer.the-variants as Answers
 use Rattle.report.specs.Answer as Report
 use Rattle.report.specs.Answer.{answerOf}
-use Rattle.exports.specs.Numbers.{numbersOf, refusedNumbers, openNumbers, Told, Exact, Ceiling}
+use Rattle.exports.specs.Numbers.{numbersOf, refusedNumbers, openNumbers, madeNumbers, Told, Exact, Ceiling, MadeExact}
 use Rattle.exports.proofs.Laid.{laid-there, laid-length}
 
 -- ---- opening
@@ -35,6 +37,12 @@ module _ (bytes : List ℕ) where
 pub told-by : {ns ms old new : List ℕ} {r : ℕ} → ns ≡ ms → Told ns old r new → Told ms old r new
 told-by {ns} {ms} {old} {new} {r} e t = subst (λ (l : List ℕ). Told l old r new) e t
 
+-- ---- a maker of blocks
+
+pub told-made : (a : Outcome ℕ) {ns old new : List ℕ} {r : ℕ} → ns ≡ madeNumbers a → Told ns old r new → {made : Made} {b : List ℕ}
+    → record { answer = a; buffer = b } ≡ made → MadeExact made old r b new
+told-made a n t e = record { told = told-by (n ∙ ap (λ (m : Made). madeNumbers (m .answer)) e) t; buffer = ap (λ (m : Made). m .buffer) e }
+
 -- ---- a call: the code's answer a, told as r and new
 
 pub told-exact : (a : Answer) {old new : List ℕ} {r : ℕ} → Told (numbersOf (answerOf a)) old r new → {after : After} {o w : List ℕ}
@@ -45,7 +53,7 @@ number-pos : (x : Refusal) → 0 < refusalOf x .number
 number-pos Refusals.Long = omega arith
 number-pos Refusals.Methods = omega arith
 number-pos (Refusals.Method i) = omega arith
-number-pos Refusals.Confirm = omega arith
+number-pos (Refusals.Confirm i) = omega arith
 number-pos Refusals.Buffers = omega arith
 number-pos Refusals.Batch = omega arith
 number-pos Refusals.Length = omega arith
@@ -53,9 +61,12 @@ number-pos (Refusals.Check block) = omega arith
 number-pos Refusals.Header = omega arith
 number-pos (Refusals.Key word) = omega arith
 number-pos (Refusals.NoRoom line) = omega arith
+number-pos (Refusals.Line line) = omega arith
+number-pos (Refusals.NotRising line) = omega arith
+number-pos Refusals.TooShort = omega arith
 
-module _ (set : KmerSet) (c : ℕ) (ms : List Method) (reads : List (List ℕ)) {old new : List ℕ} {r : ℕ} where
-  pub told-ceiling : (a : Answer) → Told (numbersOf (answerOf a)) old r new → Report.Ceiling set c ms reads a → Ceiling set c ms reads r new
+module _ (set : KmerSet) (es : List Entry) (reads : List (List ℕ)) {old new : List ℕ} {r : ℕ} where
+  pub told-ceiling : (a : Answer) → Told (numbersOf (answerOf a)) old r new → Report.Ceiling set es reads a → Ceiling set es reads r new
   unfolding numbersOf
   told-ceiling (Answers.Report x) t h z room =
       let ns : List ℕ = numbersOf (answerOf (Answers.Report x)) in

@@ -6,10 +6,11 @@ use lib.ListN.{length, getD, take, drop}
 use Rattle.rules.specs.Refusal.{Refusal, Outcome, accepted, refused}
 use Rattle.rules.specs.Report.{Report}
 use Rattle.rules.specs.Set.{KmerSet, opened}
-use Rattle.rules.specs.Job.{Method}
+use Rattle.rules.specs.Job.{Entry}
 use Rattle.rules.specs.Counts.{Demand3}
 use Rattle.rules.specs.Calls.{After}
 use Rattle.rules.specs.Solid.{Solids}
+use Rattle.rules.specs.Blocks.{Made}
 use Rattle.blocks.specs.declared.Opened.{Opened}
 use Rattle.blocks.specs.Opened.{Opens}
 
@@ -36,6 +37,11 @@ unfoldable pub solidNumbers : Outcome Solids → List ℕ
 solidNumbers (accepted count) = 0 ∷ 0 ∷ count .kmers ∷ count .solid ∷ []
 solidNumbers (refused r) = refusedNumbers r
 
+-- A maker of blocks: the refusal's number (0: none), its place, the length of the blocks in bytes.
+unfoldable pub madeNumbers : Outcome ℕ → List ℕ
+madeNumbers (accepted length) = 0 ∷ 0 ∷ length ∷ []
+madeNumbers (refused r) = r .number ∷ r .place ∷ 0 ∷ []
+
 -- As many of the numbers as there is room for, from the start; the rest stays as it was.
 unfoldable pub laid : List ℕ → List ℕ → List ℕ
 laid numbers old = take (length old) numbers ++ drop (length numbers) old
@@ -52,5 +58,10 @@ pub record Exact (after : After) (old : List ℕ) (r : ℕ) (o w new : List ℕ)
   pub work : w ≡ after .work
 
 -- Demand 3, of an accepted call: turns and lookups are numbers 3 and 4 of an answer that has so many.
-abbrev pub Ceiling : KmerSet → ℕ → List Method → List (List ℕ) → ℕ → List ℕ → Type 0
-Ceiling set c ms reads r new = r ≡ 0 → 5 ≤ length new → Demand3 set c ms reads (getD new 3 0) (getD new 4 0)
+abbrev pub Ceiling : KmerSet → List Entry → List (List ℕ) → ℕ → List ℕ → Type 0
+Ceiling set es reads r new = r ≡ 0 → 5 ≤ length new → Demand3 set es reads (getD new 3 0) (getD new 4 0)
+
+-- A maker of blocks: its numbers and every byte of the lent buffer are those of the rules.
+pub record MadeExact (made : Made) (old : List ℕ) (r : ℕ) (b new : List ℕ) : Type 0 where
+  pub told : Told (madeNumbers (made .answer)) old r new
+  pub buffer : b ≡ made .buffer

@@ -1,6 +1,7 @@
-// The calls of document 01 for C and Rust: a slice passes as pointer and length, and what a call answers stands as numbers in a lent slice.
+// The calls of documents 01 and 02 for C and Rust: a slice passes as pointer and length, and what a call answers stands as numbers in a lent slice.
 // corrector.h says the same for a host.
 use blocks::Opened;
+use make_set::Made;
 use refusal::Refusal;
 use report::Answer;
 use solid::Count;
@@ -9,13 +10,15 @@ ghost use mathlib.Core.List.{[], _∷_};
 ghost use Prim.Native.Nat.{_<_};
 ghost use lib.ListN.{length};
 ghost use Rattle.rules.specs.Set.{setOf, opened};
-ghost use Rattle.rules.specs.Job.{methodsOf, lines};
+ghost use Rattle.rules.specs.Job.{entriesOf, lines};
 ghost use Rattle.rules.specs.Calls.{correctRead, correctBatch};
 ghost use Rattle.rules.specs.Solid.{countSolid};
+ghost use Rattle.rules.specs.MakeSet.{makeSet};
 ghost use Rattle.refusal.specs.Refusal.{refusalOf};
 ghost use Rattle.report.specs.Answer.{given, answerOf};
 ghost use Rattle.solid.specs.Solid.{countOf};
-ghost use Rattle.exports.specs.Numbers.{numbersOf, refusedNumbers, openNumbers, OpenNumbers, solidNumbers, Told, Exact, Ceiling};
+ghost use Rattle.make_set.specs.Make.{outcomeOf};
+ghost use Rattle.exports.specs.Numbers.{numbersOf, refusedNumbers, openNumbers, OpenNumbers, solidNumbers, madeNumbers, Told, Exact, Ceiling, MadeExact};
 
 // The numbers of a call.
 fn numbers_of(answer: Answer) -> [u64; 8]
@@ -77,6 +80,16 @@ fn solid_numbers(count: Count) -> [u64; 4]
     }
 }
 
+// The numbers of a maker of blocks.
+fn made_numbers(made: Made) -> [u64; 3]
+    ensures { λ r. ⌜ r ≡ madeNumbers (outcomeOf made) ⌝ }
+{
+    match made {
+        Made::Blocks(length) => [0, 0, length as u64],
+        Made::Refused(reason) => [refusal::number_of(reason), refusal::place_of(reason), 0],
+    }
+}
+
 // Writes as many numbers as there is room for, and returns the first.
 fn tell(numbers: &[u64], answer: &mut [u64]) -> u64
     requires { ⌜ 0 < length (now numbers) ⌝ }
@@ -110,46 +123,38 @@ pub extern "C" fn corrector_open(set: &[u8], answer: &mut [u64]) -> u64
 #[no_mangle]
 pub extern "C" fn corrector_read(
     set: &[u8],
-    confirm: u8,
-    methods: &[u8],
+    job: &[u8],
     read: &[u8],
     output: &mut [u8],
     work: &mut [u8],
     answer: &mut [u64],
 ) -> u64
     ensures exact { λ r. ⌜
-        Exact (correctRead (given (now (set .entry)) confirm (now (methods .entry)) (now (read .entry)) (now (output .entry)) (now (work .entry))))
+        Exact (correctRead (given (now (set .entry)) (now (job .entry)) (now (read .entry)) (now (output .entry)) (now (work .entry))))
         (now (answer .entry)) r (now (output .exit)) (now (work .exit)) (now (answer .exit)) ⌝ }
     ensures ceiling { λ r. ⌜
-        Ceiling (setOf (now (set .entry))) confirm (methodsOf (now (methods .entry))) (now (read .entry) ∷ []) r (now (answer .exit)) ⌝ }
+        Ceiling (setOf (now (set .entry))) (entriesOf (now (job .entry))) (now (read .entry) ∷ []) r (now (answer .exit)) ⌝ }
 {
-    tell_answer(
-        job::correct_read(set, confirm, methods, read, output, work),
-        answer,
-    )
+    tell_answer(job::correct_read(set, job, read, output, work), answer)
 }
 
 // The batch call.
 #[no_mangle]
 pub extern "C" fn corrector_batch(
     set: &[u8],
-    confirm: u8,
-    methods: &[u8],
+    job: &[u8],
     batch: &[u8],
     output: &mut [u8],
     work: &mut [u8],
     answer: &mut [u64],
 ) -> u64
     ensures exact { λ r. ⌜
-        Exact (correctBatch (given (now (set .entry)) confirm (now (methods .entry)) (now (batch .entry)) (now (output .entry)) (now (work .entry))))
+        Exact (correctBatch (given (now (set .entry)) (now (job .entry)) (now (batch .entry)) (now (output .entry)) (now (work .entry))))
         (now (answer .entry)) r (now (output .exit)) (now (work .exit)) (now (answer .exit)) ⌝ }
     ensures ceiling { λ r. ⌜
-        Ceiling (setOf (now (set .entry))) confirm (methodsOf (now (methods .entry))) (lines (now (batch .entry))) r (now (answer .exit)) ⌝ }
+        Ceiling (setOf (now (set .entry))) (entriesOf (now (job .entry))) (lines (now (batch .entry))) r (now (answer .exit)) ⌝ }
 {
-    tell_answer(
-        job::correct_batch(set, confirm, methods, batch, output, work),
-        answer,
-    )
+    tell_answer(job::correct_batch(set, job, batch, output, work), answer)
 }
 
 // The k-mers of a read, and the solid ones among them. Refusals 1 and 7 to 10.
@@ -158,5 +163,20 @@ pub extern "C" fn corrector_count_solid(set: &[u8], read: &[u8], answer: &mut [u
     ensures { λ r. ⌜ Told (solidNumbers (countSolid (now (set .entry)) (now (read .entry)))) (now (answer .entry)) r (now (answer .exit)) ⌝ }
 {
     let numbers = solid_numbers(solid::count_solid(set, read));
+    tell(&numbers, answer)
+}
+
+// The set file made from k-mer counts as text. Refusals 9 and 12 to 14, which leave the blocks as they are.
+#[no_mangle]
+pub extern "C" fn corrector_make_set(
+    text: &[u8],
+    k: u64,
+    least: u64,
+    blocks: &mut [u8],
+    answer: &mut [u64],
+) -> u64
+    ensures { λ r. ⌜ MadeExact (makeSet (now (text .entry)) k least (now (blocks .entry))) (now (answer .entry)) r (now (blocks .exit)) (now (answer .exit)) ⌝ }
+{
+    let numbers = made_numbers(make_set::make_set(text, k, least, blocks));
     tell(&numbers, answer)
 }

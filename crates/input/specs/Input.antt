@@ -5,7 +5,7 @@ use mathlib.Core.Option.{none, some}
 use mathlib.Core.List.{List, _∷_}
 use lib.ListN.{length, take, drop}
 use Rattle.rules.specs.Refusal.{Check}
-use Rattle.rules.specs.Job.{lines}
+use Rattle.rules.specs.Job.{entryCount, entriesOf, Confirmed, lines}
 use Rattle.rules.specs.Calls.{maxRead, maxMethods, maxOutput}
 use Rattle.refusal.specs.Refusal.{refusalOf}
 use Rattle.input.specs.declared.Input.{Input}
@@ -26,10 +26,10 @@ pub record LineAt (batch : List ℕ) (from end : ℕ) : Type 0 where
   pub inside : end < length batch
   pub is : lines (drop from batch) ≡ take (end - from) (drop from batch) ∷ lines (drop (end + 1) batch)
 
--- What checks 1 to 5 leave, by the lengths of input, output and work.
-pub record Within (c : ℕ) (ms : List ℕ) (i o w : ℕ) : Type 0 where
+-- What checks 1 to 5 leave, by the job and the lengths of input, output and work.
+pub record Within (job : List ℕ) (i o w : ℕ) : Type 0 where
   pub input : i ≤ maxRead
-  pub methods : length ms ≤ maxMethods
-  pub confirm : 1 ≤ c
+  pub entries : entryCount job ≤ maxMethods
+  pub confirms : Confirmed (entriesOf job)
   pub output : o ≤ maxOutput
   pub work : 2 * o ≤ w

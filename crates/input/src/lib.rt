@@ -1,12 +1,12 @@
-// What a call is given, looked at before any set: checks 1 to 6 of document 01, the lines of a batch, and clearing a lent buffer.
+// What a call is given, looked at before any set: checks 1 to 6 of documents 01 and 02, the lines of a batch, and clearing a lent buffer.
 use refusal::Refusal;
 ghost use mathlib.Core.Path.{_≡_};
 ghost use mathlib.Core.List.{_++_};
 ghost use Prim.Native.Nat.{_-_, _≤_, _<_};
 ghost use lib.ListN.{length, getD, take, replicate};
-ghost use lib.Dec.{leb};
+ghost use lib.Dec.{leb, ltb};
 ghost use Rattle.rules.specs.Refusal.{unless, atPlace, firstFailing};
-ghost use Rattle.rules.specs.Job.{known, lines};
+ghost use Rattle.rules.specs.Job.{known, methodByte, confirmByte, entryCount, lines};
 ghost use Rattle.rules.specs.Calls.{maxRead, buffersRight, inputCheck, batchRight};
 ghost use Rattle.input.specs.Input.{checkOf, IsRefused, LineAt};
 
@@ -43,12 +43,26 @@ fn is_known(method: u8) -> bool
 }
 
 // Check 3.
-fn check_methods(methods: &[u8]) -> Input
-    ensures { λ r. ⌜ checkOf r ≡ atPlace 3 (firstFailing (λ i. known (getD (now (methods .entry)) i 0)) 0 (length (now (methods .entry)))) ⌝ }
+fn check_methods(job: &[u8]) -> Input
+    ensures { λ r. ⌜ checkOf r ≡ atPlace 3 (firstFailing (λ i. known (methodByte (now (job .entry)) i)) 0 (entryCount (now (job .entry)))) ⌝ }
 {
-    for i in 0..methods.len() {
-        if !is_known(methods[i]) {
+    let n = entries::count(job);
+    for i in 0..n {
+        if !is_known(entries::method_of(job, i)) {
             return Input::Refused(Refusal::Method(i));
+        }
+    }
+    Input::Fine
+}
+
+// Check 4.
+fn check_confirms(job: &[u8]) -> Input
+    ensures { λ r. ⌜ checkOf r ≡ atPlace 4 (firstFailing (λ i. ltb 0 (confirmByte (now (job .entry)) i)) 0 (entryCount (now (job .entry)))) ⌝ }
+{
+    let n = entries::count(job);
+    for i in 0..n {
+        if entries::confirm_of(job, i) == 0 {
+            return Input::Refused(Refusal::Confirm(i));
         }
     }
     Input::Fine
@@ -67,24 +81,25 @@ fn buffers_right(input: usize, output: usize, work: usize) -> bool
     2 * output <= work && 2 * input <= work
 }
 
-// Checks 1 to 5, upward, by the lengths of input, output and work.
-pub fn check_input(input: usize, methods: &[u8], confirm: u8, output: usize, work: usize) -> Input
-    ensures { λ r. ⌜ checkOf r ≡ inputCheck input (now (methods .entry)) confirm output work ⌝ }
+// Checks 1 to 5, upward, by the job and the lengths of input, output and work. All methods are looked at before any confirm.
+pub fn check_input(input: usize, job: &[u8], output: usize, work: usize) -> Input
+    ensures { λ r. ⌜ checkOf r ≡ inputCheck input (now (job .entry)) output work ⌝ }
 {
     let length_checked = check_length(input);
     let Input::Fine = length_checked else {
         return length_checked;
     };
-    if MAX_METHODS < methods.len() {
+    if MAX_METHODS < entries::count(job) {
         return Input::Refused(Refusal::Methods);
     }
-    let methods_checked = check_methods(methods);
+    let methods_checked = check_methods(job);
     let Input::Fine = methods_checked else {
         return methods_checked;
     };
-    if confirm == 0 {
-        return Input::Refused(Refusal::Confirm);
-    }
+    let confirms_checked = check_confirms(job);
+    let Input::Fine = confirms_checked else {
+        return confirms_checked;
+    };
     if !buffers_right(input, output, work) {
         return Input::Refused(Refusal::Buffers);
     }

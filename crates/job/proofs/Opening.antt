@@ -7,7 +7,7 @@ use mathlib.Core.List.{List, [], _∷_}
 use lib.ListN.{length}
 use Rattle.rules.specs.Refusal.{Check, accepted, refused, _orElse_, unless}
 use Rattle.rules.specs.Set.{setOf, opened}
-use Rattle.rules.specs.Job.{methodsOf, lines}
+use Rattle.rules.specs.Job.{entriesOf, Confirmed, lines}
 use Rattle.rules.specs.Calls.{Given, After, inputCheck, batchRight, givenCheck, corrected, correctRead, correctBatch}
 use Rattle.refusal.specs.declared.Refusal.{Refusal}
 use Rattle.refusal.specs.declared.Refusal.the-variants.{Batch}
@@ -22,14 +22,14 @@ use Rattle.report.proofs.Exact.{refused-exact, under-ceiling}
 
 module _ (g : Given) where
   abbrev checks : Check
-  checks = inputCheck (length (g .input)) (g .methods) (g .confirm) (length (g .output)) (length (g .work))
+  checks = inputCheck (length (g .input)) (g .job) (length (g .output)) (length (g .work))
 
   abbrev ceiling : List (List ℕ) → Answer → Type 0
-  ceiling = Ceiling (setOf (g .set)) (g .confirm) (methodsOf (g .methods))
+  ceiling = Ceiling (setOf (g .set)) (entriesOf (g .job))
 
   -- What a call whose set opened does with its reads, an ending behind each.
   abbrev with-set : List ℕ → List (List ℕ) → After
-  with-set ending reads = corrected (setOf (g .set)) (g .confirm) (methodsOf (g .methods)) ending g reads
+  with-set ending reads = corrected (setOf (g .set)) (entriesOf (g .job)) ending g reads
 
   module _ (r : Refusal) where
     pub read-refused : checks ≡ some (refusalOf r) → Exact (correctRead g) (Refused r) (g .output) (g .work)
@@ -40,12 +40,12 @@ module _ (g : Given) where
     unfolding correctRead givenCheck
     read-not-opened e o = refused-exact g (correctRead g) r (call-not-opened [] (g .input ∷ []) checks g (refusalOf r) e o)
 
-  pub read-corrected : (r : Answer) {o w : List ℕ} → checks ≡ none → opened (g .set) ≡ accepted (setOf (g .set)) → 1 ≤ g .confirm
+  pub read-corrected : (r : Answer) {o w : List ℕ} → checks ≡ none → opened (g .set) ≡ accepted (setOf (g .set)) → Confirmed (entriesOf (g .job))
       → Exact (with-set [] (g .input ∷ [])) r o w → Exact (correctRead g) r o w × ceiling (g .input ∷ []) r
   unfolding correctRead givenCheck
   read-corrected r {o} {w} e opens low h = (
     subst (λ (a : After). Exact a r o w) (sym (call-opened [] (g .input ∷ []) checks g (setOf (g .set)) e opens)) h,
-    under-ceiling (setOf (g .set)) (g .confirm) (methodsOf (g .methods)) [] g (g .input ∷ []) (g .set) opens low r h,
+    under-ceiling (setOf (g .set)) (entriesOf (g .job)) [] g (g .input ∷ []) (g .set) opens low r h,
   )
 
   -- 6 comes after 5.
@@ -76,11 +76,11 @@ module _ (g : Given) where
       batch-not-opened r o =
           refused-exact g (correctBatch g) r (call-not-opened (10 ∷ []) (lines (g .input)) (checks orElse six) g (refusalOf r) passed o)
 
-      pub batch-corrected : (r : Answer) {o w : List ℕ} → opened (g .set) ≡ accepted (setOf (g .set)) → 1 ≤ g .confirm
+      pub batch-corrected : (r : Answer) {o w : List ℕ} → opened (g .set) ≡ accepted (setOf (g .set)) → Confirmed (entriesOf (g .job))
           → Exact (with-set (10 ∷ []) (lines (g .input))) r o w → Exact (correctBatch g) r o w × ceiling (lines (g .input)) r
       unfolding correctBatch givenCheck
       batch-corrected r {o} {w} opens low h = (
         subst (λ (a : After). Exact a r o w)
             (sym (call-opened (10 ∷ []) (lines (g .input)) (checks orElse six) g (setOf (g .set)) passed opens)) h,
-        under-ceiling (setOf (g .set)) (g .confirm) (methodsOf (g .methods)) (10 ∷ []) g (lines (g .input)) (g .set) opens low r h,
+        under-ceiling (setOf (g .set)) (entriesOf (g .job)) (10 ∷ []) g (lines (g .input)) (g .set) opens low r h,
       )

@@ -9,7 +9,7 @@ use set::STARTS;
 ghost use mathlib.Core.List.{[], _∷_};
 ghost use lib.ListN.{length};
 ghost use Rattle.rules.specs.Set.{setOf};
-ghost use Rattle.rules.specs.Job.{methodsOf, lines};
+ghost use Rattle.rules.specs.Job.{entriesOf, lines};
 ghost use Rattle.rules.specs.Calls.{corrected, correctRead, correctBatch};
 ghost use Rattle.set.specs.Ready.{Ready};
 ghost use Rattle.input.specs.Input.{Within};
@@ -20,54 +20,43 @@ fn correct_one(
     set: &[u8],
     starts: &[u32],
     head: Header,
-    confirm: u8,
-    methods: &[u8],
+    job: &[u8],
     read: &[u8],
     output: &mut [u8],
     work: &mut [u8],
 ) -> Answer
     requires { ⌜
         Ready (now set) (now starts) head
-        × Within confirm (now methods) (length (now read)) (length (now output)) (length (now work)) ⌝ }
+        × Within (now job) (length (now read)) (length (now output)) (length (now work)) ⌝ }
     ensures { λ r. ⌜
-        Exact (corrected (setOf (now (set .entry))) confirm (methodsOf (now (methods .entry))) []
-        (given (now (set .entry)) confirm (now (methods .entry)) (now (read .entry)) (now (output .entry)) (now (work .entry)))
+        Exact (corrected (setOf (now (set .entry))) (entriesOf (now (job .entry))) []
+        (given (now (set .entry)) (now (job .entry)) (now (read .entry)) (now (output .entry)) (now (work .entry)))
         (now (read .entry) ∷ []))
         r (now (output .exit)) (now (work .exit)) ⌝ }
 {
     let room = output.len();
-    let passed = correct::through(
-        set,
-        starts,
-        head,
-        confirm,
-        methods,
-        read,
-        output,
-        &mut work[..room],
-    );
+    let passed = correct::through(set, starts, head, job, read, output, &mut work[..room]);
     let Pass::Done(done) = passed else {
         return report::no_room(0, output, work);
     };
     report::accept(done, output, work)
 }
 
-// The single-read call: corrects a read by the methods, into the output.
+// The single-read call: corrects a read by the entries of the job, into the output.
 pub fn correct_read(
     set: &[u8],
-    confirm: u8,
-    methods: &[u8],
+    job: &[u8],
     read: &[u8],
     output: &mut [u8],
     work: &mut [u8],
 ) -> Answer
     ensures exact { λ r. ⌜
-        Exact (correctRead (given (now (set .entry)) confirm (now (methods .entry)) (now (read .entry)) (now (output .entry)) (now (work .entry))))
+        Exact (correctRead (given (now (set .entry)) (now (job .entry)) (now (read .entry)) (now (output .entry)) (now (work .entry))))
         r (now (output .exit)) (now (work .exit)) ⌝ }
     ensures ceiling { λ r. ⌜
-        Ceiling (setOf (now (set .entry))) confirm (methodsOf (now (methods .entry))) (now (read .entry) ∷ []) r ⌝ }
+        Ceiling (setOf (now (set .entry))) (entriesOf (now (job .entry))) (now (read .entry) ∷ []) r ⌝ }
 {
-    let checked = input::check_input(read.len(), methods, confirm, output.len(), work.len());
+    let checked = input::check_input(read.len(), job, output.len(), work.len());
     let Input::Fine = checked else {
         return Answer::Refused(input::refused(checked));
     };
@@ -77,25 +66,24 @@ pub fn correct_read(
     };
     let mut starts = [0u32; STARTS];
     let head = set::prepare(set, k, n, &mut starts);
-    correct_one(set, &starts, head, confirm, methods, read, output, work)
+    correct_one(set, &starts, head, job, read, output, work)
 }
 
-// The batch call: corrects the lines of a batch by the methods, into the output.
+// The batch call: corrects the lines of a batch by the entries of the job, into the output.
 pub fn correct_batch(
     set: &[u8],
-    confirm: u8,
-    methods: &[u8],
+    job: &[u8],
     batch: &[u8],
     output: &mut [u8],
     work: &mut [u8],
 ) -> Answer
     ensures exact { λ r. ⌜
-        Exact (correctBatch (given (now (set .entry)) confirm (now (methods .entry)) (now (batch .entry)) (now (output .entry)) (now (work .entry))))
+        Exact (correctBatch (given (now (set .entry)) (now (job .entry)) (now (batch .entry)) (now (output .entry)) (now (work .entry))))
         r (now (output .exit)) (now (work .exit)) ⌝ }
     ensures ceiling { λ r. ⌜
-        Ceiling (setOf (now (set .entry))) confirm (methodsOf (now (methods .entry))) (lines (now (batch .entry))) r ⌝ }
+        Ceiling (setOf (now (set .entry))) (entriesOf (now (job .entry))) (lines (now (batch .entry))) r ⌝ }
 {
-    let checked = input::check_input(batch.len(), methods, confirm, output.len(), work.len());
+    let checked = input::check_input(batch.len(), job, output.len(), work.len());
     let Input::Fine = checked else {
         return Answer::Refused(input::refused(checked));
     };
@@ -108,5 +96,5 @@ pub fn correct_batch(
     };
     let mut starts = [0u32; STARTS];
     let head = set::prepare(set, k, n, &mut starts);
-    lines::correct_lines(set, &starts, head, confirm, methods, batch, output, work)
+    lines::correct_lines(set, &starts, head, job, batch, output, work)
 }

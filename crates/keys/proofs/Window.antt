@@ -9,7 +9,7 @@ use mathlib.Core.List.{List}
 use borrow.Author.Tests.{eqb-true, eq-eqb, ltb-true, lt-ltb, le-leb, leb-true, leb-false}
 use lib.Dec.{eqb, ltb, leb}
 use Rattle.rules.specs.Set.{keyWord}
-use Rattle.blocks.proofs.Tests.{both}
+use Rattle.rules.proofs.Opened.{both}
 use Rattle.keys.specs.declared.Found.the-variants.{At, Nothing}
 use Rattle.keys.specs.Find.{Sorted, Bracket, Answers, firstKey}
 use Rattle.keys.proofs.Bracket.{lower-before, lower-through, higher-from}

@@ -201,6 +201,29 @@ fn guess(key: u64, shift: u32, from: usize, end: usize) -> usize
     from + fraction(key, shift) * (end - from) / 65536
 }
 
+// The line that a search for the key reads first: any line is right.
+pub fn first_line(key: u64, shift: u32, from: usize, end: usize) -> usize
+    requires { ⌜ (shift < 64) × (end ≤ maxKeys) ⌝ }
+    ensures { λ r. ⌜ r < maxKeys ⌝ }
+{
+    if end <= from {
+        return 0;
+    }
+    line_before(guess(key, shift, from, end))
+}
+
+// Reads what a search reads of three lines, if they are there, so that they are near when it comes.
+pub fn touch(set: &[u8], line: u32) -> u64 {
+    let at = 512 + 64 * number::index(line);
+    if set.len() < at + 192 {
+        return 0;
+    }
+    blocks::word_at(set, at)
+        | blocks::word_at(set, at + 64)
+        | blocks::word_at(set, at + 128)
+        | blocks::word_at(set, at + 176)
+}
+
 // A key that can stand only from key `from` on and before key `end`. The keys there are guessed to be spread evenly by their bits below `shift`.
 pub fn find(set: &[u8], key: u64, shift: u32, n: usize, from: usize, end: usize) -> Found
     requires { ⌜ Sorted (now set) n × (shift < 64) × Bracket (now set) n key from end ⌝ }

@@ -44,14 +44,6 @@ shifted head y a s l h = rw (s .mask-is) (go (head .k) (s .k-low) (s .k-high) l)
 
 -- ---- the reverse complement, carried along
 
-complement-xor : (a : ℕ) → a < 4 → bitXor a 2 ≡ complement a
-unfolding complement
-complement-xor zero h = refl
-complement-xor (suc zero) h = refl
-complement-xor (suc (suc zero)) h = refl
-complement-xor (suc (suc (suc zero))) h = refl
-complement-xor (suc (suc (suc (suc a)))) h = absurd (omega arith)
-
 -- y+a turned round: y's first letter is the last and goes, and a's complement comes first
 revcomp-add : (k y a : ℕ) → 1 ≤ k → y < 4 ^ k → a < 4 → revcomp k y / 4 + complement a * 4 ^ (k - 1) ≡ revcomp k (add k y a)
 unfolding revcomp
@@ -66,14 +58,14 @@ revcomp-add (suc j) y a l s h =
     rw (quarter, e, add-is j y a h, revcomp, digits-mod (y % P) h, digits-div (y % P) h) (add-comm (revcomp j (y % P)) (complement a * P))
 
 module _ (head : Header) (y : Kmer) (s : Shifts head) (is : IsKmer (head .k) y) where
-  pub rev-add : (a : ℕ) → a < 4 → y .rev / 4 + bitXor a 2 * head .top ≡ revcomp (head .k) (add (head .k) (y .code) a)
-  rev-add a h = rw (is .turned, s .top-is, complement-xor a h) (revcomp-add (head .k) (y .code) a (s .k-low) (is .small) h)
+  pub rev-add : (a : ℕ) → a < 4 → y .rev / 4 + complement a * head .top ≡ revcomp (head .k) (add (head .k) (y .code) a)
+  rev-add a h = rw (is .turned, s .top-is) (revcomp-add (head .k) (y .code) a (s .k-low) (is .small) h)
 
-  pub rev-fits : (a : ℕ) → a < 4 → y .rev / 4 + bitXor a 2 * head .top < 2 ^ 62
+  pub rev-fits : (a : ℕ) → a < 4 → y .rev / 4 + complement a * head .top < 2 ^ 62
   rev-fits a h = rw (rev-add a h) (omega (arith, revcomp-lt (head .k) (add (head .k) (y .code) a), bound (head .k) (s .k-high)))
 
--- an A in front of y without its last letter: turned round, a T comes last
-pub revcomp-drop : (k y : ℕ) → 1 ≤ k → y < 4 ^ k → add k (revcomp k y) 2 ≡ revcomp k (y / 4)
+-- an A in front of y without its last letter: turned round, its complement comes last
+pub revcomp-drop : (k y : ℕ) → 1 ≤ k → y < 4 ^ k → add k (revcomp k y) (complement 0) ≡ revcomp k (y / 4)
 unfolding revcomp complement
 revcomp-drop zero y l s = absurd (omega arith)
 revcomp-drop (suc j) y l s =
@@ -87,9 +79,9 @@ unfolding revcomp complement
 letters-T zero = (0, refl, refl)
 letters-T (suc k) = let t = letters-T k in (4 * t .0 + 1, omega (arith, pow-suc 4 k), omega arith)
 
--- k letters A, turned round k letters T
-pub revcomp-zero : (k : ℕ) → mask k / 3 * 2 ≡ revcomp k 0
-unfolding mask
+-- k letters A, turned round k complements of A
+pub revcomp-zero : (k : ℕ) → mask k / 3 * complement 0 ≡ revcomp k 0
+unfolding mask complement
 revcomp-zero k =
     let t = letters-T k in
     let e : 4 ^ k - 1 ≡ 3 * t .0 = omega arith in

@@ -75,11 +75,37 @@ pub fn bit2nuc(bit: u64) -> u8
     }
 }
 
+// Document 02, W2: the base pairs of the IUPAC nucleotide table. Done twice it gives the code back.
+fn complement(nuc: u64) -> u64
+    requires { ⌜ nuc < 4 ⌝ }
+    ensures { λ r. ⌜ (r ≡ Letters.complement nuc) × (Letters.complement r ≡ nuc) ⌝ }
+{
+    match nuc {
+        0 => 2, // A to T
+        1 => 3, // C to G
+        2 => 0, // T to A
+        _ => 1, // G to C
+    }
+}
+
 pub fn mask(k: usize) -> u64
     requires { ⌜ k < 32 ⌝ }
     ensures { λ r. ⌜ r ≡ Letters.mask k ⌝ }
 {
     MASK_LOOKUP[k]
+}
+
+pub fn header_of(k: usize, n: usize, shift: u32) -> Header
+    requires { ⌜ (1 ≤ k) × (k ≤ 31) ⌝ }
+    ensures { λ r. ⌜ Shifts r × (r .k ≡ k) × (r .n ≡ n) × (r .shift ≡ shift) ⌝ }
+{
+    Header {
+        k,
+        n,
+        mask: mask(k),
+        top: mask(k - 1) + 1,
+        shift,
+    }
 }
 
 // The first letter out at the mask, another in at the end.
@@ -96,18 +122,18 @@ pub fn add_nuc_to_end(kmer: Kmer, nuc: u64, head: Header) -> Kmer
 {
     Kmer {
         code: shift_in(kmer.code, nuc, head),
-        rev: kmer.rev / 4 + (nuc ^ 2) * head.top,
+        rev: kmer.rev / 4 + complement(nuc) * head.top,
     }
 }
 
-// The source's `kmer >>= 2`: an A comes in front, so its complement T comes last on the other side.
+// The source's `kmer >>= 2`: an A comes in front, so its complement comes last on the other side.
 pub fn drop_last(kmer: Kmer, head: Header) -> Kmer
     requires { ⌜ Shifts head × IsKmer (head .k) kmer ⌝ }
     ensures { λ r. ⌜ HasCode (head .k) (kmer .code / 4) r ⌝ }
 {
     Kmer {
         code: kmer.code >> 2,
-        rev: shift_in(kmer.rev, 2, head),
+        rev: shift_in(kmer.rev, complement(0), head),
     }
 }
 
@@ -116,10 +142,10 @@ pub fn seq2bit(seq: &[u8], head: Header) -> Kmer
     ensures { λ r. ⌜ HasCode (head .k) (Letters.kmer (head .k) (take (head .k) (now (seq .entry)))) r ⌝ }
 {
     let k = head.k;
-    // k letters A, turned k letters T.
+    // k letters A, turned k letters T: a third of the mask has a 1 for each letter.
     let mut kmer = Kmer {
         code: 0,
-        rev: head.mask / 3 * 2,
+        rev: head.mask / 3 * complement(0),
     };
     for i in 0..k {
         kmer = add_nuc_to_end(kmer, nuc2bit(seq[i]), head);

@@ -8,7 +8,7 @@ use lib.ListN.{length, take, drop, set, length-append, length-drop}
 use lib.Seq.{length-take-le, take-at, drop-at, take-append-le, take-set-le, take-suc-set, drop-set-add}
 use Rattle.rules.specs.Set.{setOf}
 use Rattle.rules.specs.Driver as Rules
-use Rattle.rules.specs.Job.{Method, methodsOf}
+use Rattle.rules.specs.Job.{Entry, entriesOf}
 use Rattle.correct.specs.declared.Counts.{Counts}
 use Rattle.correct.specs.declared.Pass.{Pass}
 use Rattle.correct.specs.declared.Pass.the-variants.{Done, Full}
@@ -26,10 +26,10 @@ module _ (o : List ℕ) (at : ℕ) (h : at < length o) where
   pub lent-length : length lent ≡ room
   lent-length = length-take-le room (drop at o) (omega (arith, length-drop at o))
 
-  module _ (bytes : List ℕ) (c : ℕ) (methods line part w w′ : List ℕ) (passed : Pass)
-      (t : Through (setOf bytes) c methods line lent part w w′ passed) where
-    abbrev ms : List Method
-    ms = methodsOf methods
+  module _ (bytes : List ℕ) (job line part w w′ : List ℕ) (passed : Pass)
+      (t : Through (setOf bytes) job line lent part w w′ passed) where
+    abbrev es : List Entry
+    es = entriesOf job
 
     -- The output after it, and with byte 10.
     abbrev o₁ : List ℕ
@@ -46,14 +46,14 @@ module _ (o : List ℕ) (at : ℕ) (h : at < length o) where
         length-append (take at o) (part ++ drop room (drop at o))
         ∙ omega (arith, front, length-append part (drop room (drop at o)), part-length, length-drop room (drop at o), length-drop at o)
 
-    pub line-full : passed ≡ Full → LineIs (setOf bytes) c ms line at o o₁ Full
+    pub line-full : passed ≡ Full → LineIs (setOf bytes) es line at o o₁ Full
     line-full e =
-        let is = subst (ThroughIs (setOf bytes) c ms line (length lent) part) e (t .is) in
+        let is = subst (ThroughIs (setOf bytes) es line (length lent) part) e (t .is) in
         omega (arith, is, lent-length)
 
     module _ (done : Counts) (e : passed ≡ Done done) where
-      is : ThroughIs (setOf bytes) c ms line (length lent) part (Done done)
-      is = subst (ThroughIs (setOf bytes) c ms line (length lent) part) e (t .is)
+      is : ThroughIs (setOf bytes) es line (length lent) part (Done done)
+      is = subst (ThroughIs (setOf bytes) es line (length lent) part) e (t .is)
 
       abbrev n : ℕ
       n = done .written
@@ -76,7 +76,7 @@ module _ (o : List ℕ) (at : ℕ) (h : at < length o) where
           (take-suc-set (part ++ rest) n 10 (omega (arith, length-append part rest, line-within, part-length, length-drop room (drop at o), length-drop at o))
           ∙ ap (λ (l : List ℕ). l ++ (10 ∷ [])) (take-append-le n part rest (is .1)))
 
-      pub line-done : LineIs (setOf bytes) c ms line at o o₂
+      pub line-done : LineIs (setOf bytes) es line at o o₂
           (Done (record { written = n + 1; turns = done .turns; lookups = done .lookups; attempts = done .attempts; accepted = done .accepted }))
       line-done =
           let q = is .0 in (
@@ -90,4 +90,5 @@ module _ (o : List ℕ) (at : ℕ) (h : at < length o) where
             take-set-le at o₁ (at + n) 10 (omega arith) ∙ take-at (take at o) (part ++ drop room (drop at o)) at front,
             omega (arith, line-within, same),
             omega (arith, is .2, lent-length),
+            record { turns = is .3 .turns; lookups = is .3 .lookups; attempts = is .3 .attempts; accepted = is .3 .accepted },
           )

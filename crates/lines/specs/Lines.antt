@@ -5,28 +5,29 @@ use mathlib.Core.List.{List, [], _∷_, _++_}
 use lib.ListN.{length, take, drop}
 use Rattle.rules.specs.Set.{KmerSet}
 use Rattle.rules.specs.Driver as Rules
-use Rattle.rules.specs.Job.{Method}
+use Rattle.rules.specs.Job.{Entry}
 use Rattle.rules.specs.Calls.{longest}
 use Rattle.correct.specs.declared.Counts.{Counts}
 use Rattle.correct.specs.declared.Pass.{Pass}
 use Rattle.correct.specs.declared.Pass.the-variants.{Done, Full}
-use Rattle.correct.specs.Pass.{passOf}
+use Rattle.correct.specs.Pass.{passOf, Small}
 use Rattle.correct.specs.Through.{through}
 
 -- A line with byte 10 behind its result.
-abbrev pub lineThrough : KmerSet → ℕ → List Method → List ℕ → Rules.Pass
-lineThrough set c ms line =
-    let p = through set c ms line in
+abbrev pub lineThrough : KmerSet → List Entry → List ℕ → Rules.Pass
+lineThrough set es line =
+    let p = through set es line in
     record { bytes = p .bytes ++ (10 ∷ []); turns = p .turns; lookups = p .lookups; attempts = p .attempts; accepted = p .accepted }
 
 -- A line stands behind the first `at` bytes of the output; Full where a pass result and byte 10 are more than what is left.
-abbrev pub LineIs : KmerSet → ℕ → List Method → List ℕ → ℕ → List ℕ → List ℕ → Pass → Type 0
-LineIs set c ms line at o o′ (Done r) =
-    (passOf r (drop at o′) ≡ lineThrough set c ms line)
+abbrev pub LineIs : KmerSet → List Entry → List ℕ → ℕ → List ℕ → List ℕ → Pass → Type 0
+LineIs set es line at o o′ (Done r) =
+    (passOf r (drop at o′) ≡ lineThrough set es line)
     × (take at o′ ≡ take at o)
     × (at + r .written ≤ length o)
-    × (longest set c ms line + 1 ≤ length o - at)
-LineIs set c ms line at o o′ Full = length o - at < longest set c ms line + 1
+    × (longest set es line + 1 ≤ length o - at)
+    × Small (length es) (passOf r (drop at o′))
+LineIs set es line at o o′ Full = length o - at < longest set es line + 1
 
 abbrev pub summed : Counts → Counts → Counts
 summed a b =

@@ -9,7 +9,7 @@ ghost use mathlib.Core.List.{[], _∷_};
 ghost use Prim.Native.Nat.{_≤_};
 ghost use lib.ListN.{length};
 ghost use Rattle.rules.specs.Set.{setOf};
-ghost use Rattle.rules.specs.Job.{methodsOf, lines};
+ghost use Rattle.rules.specs.Job.{entriesOf, lines};
 ghost use Rattle.rules.specs.Calls.{batchRight, corrected};
 ghost use Rattle.set.specs.Ready.{Ready};
 ghost use Rattle.input.specs.Input.{Within};
@@ -21,8 +21,7 @@ fn correct_line(
     set: &[u8],
     starts: &[u32],
     head: Header,
-    confirm: u8,
-    methods: &[u8],
+    job: &[u8],
     line: &[u8],
     at: usize,
     output: &mut [u8],
@@ -30,10 +29,10 @@ fn correct_line(
 ) -> Pass
     requires { ⌜
         Ready (now set) (now starts) head
-        × Within confirm (now methods) (length (now line)) (length (now output)) (length (now work))
+        × Within (now job) (length (now line)) (length (now output)) (length (now work))
         × (at ≤ length (now output)) ⌝ }
     ensures { λ r. ⌜
-        LineIs (setOf (now (set .entry))) confirm (methodsOf (now (methods .entry))) (now (line .entry))
+        LineIs (setOf (now (set .entry))) (entriesOf (now (job .entry))) (now (line .entry))
         at (now (output .entry)) (now (output .exit)) r ⌝ }
 {
     if output.len() <= at {
@@ -45,8 +44,7 @@ fn correct_line(
         set,
         starts,
         head,
-        confirm,
-        methods,
+        job,
         line,
         &mut output[at..end],
         &mut work[..room],
@@ -83,19 +81,18 @@ pub fn correct_lines(
     set: &[u8],
     starts: &[u32],
     head: Header,
-    confirm: u8,
-    methods: &[u8],
+    job: &[u8],
     batch: &[u8],
     output: &mut [u8],
     work: &mut [u8],
 ) -> Answer
     requires { ⌜
         Ready (now set) (now starts) head
-        × Within confirm (now methods) (length (now batch)) (length (now output)) (length (now work))
+        × Within (now job) (length (now batch)) (length (now output)) (length (now work))
         × (batchRight (now batch) ≡ true) ⌝ }
     ensures { λ r. ⌜
-        Exact (corrected (setOf (now (set .entry))) confirm (methodsOf (now (methods .entry))) (10 ∷ [])
-        (given (now (set .entry)) confirm (now (methods .entry)) (now (batch .entry)) (now (output .entry)) (now (work .entry)))
+        Exact (corrected (setOf (now (set .entry))) (entriesOf (now (job .entry))) (10 ∷ [])
+        (given (now (set .entry)) (now (job .entry)) (now (batch .entry)) (now (output .entry)) (now (work .entry)))
         (lines (now (batch .entry))))
         r (now (output .exit)) (now (work .exit)) ⌝ }
 {
@@ -114,8 +111,7 @@ pub fn correct_lines(
             set,
             starts,
             head,
-            confirm,
-            methods,
+            job,
             &batch[from..end],
             done.written,
             output,

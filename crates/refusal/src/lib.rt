@@ -1,4 +1,4 @@
-// Why a call is refused: document 01's refusals, with their numbers and places.
+// Why a call is refused: the refusals of documents 01 and 02, with their numbers and places.
 ghost use mathlib.Core.Path.{_≡_};
 ghost use Rattle.refusal.specs.Refusal.{refusalOf};
 
@@ -7,7 +7,7 @@ pub enum Refusal {
     Long,
     Methods,
     Method(usize),
-    Confirm,
+    Confirm(usize),
     Buffers,
     Batch,
     Length,
@@ -15,6 +15,9 @@ pub enum Refusal {
     Header,
     Key(usize),
     NoRoom(usize),
+    Line(usize),
+    NotRising(usize),
+    TooShort,
 }
 
 pub fn number_of(refusal: Refusal) -> u64
@@ -24,7 +27,7 @@ pub fn number_of(refusal: Refusal) -> u64
         Refusal::Long => 1,
         Refusal::Methods => 2,
         Refusal::Method(_) => 3,
-        Refusal::Confirm => 4,
+        Refusal::Confirm(_) => 4,
         Refusal::Buffers => 5,
         Refusal::Batch => 6,
         Refusal::Length => 7,
@@ -32,6 +35,9 @@ pub fn number_of(refusal: Refusal) -> u64
         Refusal::Header => 9,
         Refusal::Key(_) => 10,
         Refusal::NoRoom(_) => 11,
+        Refusal::Line(_) => 12,
+        Refusal::NotRising(_) => 13,
+        Refusal::TooShort => 14,
     }
 }
 
@@ -39,16 +45,19 @@ pub fn place_of(refusal: Refusal) -> u64
     ensures { λ r. ⌜ r ≡ refusalOf refusal .place ⌝ }
 {
     match refusal {
-        Refusal::Method(i) => i as u64,
+        Refusal::Method(entry) => entry as u64,
+        Refusal::Confirm(entry) => entry as u64,
         Refusal::Check(block) => block as u64,
         Refusal::Key(word) => word as u64,
         Refusal::NoRoom(line) => line as u64,
+        Refusal::Line(line) => line as u64,
+        Refusal::NotRising(line) => line as u64,
         Refusal::Long => 0,
         Refusal::Methods => 0,
-        Refusal::Confirm => 0,
         Refusal::Buffers => 0,
         Refusal::Batch => 0,
         Refusal::Length => 0,
         Refusal::Header => 0,
+        Refusal::TooShort => 0,
     }
 }

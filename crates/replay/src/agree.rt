@@ -64,29 +64,28 @@ fn rest_of(record: &[u8; 64], fill: u8) -> u8 {
 fn call(
     set: &[u8],
     record: &[u8; 64],
-    methods: &[u8],
+    job: &[u8],
     input: &[u8],
     output: &mut [u8],
     work: &mut [u8],
 ) -> Answer {
-    let confirm = record[4];
     if number(record, 0) == 3 {
-        return job::correct_read(set, confirm, methods, input, output, work);
+        return job::correct_read(set, job, input, output, work);
     }
-    job::correct_batch(set, confirm, methods, input, output, work)
+    job::correct_batch(set, job, input, output, work)
 }
 
 pub fn call_agrees(
     set: &[u8],
     record: &[u8; 64],
     fill: u8,
-    methods: &[u8],
+    job: &[u8],
     input: &[u8],
     result: &[u8],
     output: &mut [u8],
     work: &mut [u8],
 ) -> bool {
-    let answer = call(set, record, methods, input, output, work);
+    let answer = call(set, record, job, input, output, work);
     let rest = rest_of(record, fill);
     answer_agrees(answer, record) && lent_is(output, result, rest) && lent_is(work, b"", rest)
 }

@@ -15,7 +15,7 @@ use list::read_part;
 
 const MAX_SET: usize = 8192;
 
-const MAX_METHODS: usize = 16;
+const MAX_JOB: usize = 64;
 
 const MAX_INPUT: usize = 2048;
 
@@ -37,7 +37,7 @@ fn compare(
     set: &[u8],
     record: &[u8; 64],
     fill: u8,
-    methods: &[u8],
+    job: &[u8],
     input: &[u8],
     result: &[u8],
 ) -> Case {
@@ -54,7 +54,7 @@ fn compare(
         set,
         record,
         fill,
-        methods,
+        job,
         input,
         result,
         &mut output[..output_end],
@@ -63,23 +63,23 @@ fn compare(
 }
 
 fn replay_call(set: &[u8], record: &[u8; 64], fill: u8) -> Case {
-    let mut methods = [0u8; MAX_METHODS];
+    let mut job = [0u8; MAX_JOB];
     let mut input = [0u8; MAX_INPUT];
     let mut result = [0u8; MAX_OUTPUT];
-    let methods_part = read_part(&mut methods, number(record, 2) as usize);
+    let job_part = read_part(&mut job, number(record, 2) as usize);
     let input_part = read_part(&mut input, number(record, 3) as usize);
     let result_part = read_part(&mut result, number(record, 6) as usize);
-    if !methods_part.whole || !input_part.whole || !result_part.whole {
+    if !job_part.whole || !input_part.whole || !result_part.whole {
         return Case::Malformed;
     }
-    let methods_end = methods_part.length;
+    let job_end = job_part.length;
     let input_end = input_part.length;
     let result_end = result_part.length;
     compare(
         set,
         record,
         fill,
-        &methods[..methods_end],
+        &job[..job_end],
         &input[..input_end],
         &result[..result_end],
     )

@@ -8,7 +8,7 @@ use mathlib.Core.List.{List, [], _∷_, _++_}
 use lib.ListN.{length, replicate}
 use Rattle.rules.specs.Refusal.{Refusal, accepted, refused, Check}
 use Rattle.rules.specs.Set.{KmerSet, opened}
-use Rattle.rules.specs.Job.{Method, result, methodsOf}
+use Rattle.rules.specs.Job.{Entry, result, entriesOf}
 use Rattle.rules.specs.Counts.{Fed, sum, passesOf, allPasses}
 use Rattle.rules.specs.Calls.{Given, unchanged, noRoom, longest, tooLong, results, report, corrected, call}
 
@@ -19,37 +19,37 @@ unfolding sum
 sum-append f [] qs = omega arith
 sum-append f (p ∷ ps) qs = omega (arith, sum-append f ps qs)
 
-module _ (set : KmerSet) (c : ℕ) (ms : List Method) where
+module _ (set : KmerSet) (es : List Entry) where
   pub sum-first : (f : Fed → ℕ) (read : List ℕ) (reads : List (List ℕ))
-      → sum f (allPasses set c ms (read ∷ reads)) ≡ sum f (passesOf set c ms read) + sum f (allPasses set c ms reads)
+      → sum f (allPasses set es (read ∷ reads)) ≡ sum f (passesOf set es read) + sum f (allPasses set es reads)
   unfolding allPasses
-  sum-first f read reads = sum-append f (passesOf set c ms read) (allPasses set c ms reads)
+  sum-first f read reads = sum-append f (passesOf set es read) (allPasses set es reads)
 
   module _ (ending : List ℕ) where
     -- ---- 11 at the first read from number i on, or what is left for the later ones
 
-    pub too-long-here : (i left : ℕ) (read : List ℕ) (reads : List (List ℕ)) → left < longest set c ms read + length ending
-        → tooLong set c ms ending i left (read ∷ reads) ≡ some i
+    pub too-long-here : (i left : ℕ) (read : List ℕ) (reads : List (List ℕ)) → left < longest set es read + length ending
+        → tooLong set es ending i left (read ∷ reads) ≡ some i
     unfolding tooLong
-    too-long-here i left read reads h = rw (tooLong, lt-ltb left (longest set c ms read + length ending) h)
+    too-long-here i left read reads h = rw (tooLong, lt-ltb left (longest set es read + length ending) h)
 
-    pub too-long-later : (i left : ℕ) (read : List ℕ) (reads : List (List ℕ)) → longest set c ms read + length ending ≤ left
-        → tooLong set c ms ending i left (read ∷ reads)
-        ≡ tooLong set c ms ending (suc i) (left - (length (result set c ms read) + length ending)) reads
+    pub too-long-later : (i left : ℕ) (read : List ℕ) (reads : List (List ℕ)) → longest set es read + length ending ≤ left
+        → tooLong set es ending i left (read ∷ reads)
+        ≡ tooLong set es ending (suc i) (left - (length (result set es read) + length ending)) reads
     unfolding tooLong
-    too-long-later i left read reads h = rw (tooLong, le-ltb left (longest set c ms read + length ending) h)
+    too-long-later i left read reads h = rw (tooLong, le-ltb left (longest set es read + length ending) h)
 
     module _ (g : Given) (reads : List (List ℕ)) where
-      pub corrected-full : (line : ℕ) → tooLong set c ms ending 0 (length (g .output)) reads ≡ some line
-          → corrected set c ms ending g reads ≡ noRoom g line
+      pub corrected-full : (line : ℕ) → tooLong set es ending 0 (length (g .output)) reads ≡ some line
+          → corrected set es ending g reads ≡ noRoom g line
       unfolding corrected
       corrected-full line e = rw (corrected, e)
 
-      pub corrected-fits : tooLong set c ms ending 0 (length (g .output)) reads ≡ none
-          → corrected set c ms ending g reads
+      pub corrected-fits : tooLong set es ending 0 (length (g .output)) reads ≡ none
+          → corrected set es ending g reads
           ≡ record {
-            answer = accepted (report set c ms ending reads);
-            output = results set c ms ending reads ++ replicate (length (g .output) - length (results set c ms ending reads)) 0;
+            answer = accepted (report set es ending reads);
+            output = results set es ending reads ++ replicate (length (g .output) - length (results set es ending reads)) 0;
             work = replicate (length (g .work)) 0;
           }
       unfolding corrected
@@ -67,6 +67,6 @@ module _ (ending : List ℕ) (reads : List (List ℕ)) (check : Check) (g : Give
   call-not-opened r e o = rw (call, e, o)
 
   pub call-opened : (set : KmerSet) → check ≡ none → opened (g .set) ≡ accepted set
-      → call ending reads check g ≡ corrected set (g .confirm) (methodsOf (g .methods)) ending g reads
+      → call ending reads check g ≡ corrected set (entriesOf (g .job)) ending g reads
   unfolding call
   call-opened set e o = rw (call, e, o)

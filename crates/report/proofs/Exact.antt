@@ -12,7 +12,7 @@ use Rattle.rules.specs.Report as Reports
 use Rattle.rules.specs.Report.{yieldOf}
 use Rattle.rules.specs.Set.{KmerSet, opened}
 use Rattle.rules.specs.Driver.{Pass}
-use Rattle.rules.specs.Job.{Method}
+use Rattle.rules.specs.Job.{Entry, Confirmed}
 use Rattle.rules.specs.Counts.{sum, allPasses, turns, lookups, attempts, corrections}
 use Rattle.rules.specs.Calls.{Given, After, unchanged, noRoom, tooLong, results, report, corrected}
 use Rattle.rules.proofs.Demands.{ceilings}
@@ -29,16 +29,16 @@ use Rattle.report.specs.Ending.{Cleared, reportOn}
 use Rattle.report.proofs.Calls.{corrected-full, corrected-fits}
 
 -- All of a call's reads: the bytes written, and what all passes count.
-unfoldable pub throughAll : KmerSet → ℕ → List Method → List ℕ → List (List ℕ) → Pass
+unfoldable pub throughAll : KmerSet → List Entry → List ℕ → List (List ℕ) → Pass
 unfolding results sum allPasses turns lookups attempts corrections
-throughAll set c ms ending reads =
-    let ps = allPasses set c ms reads in
+throughAll set es ending reads =
+    let ps = allPasses set es reads in
     record {
-      bytes = results set c ms ending reads;
-      turns = sum (turns set c) ps;
-      lookups = sum (lookups set c) ps;
-      attempts = sum (attempts set c) ps;
-      accepted = sum (corrections set c) ps;
+      bytes = results set es ending reads;
+      turns = sum (turns set) ps;
+      lookups = sum (lookups set) ps;
+      attempts = sum (attempts set) ps;
+      accepted = sum (corrections set) ps;
     }
 
 -- Refusals 1 to 10.
@@ -51,24 +51,24 @@ refused-exact g after r e =
       work = ap (λ (a : After). a .work) (sym e);
     }
 
-module _ (set : KmerSet) (c : ℕ) (ms : List Method) (ending : List ℕ) (g : Given) (reads : List (List ℕ)) where
+module _ (set : KmerSet) (es : List Entry) (ending : List ℕ) (g : Given) (reads : List (List ℕ)) where
   abbrev after : After
-  after = corrected set c ms ending g reads
+  after = corrected set es ending g reads
 
   -- Refusal 11.
-  pub full-exact : (line : ℕ) {r : Answer} {o w : List ℕ} → tooLong set c ms ending 0 (length (g .output)) reads ≡ some line
+  pub full-exact : (line : ℕ) {r : Answer} {o w : List ℕ} → tooLong set es ending 0 (length (g .output)) reads ≡ some line
       → (out : List ℕ) → length out ≡ length (g .output) → r ≡ Refused (NoRoom line) → Cleared 0 out (length (g .work)) o w → Exact after r o w
   unfolding noRoom
   full-exact line e out same a h =
-      let is = corrected-full set c ms ending g reads line e in
+      let is = corrected-full set es ending g reads line e in
       record {
         answer = ap answerOf a ∙ ap (λ (x : After). x .answer) (sym is);
         output = h .output ∙ rw (sub-zero (length out), same, ap (λ (x : After). x .output) is);
         work = h .work ∙ ap (λ (a : After). a .work) (sym is);
       }
 
-  report-is : (done : Counts) (out : List ℕ) → done .written ≤ length out → passOf done out ≡ throughAll set c ms ending reads
-      → reportOf (reportOn done) ≡ report set c ms ending reads
+  report-is : (done : Counts) (out : List ℕ) → done .written ≤ length out → passOf done out ≡ throughAll set es ending reads
+      → reportOf (reportOn done) ≡ report set es ending reads
   unfolding report throughAll
   report-is done out l e = λ i. record {
     written = (sym (length-take-le (done .written) out l) ∙ ap (λ (p : Pass). length (p .bytes)) e) i;
@@ -80,14 +80,14 @@ module _ (set : KmerSet) (c : ℕ) (ms : List Method) (ending : List ℕ) (g : G
   }
 
   -- Accepted: out holds the results when the rest is cleared.
-  pub fits-exact : (done : Counts) (out : List ℕ) {r : Answer} {o w : List ℕ} → tooLong set c ms ending 0 (length (g .output)) reads ≡ none
-      → passOf done out ≡ throughAll set c ms ending reads → done .written ≤ length out
+  pub fits-exact : (done : Counts) (out : List ℕ) {r : Answer} {o w : List ℕ} → tooLong set es ending 0 (length (g .output)) reads ≡ none
+      → passOf done out ≡ throughAll set es ending reads → done .written ≤ length out
       → length out ≡ length (g .output) → r ≡ Reported (reportOn done) → Cleared (done .written) out (length (g .work)) o w → Exact after r o w
   unfolding throughAll
   fits-exact done out e s l same a h =
-      let is = corrected-fits set c ms ending g reads e in
-      let t : take (done .written) out ≡ results set c ms ending reads = ap (λ (p : Pass). p .bytes) s in
-      let left : length out - done .written ≡ length (g .output) - length (results set c ms ending reads) =
+      let is = corrected-fits set es ending g reads e in
+      let t : take (done .written) out ≡ results set es ending reads = ap (λ (p : Pass). p .bytes) s in
+      let left : length out - done .written ≡ length (g .output) - length (results set es ending reads) =
       omega (arith, length-take-le (done .written) out l, ap length t) in
       record {
         answer = ap answerOf a ∙ ap accepted (report-is done out l s) ∙ ap (λ (x : After). x .answer) (sym is);
@@ -96,24 +96,24 @@ module _ (set : KmerSet) (c : ℕ) (ms : List Method) (ending : List ℕ) (g : G
       }
 
   -- An exact report is the rules'.
-  reported : (r : Report) {o w : List ℕ} → Exact after (Reported r) o w → reportOf r ≡ report set c ms ending reads
+  reported : (r : Report) {o w : List ℕ} → Exact after (Reported r) o w → reportOf r ≡ report set es ending reads
   unfolding noRoom
-  reported r e = go (tooLong set c ms ending 0 (length (g .output)) reads) refl
+  reported r e = go (tooLong set es ending 0 (length (g .output)) reads) refl
     where
-      go : (t : Option ℕ) → tooLong set c ms ending 0 (length (g .output)) reads ≡ t → reportOf r ≡ report set c ms ending reads
+      go : (t : Option ℕ) → tooLong set es ending 0 (length (g .output)) reads ≡ t → reportOf r ≡ report set es ending reads
       go (some line) f =
-          let a : accepted (reportOf r) ≡ noRoom g line .answer = e .answer ∙ ap (λ (a : After). a .answer) (corrected-full set c ms ending g reads line f) in
+          let a : accepted (reportOf r) ≡ noRoom g line .answer = e .answer ∙ ap (λ (a : After). a .answer) (corrected-full set es ending g reads line f) in
           absurd (let z : _≡_ {A = ℕ} 0 1 = cc in omega arith)
       go none f =
-          let a : accepted (reportOf r) ≡ accepted (report set c ms ending reads) =
-          e .answer ∙ ap (λ (a : After). a .answer) (corrected-fits set c ms ending g reads f) in
+          let a : accepted (reportOf r) ≡ accepted (report set es ending reads) =
+          e .answer ∙ ap (λ (a : After). a .answer) (corrected-fits set es ending g reads f) in
           cc
 
   -- Demand 3, of an exact answer.
-  pub under-ceiling : (bytes : List ℕ) → opened bytes ≡ accepted set → 1 ≤ c → (r : Answer) {o w : List ℕ} → Exact after r o w
-      → Ceiling set c ms reads r
+  pub under-ceiling : (bytes : List ℕ) → opened bytes ≡ accepted set → Confirmed es → (r : Answer) {o w : List ℕ} → Exact after r o w
+      → Ceiling set es reads r
   unfolding report
   under-ceiling bytes h l (Refused r) e = tt
   under-ceiling bytes h l (Reported r) e =
       let is = reported r e in
-      rw (ap (λ (x : Reports.Report). x .turns) is, ap (λ (x : Reports.Report). x .lookups) is) (ceilings bytes set h c l ms reads)
+      rw (ap (λ (x : Reports.Report). x .turns) is, ap (λ (x : Reports.Report). x .lookups) is) (ceilings bytes set h es l reads)

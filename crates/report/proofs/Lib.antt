@@ -1,5 +1,4 @@
 pub mod Calls
 pub mod Exact
 pub mod Yield
-pub mod Totals
 pub mod Within

@@ -1,7 +1,7 @@
 -- What the checks of the input leave.
 use Prim.Native.Nat.{ℕ, _*_, _-_, _≤_, _<_, max}
 use native.Mathlib.Omega.{arith}
-use borrow.Author.Tests.{ltb-true, leb-true, eqb-true, ne-eqb}
+use borrow.Author.Tests.{leb-true, eqb-true, ne-eqb}
 use mathlib.Core.Path.{_≡_}
 use mathlib.Core.Bool.{true, _&&_, _||_}
 use mathlib.Core.Option.{none}
@@ -9,13 +9,13 @@ use mathlib.Core.List.{List}
 use lib.Dec.{eqb, ltb, leb}
 use lib.ListN.{length, getD}
 use Rattle.rules.specs.Refusal.{Check, _orElse_, unless, atPlace, firstFailing}
-use Rattle.rules.specs.Job.{known, lines}
+use Rattle.rules.specs.Job.{known, methodByte, confirmByte, entryCount, lines}
 use Rattle.rules.specs.Calls.{maxRead, maxMethods, maxOutput, maxWork, maxLines, buffersRight, inputCheck, batchRight}
-use Rattle.blocks.proofs.Tests.{both as and-true}
-use Rattle.rules.proofs.Opened.{passed, unless-passed}
+use Rattle.rules.proofs.Opened.{both as and-true, passed, unless-passed, at-none}
+use Rattle.rules.proofs.Job.{confirmed}
 use Rattle.input.specs.Input.{Within}
 
-module _ (i : ℕ) (methods : List ℕ) (c o w : ℕ) where
+module _ (i : ℕ) (job : List ℕ) (o w : ℕ) where
   buffers : buffersRight i o w ≡ true → (o ≤ maxOutput) × (2 * max o i ≤ w)
   unfolding buffersRight
   buffers h =
@@ -23,13 +23,14 @@ module _ (i : ℕ) (methods : List ℕ) (c o w : ℕ) where
       let b = and-true (leb o maxOutput) (leb w maxWork) (a .0) in
       (leb-true o maxOutput (b .0), leb-true (2 * max o i) w (a .1))
 
-  pub within : inputCheck i methods c o w ≡ none → Within c methods i o w
+  pub within : inputCheck i job o w ≡ none → Within job i o w
   unfolding inputCheck
   within h =
       let one : Check = unless (leb i maxRead) 1 in
-      let two : Check = unless (leb (length methods) maxMethods) 2 in
-      let three : Check = atPlace 3 (firstFailing (λ j. known (getD methods j 0)) 0 (length methods)) in
-      let four : Check = unless (ltb 0 c) 4 in
+      let two : Check = unless (leb (entryCount job) maxMethods) 2 in
+      let three : Check = atPlace 3 (firstFailing (λ j. known (methodByte job j)) 0 (entryCount job)) in
+      let confirms = firstFailing (λ j. ltb 0 (confirmByte job j)) 0 (entryCount job) in
+      let four : Check = atPlace 4 confirms in
       let five : Check = unless (buffersRight i o w) 5 in
       let a = passed one (two orElse (three orElse (four orElse five))) h in
       let b = passed two (three orElse (four orElse five)) (a .1) in
@@ -38,8 +39,8 @@ module _ (i : ℕ) (methods : List ℕ) (c o w : ℕ) where
       let room = buffers (unless-passed (buffersRight i o w) 5 (e .1)) in
       record {
         input = leb-true i maxRead (unless-passed (leb i maxRead) 1 (a .0));
-        methods = leb-true (length methods) maxMethods (unless-passed (leb (length methods) maxMethods) 2 (b .0));
-        confirm = ltb-true 0 c (unless-passed (ltb 0 c) 4 (e .0));
+        entries = leb-true (entryCount job) maxMethods (unless-passed (leb (entryCount job) maxMethods) 2 (b .0));
+        confirms = confirmed job (at-none 4 confirms (e .0));
         output = room .0;
         work = omega arith;
       }

@@ -1,11 +1,11 @@
--- What a call's answer means in document 01's terms, and what the calls promise.
+-- What a call's answer means in the papers' terms, and what the calls promise.
 use Prim.Native.Nat.{ℕ}
 use mathlib.Core.Path.{_≡_}
 use mathlib.Core.List.{List}
 use Rattle.rules.specs.Refusal.{Outcome, accepted, refused}
 use Rattle.rules.specs.Report as Reports
 use Rattle.rules.specs.Set.{KmerSet}
-use Rattle.rules.specs.Job.{Method}
+use Rattle.rules.specs.Job.{Entry}
 use Rattle.rules.specs.Counts.{Demand3}
 use Rattle.rules.specs.Calls.{Given, After}
 use Rattle.refusal.specs.Refusal.{refusalOf}
@@ -30,9 +30,8 @@ answerOf (Reported r) = accepted (reportOf r)
 answerOf (Refused r) = refused (refusalOf r)
 
 -- What a call is given.
-abbrev pub given : List ℕ → ℕ → List ℕ → List ℕ → List ℕ → List ℕ → Given
-given set confirm methods input output work =
-    record { set = set; confirm = confirm; methods = methods; input = input; output = output; work = work }
+abbrev pub given : List ℕ → List ℕ → List ℕ → List ℕ → List ℕ → Given
+given set job input output work = record { set = set; job = job; input = input; output = output; work = work }
 
 -- Answer, report and each lent byte are those of the rules.
 pub record Exact (after : After) (r : Answer) (o w : List ℕ) : Type 0 where
@@ -40,7 +39,7 @@ pub record Exact (after : After) (r : Answer) (o w : List ℕ) : Type 0 where
   pub output : o ≡ after .output
   pub work : w ≡ after .work
 
--- Demand 3, of an accepted call: one statement about the whole list of reads through the whole list of methods.
-abbrev pub Ceiling : KmerSet → ℕ → List Method → List (List ℕ) → Answer → Type 0
-Ceiling set c ms reads (Reported r) = Demand3 set c ms reads (r .turns) (r .lookups)
-Ceiling set c ms reads (Refused r) = Unit
+-- Demand 3, of an accepted call: one statement about the whole list of reads through the whole list of entries.
+abbrev pub Ceiling : KmerSet → List Entry → List (List ℕ) → Answer → Type 0
+Ceiling set es reads (Reported r) = Demand3 set es reads (r .turns) (r .lookups)
+Ceiling set es reads (Refused r) = Unit

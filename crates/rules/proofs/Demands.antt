@@ -1,4 +1,4 @@
--- What the papers ask to be proved of the rules: of every set that opens, every confirm from 1, every list of methods and reads.
+-- What the papers ask to be proved of the rules: of every set that opens, every list of entries with confirms from 1, every list of reads.
 use Prim.Native.Nat.{ℕ, zero, suc, _+_, _*_, _-_, _%_, _≤_, _<_}
 use native.Mathlib.Omega.{arith}
 use borrow.Author.Tests.{ltb-true, ltb-false}
@@ -13,11 +13,12 @@ use Rattle.rules.specs.Refusal.{accepted}
 use Rattle.rules.specs.Set.{KmerSet, solid, opened}
 use Rattle.rules.specs.Counted.{Try, refuse}
 use Rattle.rules.specs.Scan.{alternative, errorLen}
-use Rattle.rules.specs.Graph.{moveCost, start, walk, walkFrom, Exactly}
+use Rattle.rules.specs.Graph.{All, also, moveCost, start, walk, walkFrom, Exactly}
 use Rattle.rules.specs.Driver.{State, turn, turnsOf, begin}
-use Rattle.rules.specs.Job.{Method, One, Two, Graph, GapSize, correctError, pass}
+use Rattle.rules.specs.Job.{Method, One, Two, Graph, GapSize, Entry, Confirmed, correctError, pass}
 use Rattle.rules.specs.Counts.{Fed, sum, allPasses, turns, lookups, W, F, ceiling, Demand3}
 use Rattle.rules.proofs.Opened.{opened-odd}
+use Rattle.rules.proofs.Job.{all-confirmed}
 use Rattle.rules.proofs.Few.{few}
 use Rattle.rules.proofs.Driver.{Steady, drive-turns, turns-fuel, takes-base, turnsOf-grows, refused-kept}
 use Rattle.rules.proofs.Lookups.{Fair, fair-steady, drive-lookups, drive-short}
@@ -51,18 +52,18 @@ fair set lk c lc m = go (set .k) c refl refl lk lc
 pub steady : (set : KmerSet) → 1 ≤ set .k → (c : ℕ) → 1 ≤ c → (m : Method) → Steady (set .k) (solid set) (correctError set c m)
 steady set lk c lc m = fair-steady (set .k) (solid set) (correctError set c m) (F set c m) (fair set lk c lc m)
 
-sum-le : (f g : Fed → ℕ) → ((p : Fed) → f p ≤ g p) → (ps : List Fed) → sum f ps ≤ sum g ps
+sum-le : (f g : Fed → ℕ) → ((p : Fed) → 1 ≤ p .entry .confirm → f p ≤ g p) → (ps : List Fed) → All (λ p. 1 ≤ p .entry .confirm) ps → sum f ps ≤ sum g ps
 unfolding sum
-sum-le f g h [] = omega arith
-sum-le f g h (p ∷ ps) = omega (arith, h p, sum-le f g h ps)
+sum-le f g h [] a = omega arith
+sum-le f g h (p ∷ ps) (also q a) = omega (arith, h p q, sum-le f g h ps a)
 
 sum-twice : (f : Fed → ℕ) (ps : List Fed) → sum (λ p. 2 * f p) ps ≡ 2 * sum f ps
 unfolding sum
 sum-twice f [] = refl
 sum-twice f (p ∷ ps) = let i = sum-twice f ps in omega arith
 
--- A set that opens, and a confirm from 1.
-module _ (bytes : List ℕ) (set : KmerSet) (o : opened bytes ≡ accepted set) (c : ℕ) (c-pos : 1 ≤ c) where
+-- A set that opens.
+module _ (bytes : List ℕ) (set : KmerSet) (o : opened bytes ≡ accepted set) where
   abbrev k : ℕ
   k = set .k
 
@@ -78,41 +79,51 @@ module _ (bytes : List ℕ) (set : KmerSet) (o : opened bytes ≡ accepted set) 
 
   -- ---- the theorem `ceilings`: demand 3
 
-  pass-turns : (p : Fed) → turns set c p ≤ 2 * W set p
+  pass-turns : (p : Fed) → 1 ≤ p .entry .confirm → turns set p ≤ 2 * W set p
   unfolding turns pass W
-  pass-turns p = drive-turns k (solid set) (correctError set c (p .method)) (steady set k-pos c c-pos (p .method)) (p .bytes)
+  pass-turns p pos =
+      let c = p .entry .confirm in
+      let m = p .entry .method in
+      drive-turns k (solid set) (correctError set c m) (steady set k-pos c pos m) (p .bytes)
 
-  pass-lookups : (p : Fed) → lookups set c p ≤ ceiling set c p
+  pass-lookups : (p : Fed) → 1 ≤ p .entry .confirm → lookups set p ≤ ceiling set p
   unfolding lookups pass ceiling W
-  pass-lookups p = go (ltb (length (p .bytes)) k) refl
+  pass-lookups p pos = go (ltb (length (p .bytes)) k) refl
     where
+      c : ℕ
+      c = p .entry .confirm
+
+      m : Method
+      m = p .entry .method
+
       ce : List ℕ → ℕ → Try Rattle.rules.specs.Exist.Mend
-      ce = correctError set c (p .method)
+      ce = correctError set c m
 
-      go : (b : Bool) → ltb (length (p .bytes)) k ≡ b → lookups set c p ≤ ceiling set c p
-      go true e = rw (e, ceiling) (omega (arith, drive-short k (solid set) ce (F set c (p .method)) (p .bytes) (ltb-true _ _ e)))
-      go false e = rw (e, ceiling) (drive-lookups k (solid set) ce (F set c (p .method)) (fair set k-pos c c-pos (p .method)) (p .bytes) (ltb-false _ _ e))
+      go : (b : Bool) → ltb (length (p .bytes)) k ≡ b → lookups set p ≤ ceiling set p
+      go true e = rw (e, ceiling) (omega (arith, drive-short k (solid set) ce (F set c m) (p .bytes) (ltb-true _ _ e)))
+      go false e = rw (e, ceiling) (drive-lookups k (solid set) ce (F set c m) (fair set k-pos c pos m) (p .bytes) (ltb-false _ _ e))
 
-  pub ceilings : (ms : List Method) (reads : List (List ℕ))
-      → (let ps : List Fed = allPasses set c ms reads in Demand3 set c ms reads (sum (turns set c) ps) (sum (lookups set c) ps))
-  ceilings ms reads =
-      let ps = allPasses set c ms reads in
+  pub ceilings : (es : List Entry) → Confirmed es → (reads : List (List ℕ))
+      → (let ps : List Fed = allPasses set es reads in Demand3 set es reads (sum (turns set) ps) (sum (lookups set) ps))
+  ceilings es pos reads =
+      let ps = allPasses set es reads in
+      let a = all-confirmed set es pos reads in
       record {
         turns-are = refl;
         lookups-are = refl;
-        turns-under = subst (λ (l : ℕ). sum (turns set c) ps ≤ l) (sum-twice (W set) ps) (sum-le (turns set c) (λ p. 2 * W set p) pass-turns ps);
-        lookups-under = sum-le (lookups set c) (ceiling set c) pass-lookups ps;
+        turns-under = subst (λ (l : ℕ). sum (turns set) ps ≤ l) (sum-twice (W set) ps) (sum-le (turns set) (λ p. 2 * W set p) pass-turns ps a);
+        lookups-under = sum-le (lookups set) (ceiling set) pass-lookups ps a;
       }
 
   -- ---- the theorem `exactly`: demand 2, at each attempt, s the rest of the read and y the bad k-mer
 
-  pub graph-exactly-chain : (s : List ℕ) (y : ℕ) → Exactly k (solid set) s y (correctError set c Graph s y)
+  pub graph-exactly-chain : (c : ℕ) (s : List ℕ) (y : ℕ) → Exactly k (solid set) s y (correctError set c Graph s y)
   unfolding correctError
-  graph-exactly-chain s y = graph-exactly k n (solid set) (few set) s y
+  graph-exactly-chain c s y = graph-exactly k n (solid set) (few set) s y
 
-  pub gapSize-exactly-chain : (s : List ℕ) (y : ℕ) → errorLen k (solid set) y s .index < k → Exactly k (solid set) s y (correctError set c GapSize s y)
+  pub gapSize-exactly-chain : (c : ℕ) (s : List ℕ) (y : ℕ) → errorLen k (solid set) y s .index < k → Exactly k (solid set) s y (correctError set c GapSize s y)
   unfolding correctError
-  gapSize-exactly-chain s y lt = gapSize-exactly k n (solid set) (few set) s y c lt
+  gapSize-exactly-chain c s y lt = gapSize-exactly k n (solid set) (few set) s y c lt
 
   -- ---- the theorem `fuel`: no fuel of the rules ever runs out. Serves demand 1
 
@@ -133,7 +144,7 @@ module _ (bytes : List ℕ) (set : KmerSet) (o : opened bytes ≡ accepted set) 
           let same = walk-fuel k n (solid set) (few set) x (x-good k (solid set) y x a) (6 * n - 1) t (omega arith) in
           rw (e, walkFrom, ← same) (omega (arith, walk-cost k (solid set) (6 * n - 1) t (start x)))
 
-  module _ (m : Method) where
+  module _ (c : ℕ) (c-pos : 1 ≤ c) (m : Method) where
     abbrev ce : List ℕ → ℕ → Try Rattle.rules.specs.Exist.Mend
     ce = correctError set c m
 

@@ -1,4 +1,5 @@
 pub mod Samples
+pub mod Program
 pub mod Kmer
 pub mod Counted
 pub mod Scan
@@ -11,4 +12,9 @@ pub mod Correctors
 pub mod Exactly
 pub mod Opened
 pub mod Report
+pub mod Job
+pub mod Keys
+pub mod Blocks
+pub mod MakeSet
+pub mod MakeSamples
 pub mod Demands

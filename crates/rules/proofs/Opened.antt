@@ -3,12 +3,17 @@ use Prim.Native.Nat.{ℕ, _*_, _-_, _%_}
 use native.Mathlib.Omega.{arith}
 use borrow.Author.Tests.{eqb-true}
 use mathlib.Core.Path.{_≡_, refl, ap, _∙_}
-use mathlib.Core.Bool.{Bool, true, false, false≢true}
+use mathlib.Core.Bool.{Bool, true, false, _&&_, false≢true}
 use mathlib.Core.Option.{Option, none, some}
 use mathlib.Core.List.{List}
 use lib.Dec.{eqb}
 use Rattle.rules.specs.Refusal.{accepted, refused, Check, _orElse_, unless, atPlace, firstFailing}
 use Rattle.rules.specs.Set.{KmerSet, blocks, headerK, lengthRight, checkRight, headerRight, keyRight, setCheck, setOf, opened}
+
+-- both tests hold
+pub both : (a b : Bool) → (a && b) ≡ true → (a ≡ true) × (b ≡ true)
+both true b e = (refl, e)
+both false b e = absurd (false≢true e)
 
 -- no check refused: neither the first nor the later ones
 pub passed : (a b : Check) → a orElse b ≡ none → (a ≡ none) × (b ≡ none)
@@ -21,7 +26,7 @@ unfolding unless
 unless-passed true r h = refl
 unless-passed false r h = absurd (let z : _≡_ {A = ℕ} 0 1 = cc in omega arith)
 
-at-none : (r : ℕ) (p : Option ℕ) → atPlace r p ≡ none → p ≡ none
+pub at-none : (r : ℕ) (p : Option ℕ) → atPlace r p ≡ none → p ≡ none
 unfolding atPlace
 at-none r none h = refl
 at-none r (some p) h = absurd (let z : _≡_ {A = ℕ} 0 1 = cc in omega arith)

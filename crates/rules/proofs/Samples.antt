@@ -4,18 +4,20 @@ use mathlib.Core.Path.{_≡_, refl}
 use mathlib.Core.Option.{Option, none, some}
 use mathlib.Core.List.{List, [], _∷_, _++_, map}
 use lib.ListN.{replicate, set}
+use Rattle.rules.specs.Letters.{code, letter, complement}
 use Rattle.rules.specs.Refusal.{accepted, refused}
 use Rattle.rules.specs.Set.{KmerSet, check, opened}
 use Rattle.rules.specs.Driver.{Pass}
-use Rattle.rules.specs.Job.{pass}
+use Rattle.rules.specs.Job.{Entry, entriesOf, pass, result}
+use Rattle.rules.specs.Counts.{Fed, sum, allPasses, turns, lookups, ceiling}
 use Rattle.rules.specs.Calls.{Given, After, correctRead, correctBatch}
-use Rattle.rules.specs.Samples.{A, C, T, G, sampleSet, sampleBytes, Sample, line, table}
+use Rattle.rules.specs.Samples.{A, C, T, G, AACGTC, AACGCCG, sampleSet, sampleBytes, Sample, line, table, JobSample, jobLine, jobTable}
 use Rattle.rules.specs.Scenarios.{OnSet, on, scenarioTable}
 
 -- A line as the rules have it: its bytes, turns and lookups computed.
 pub byRules : KmerSet → Sample → Sample
 unfolding pass line
-byRules set s = (let p : Pass = pass set (s .confirm) (s .method) (s .read) in line (s .method) (s .confirm) (s .read) (p .bytes) (p .turns) (p .lookups))
+byRules set s = (let p : Pass = pass set (record { method = s .method; confirm = s .confirm }) (s .read) in line (s .method) (s .confirm) (s .read) (p .bytes) (p .turns) (p .lookups))
 
 -- Every line of the table is as the rules have it.
 pub samples : map (byRules sampleSet) table ≡ table
@@ -26,10 +28,27 @@ pub byRulesOn : OnSet → OnSet
 unfolding byRules
 byRulesOn o = record { set = o .set; sample = byRules (o .set) (o .sample) }
 
--- Every line of the second table too.
+-- Every line of the table of scenarios too.
 pub scenarios : map byRulesOn scenarioTable ≡ scenarioTable
 unfolding byRulesOn scenarioTable
 scenarios = refl
+
+-- A line of the second table as the rules have it.
+pub byJob : JobSample → JobSample
+unfolding entriesOf result sum allPasses turns lookups ceiling jobLine
+byJob s =
+    let es : List Entry = entriesOf (s .job) in
+    let ps : List Fed = allPasses sampleSet es (s .read ∷ []) in
+    jobLine (s .job) (s .read) (result sampleSet es (s .read)) (sum (turns sampleSet) ps) (sum (lookups sampleSet) ps) (sum (ceiling sampleSet) ps)
+
+pub jobs : map byJob jobTable ≡ jobTable
+unfolding byJob jobTable sampleSet
+jobs = refl
+
+-- The base pairs: A to T, C to G, T to A, G to C. Document 02, W2.
+pub basePairs : map (λ b. letter (complement (code b))) (A ∷ C ∷ T ∷ G ∷ []) ≡ T ∷ G ∷ A ∷ C ∷ []
+unfolding letter complement code
+basePairs = refl
 
 -- The set's bytes open with k = 3 and those five keys; the check words are 9 and 200.
 pub sampleOpens : (opened sampleBytes ≡ accepted sampleSet) × (check sampleBytes 0 ≡ 9) × (check sampleBytes 1 ≡ 200)
@@ -38,19 +57,13 @@ sampleOpens = (refl, refl, refl)
 
 -- ---- calls
 
--- A call on a set's bytes: confirm, methods and input, and the lengths of output and work, both filled with 1.
-pub given : List ℕ → ℕ → List ℕ → List ℕ → ℕ → ℕ → Given
-given bytes c ms input out work = record { set = bytes; confirm = c; methods = ms; input = input; output = replicate out 1; work = replicate work 1 }
+-- A call on a set's bytes: job and input, and the lengths of output and work, both filled with 1.
+pub given : List ℕ → List ℕ → List ℕ → ℕ → ℕ → Given
+given bytes job input out work = record { set = bytes; job = job; input = input; output = replicate out 1; work = replicate work 1 }
 
-abbrev pub AACGTC : List ℕ
-AACGTC = A ∷ A ∷ C ∷ G ∷ T ∷ C ∷ []
-
-abbrev pub AACGCCG : List ℕ
-AACGCCG = A ∷ A ∷ C ∷ G ∷ C ∷ C ∷ G ∷ []
-
--- Job 1, 3 with lines AACGCCG and AA: both lines, 1 turn, 24 lookups, 11 bytes, and zeros behind them.
+-- Job 3, 1 with lines AACGCCG and AA: both lines, 1 turn, 24 lookups, 11 bytes, and zeros behind them.
 pub printedCase :
-    correctBatch (given sampleBytes 1 (3 ∷ []) (AACGCCG ++ (10 ∷ A ∷ A ∷ 10 ∷ [])) 12 24)
+    correctBatch (given sampleBytes (3 ∷ 1 ∷ []) (AACGCCG ++ (10 ∷ A ∷ A ∷ 10 ∷ [])) 12 24)
     ≡ record {
       answer = accepted (record { written = 11; turns = 1; lookups = 24; attempts = 1; accepted = 1; yield = 1000 });
       output = A ∷ A ∷ C ∷ T ∷ C ∷ C ∷ G ∷ 10 ∷ A ∷ A ∷ 10 ∷ 0 ∷ [];
@@ -61,7 +74,7 @@ printedCase = refl
 
 -- Every line is corrected, each to a read of its own: AACGC and AACGCCG under One.
 pub bothLines :
-    correctBatch (given sampleBytes 1 (1 ∷ []) (A ∷ A ∷ C ∷ G ∷ C ∷ 10 ∷ (AACGCCG ++ (10 ∷ []))) 14 28)
+    correctBatch (given sampleBytes (1 ∷ 1 ∷ []) (A ∷ A ∷ C ∷ G ∷ C ∷ 10 ∷ (AACGCCG ++ (10 ∷ []))) 14 28)
     ≡ record {
       answer = accepted (record { written = 14; turns = 6; lookups = 28; attempts = 2; accepted = 2; yield = 1000 });
       output = A ∷ A ∷ C ∷ T ∷ C ∷ 10 ∷ A ∷ A ∷ C ∷ T ∷ C ∷ C ∷ G ∷ 10 ∷ [];
@@ -74,25 +87,41 @@ bothLines = refl
 pub refusalOf : After → Option (ℕ × ℕ)
 refusalOf a = elim (a .answer) [ accepted r ↦ none | refused r ↦ some (r .number, r .place) ]
 
--- Refusals 2 to 11, each met once (1 needs more than a million bytes). 11 compares pass results: AACGTC fits 5 bytes after One alone,
--- and not after Graph, which leaves it as it is; a batch of one byte 10 has no room in no output.
+-- Refusals 2 to 4 (1 needs more than a million bytes). 2 counts entries: 9 whole ones, or 8 and a half; 8 are accepted. 3 and 4 name the
+-- first such entry, and 3 looks at all methods before 4 looks at any confirm. An entry without its second byte has confirm 0.
+pub jobRefusals :
+    map (λ job. refusalOf (correctRead (given sampleBytes job AACGTC 9 18)))
+    (replicate 18 1
+    ∷ replicate 17 1
+    ∷ replicate 16 1
+    ∷ replicate 15 1
+    ∷ (1 ∷ 1 ∷ 2 ∷ 1 ∷ 5 ∷ 1 ∷ 0 ∷ 1 ∷ [])
+    ∷ (1 ∷ 0 ∷ 5 ∷ 1 ∷ [])
+    ∷ (1 ∷ 0 ∷ 5 ∷ [])
+    ∷ (1 ∷ 1 ∷ 2 ∷ 0 ∷ 3 ∷ 0 ∷ [])
+    ∷ (1 ∷ 1 ∷ 2 ∷ [])
+    ∷ (1 ∷ [])
+    ∷ [])
+    ≡ some (2, 0) ∷ some (2, 0) ∷ none ∷ some (4, 7) ∷ some (3, 2) ∷ some (3, 1) ∷ some (3, 1) ∷ some (4, 1) ∷ some (4, 1) ∷ some (4, 0) ∷ []
+unfolding correctRead given sampleBytes refusalOf
+jobRefusals = refl
+
+-- Refusals 5 to 11, each met once. 11 compares pass results: AACGTC fits 5 bytes after One alone, and not after Graph, which leaves it
+-- as it is; a batch of one byte 10 has no room in no output.
 pub refusals :
     map refusalOf
-    (correctRead (given sampleBytes 1 (replicate 9 1) AACGTC 9 18)
-    ∷ correctRead (given sampleBytes 1 (1 ∷ 2 ∷ 5 ∷ []) AACGTC 9 18)
-    ∷ correctRead (given sampleBytes 0 (1 ∷ []) AACGTC 9 18)
-    ∷ correctRead (given sampleBytes 1 (1 ∷ []) AACGTC 9 17)
-    ∷ correctBatch (given sampleBytes 1 (1 ∷ []) AACGTC 9 18)
-    ∷ correctRead (given [] 1 (1 ∷ []) AACGTC 9 18)
-    ∷ correctRead (given (set sampleBytes 520 7) 1 (1 ∷ []) AACGTC 9 18)
-    ∷ correctRead (given (set (set sampleBytes 0 2) 504 8) 1 (1 ∷ []) AACGTC 9 18)
-    ∷ correctRead (given (set (set sampleBytes 520 6) 1016 183) 1 (1 ∷ []) AACGTC 9 18)
-    ∷ correctRead (given sampleBytes 1 (1 ∷ []) AACGTC 5 12)
-    ∷ correctRead (given sampleBytes 1 (3 ∷ 1 ∷ []) AACGTC 5 12)
-    ∷ correctBatch (given sampleBytes 1 [] (A ∷ 10 ∷ 10 ∷ []) 2 6)
-    ∷ correctBatch (given sampleBytes 1 [] (10 ∷ []) 0 2)
+    (correctRead (given sampleBytes (1 ∷ 1 ∷ []) AACGTC 9 17)
+    ∷ correctBatch (given sampleBytes (1 ∷ 1 ∷ []) AACGTC 9 18)
+    ∷ correctRead (given [] (1 ∷ 1 ∷ []) AACGTC 9 18)
+    ∷ correctRead (given (set sampleBytes 520 7) (1 ∷ 1 ∷ []) AACGTC 9 18)
+    ∷ correctRead (given (set (set sampleBytes 0 2) 504 8) (1 ∷ 1 ∷ []) AACGTC 9 18)
+    ∷ correctRead (given (set (set sampleBytes 520 6) 1016 183) (1 ∷ 1 ∷ []) AACGTC 9 18)
+    ∷ correctRead (given sampleBytes (1 ∷ 1 ∷ []) AACGTC 5 12)
+    ∷ correctRead (given sampleBytes (3 ∷ 1 ∷ 1 ∷ 1 ∷ []) AACGTC 5 12)
+    ∷ correctBatch (given sampleBytes [] (A ∷ 10 ∷ 10 ∷ []) 2 6)
+    ∷ correctBatch (given sampleBytes [] (10 ∷ []) 0 2)
     ∷ [])
-    ≡ some (2, 0) ∷ some (3, 2) ∷ some (4, 0) ∷ some (5, 0) ∷ some (6, 0) ∷ some (7, 0) ∷ some (8, 1) ∷ some (9, 0) ∷ some (10, 1)
+    ≡ some (5, 0) ∷ some (6, 0) ∷ some (7, 0) ∷ some (8, 1) ∷ some (9, 0) ∷ some (10, 1)
     ∷ none ∷ some (11, 0) ∷ some (11, 1) ∷ some (11, 0) ∷ []
 unfolding correctRead correctBatch given sampleBytes refusalOf
 refusals = refl

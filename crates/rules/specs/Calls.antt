@@ -1,4 +1,4 @@
--- Document 01, refusals 1 to 6 and 11, and what the single-read and the batch call answer and leave in the lent buffers.
+-- Document 01, refusals 1 to 6 and 11, and what the single-read and the batch call answer and leave in the lent buffers; document 02, W1.
 use Prim.Native.Nat.{ℕ, suc, _+_, _*_, _-_, max}
 use mathlib.Core.Bool.{Bool, true, false, _&&_, _||_}
 use mathlib.Core.Option.{Option, none, some}
@@ -8,7 +8,7 @@ use lib.Dec.{eqb, ltb, leb}
 use Rattle.rules.specs.Refusal.{Refusal, Outcome, accepted, refused, Check, _orElse_, unless, atPlace, firstFailing}
 use Rattle.rules.specs.Set.{KmerSet, opened}
 use Rattle.rules.specs.Driver.{Pass}
-use Rattle.rules.specs.Job.{Method, known, methodsOf, lines, pass, result}
+use Rattle.rules.specs.Job.{Entry, known, methodByte, confirmByte, entryCount, entriesOf, lines, pass, result}
 use Rattle.rules.specs.Report.{Report, yieldOf}
 use Rattle.rules.specs.Counts.{Fed, sum, allPasses, turns, lookups, attempts, corrections}
 
@@ -35,14 +35,14 @@ maxLines = 1024
 unfoldable pub buffersRight : ℕ → ℕ → ℕ → Bool
 buffersRight input output work = leb output maxOutput && leb work maxWork && leb (2 * max output input) work
 
--- Checks 1 to 5, upward: the input's length, the method bytes, confirm, and the lengths of output and work.
-unfoldable pub inputCheck : ℕ → List ℕ → ℕ → ℕ → ℕ → Check
-unfolding unless atPlace firstFailing known buffersRight _orElse_
-inputCheck input methods confirm output work =
+-- Checks 1 to 5, upward: the input's length, the number of entries, all methods, then all confirms, and the lengths of output and work.
+unfoldable pub inputCheck : ℕ → List ℕ → ℕ → ℕ → Check
+unfolding unless atPlace firstFailing known methodByte confirmByte entryCount buffersRight _orElse_
+inputCheck input job output work =
     unless (leb input maxRead) 1
-    orElse unless (leb (length methods) maxMethods) 2
-    orElse atPlace 3 (firstFailing (λ i. known (getD methods i 0)) 0 (length methods))
-    orElse unless (ltb 0 confirm) 4
+    orElse unless (leb (entryCount job) maxMethods) 2
+    orElse atPlace 3 (firstFailing (λ i. known (methodByte job i)) 0 (entryCount job))
+    orElse atPlace 4 (firstFailing (λ i. ltb 0 (confirmByte job i)) 0 (entryCount job))
     orElse unless (buffersRight input output work) 5
 
 -- 6: a batch is empty or has a final 10, and no more than 1,024 lines.
@@ -54,11 +54,10 @@ batchRight batch =
 
 -- ---- the calls
 
--- What a call is given: the set's bytes, confirm, method bytes, a read or a batch, and the two lent buffers.
+-- What a call is given: the set's bytes, the job's bytes, a read or a batch, and the two lent buffers.
 pub record Given : Type 0 where
   pub set : List ℕ
-  pub confirm : ℕ
-  pub methods : List ℕ
+  pub job : List ℕ
   pub input : List ℕ
   pub output : List ℕ
   pub work : List ℕ
@@ -83,41 +82,41 @@ noRoom g line =
     }
 
 -- The longest of a read's pass results; the read, if no methods.
-unfoldable pub longest : KmerSet → ℕ → List Method → List ℕ → ℕ
+unfoldable pub longest : KmerSet → List Entry → List ℕ → ℕ
 unfolding pass
-longest set c [] read = length read
-longest set c (m ∷ rest) read = (let p : Pass = pass set c m read in max (length (p .bytes)) (longest set c rest (p .bytes)))
+longest set [] read = length read
+longest set (e ∷ es) read = (let p : Pass = pass set e read in max (length (p .bytes)) (longest set es (p .bytes)))
 
 -- A call corrects reads in turn and puts an ending behind each: nothing behind a single read, byte 10 behind a line of a batch.
-module _ (set : KmerSet) (c : ℕ) (ms : List Method) (ending : List ℕ) where
+module _ (set : KmerSet) (es : List Entry) (ending : List ℕ) where
   -- 11: the first read, from number i on, of which a pass result with the ending is longer than what is left of the output.
   unfoldable pub tooLong : ℕ → ℕ → List (List ℕ) → Option ℕ
   unfolding longest result
   tooLong i left [] = none
   tooLong i left (read ∷ reads) =
-      elim (ltb left (longest set c ms read + length ending)) [
+      elim (ltb left (longest set es read + length ending)) [
         | true ↦ some i
-        | false ↦ tooLong (suc i) (left - (length (result set c ms read) + length ending)) reads
+        | false ↦ tooLong (suc i) (left - (length (result set es read) + length ending)) reads
       ]
 
   -- The bytes written.
   unfoldable pub results : List (List ℕ) → List ℕ
   unfolding result
   results [] = []
-  results (read ∷ reads) = result set c ms read ++ (ending ++ results reads)
+  results (read ∷ reads) = result set es read ++ (ending ++ results reads)
 
   -- The report: numbers are sums over all passes, yield from the sums.
   unfoldable pub report : List (List ℕ) → Report
   unfolding results allPasses sum turns lookups attempts corrections yieldOf
   report reads =
-      let ps : List Fed = allPasses set c ms reads in
+      let ps : List Fed = allPasses set es reads in
       record {
         written = length (results reads);
-        turns = sum (turns set c) ps;
-        lookups = sum (lookups set c) ps;
-        attempts = sum (attempts set c) ps;
-        accepted = sum (corrections set c) ps;
-        yield = yieldOf (sum (corrections set c) ps) (sum (attempts set c) ps);
+        turns = sum (turns set) ps;
+        lookups = sum (lookups set) ps;
+        attempts = sum (attempts set) ps;
+        accepted = sum (corrections set) ps;
+        yield = yieldOf (sum (corrections set) ps) (sum (attempts set) ps);
       }
 
   -- With an opened set: 11, or the result with the rest of the output zero and the whole work buffer zero.
@@ -135,20 +134,20 @@ module _ (set : KmerSet) (c : ℕ) (ms : List Method) (ending : List ℕ) where
 
 -- After the checks of the input come the set's, 7 to 10, then 11.
 unfoldable pub call : List ℕ → List (List ℕ) → Check → Given → After
-unfolding unchanged opened corrected methodsOf
+unfolding unchanged opened corrected entriesOf
 call ending reads refusal g =
     elim refusal [
       | some r ↦ unchanged g r
       | none ↦ elim (opened (g .set)) [
         | refused r ↦ unchanged g r
-        | accepted set ↦ corrected set (g .confirm) (methodsOf (g .methods)) ending g reads
+        | accepted set ↦ corrected set (entriesOf (g .job)) ending g reads
       ]
     ]
 
 -- Checks 1 to 5 of what is given.
 unfoldable pub givenCheck : Given → Check
 unfolding inputCheck
-givenCheck g = inputCheck (length (g .input)) (g .methods) (g .confirm) (length (g .output)) (length (g .work))
+givenCheck g = inputCheck (length (g .input)) (g .job) (length (g .output)) (length (g .work))
 
 -- The single-read call: a list of one read.
 unfoldable pub correctRead : Given → After

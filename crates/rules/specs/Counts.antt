@@ -1,4 +1,4 @@
--- Document 01, "Records", Counts, and demand 3.
+-- Document 01, "Records", Counts, and demand 3; document 02, W1: the confirm of the pass that is counted.
 use Prim.Native.Nat.{ℕ, _+_, _*_, _-_, _≤_}
 use mathlib.Core.Path.{_≡_}
 use mathlib.Core.Bool.{true, false}
@@ -6,11 +6,11 @@ use mathlib.Core.List.{List, [], _∷_, _++_}
 use lib.ListN.{length}
 use lib.Dec.{ltb}
 use Rattle.rules.specs.Set.{KmerSet}
-use Rattle.rules.specs.Job.{Method, One, Two, Graph, GapSize, pass}
+use Rattle.rules.specs.Job.{Method, One, Two, Graph, GapSize, Entry, pass}
 
--- A pass is one read through one method: the method and what it is fed.
+-- A pass is one read through one method: its entry of the job and what it is fed.
 pub record Fed : Type 0 where
-  pub method : Method
+  pub entry : Entry
   pub bytes : List ℕ
 
 -- The sum over a list of passes.
@@ -22,52 +22,52 @@ sum f (p ∷ ps) = f p + sum f ps
 unfoldable pub W : KmerSet → Fed → ℕ
 W set p = length (p .bytes) - set .k
 
-module _ (set : KmerSet) (c : ℕ) where
+module _ (set : KmerSet) where
   -- A read's first pass is fed the read, each later one the bytes that these rules give for the pass before.
-  unfoldable pub passesOf : List Method → List ℕ → List Fed
+  unfoldable pub passesOf : List Entry → List ℕ → List Fed
   unfolding pass
   passesOf [] read = []
-  passesOf (m ∷ ms) read = record { method = m; bytes = read } ∷ passesOf ms (pass set c m read .bytes)
+  passesOf (e ∷ es) read = record { entry = e; bytes = read } ∷ passesOf es (pass set e read .bytes)
 
-  -- All passes of a list of reads through a list of methods. A single read is a list of one read.
-  unfoldable pub allPasses : List Method → List (List ℕ) → List Fed
+  -- All passes of a list of reads through a list of entries. A single read is a list of one read.
+  unfoldable pub allPasses : List Entry → List (List ℕ) → List Fed
   unfolding passesOf
-  allPasses ms [] = []
-  allPasses ms (read ∷ reads) = passesOf ms read ++ allPasses ms reads
+  allPasses es [] = []
+  allPasses es (read ∷ reads) = passesOf es read ++ allPasses es reads
 
   -- What one pass counts.
   unfoldable pub turns : Fed → ℕ
   unfolding pass
-  turns p = pass set c (p .method) (p .bytes) .turns
+  turns p = pass set (p .entry) (p .bytes) .turns
 
   unfoldable pub lookups : Fed → ℕ
   unfolding pass
-  lookups p = pass set c (p .method) (p .bytes) .lookups
+  lookups p = pass set (p .entry) (p .bytes) .lookups
 
   unfoldable pub attempts : Fed → ℕ
   unfolding pass
-  attempts p = pass set c (p .method) (p .bytes) .attempts
+  attempts p = pass set (p .entry) (p .bytes) .attempts
 
   unfoldable pub corrections : Fed → ℕ
   unfolding pass
-  corrections p = pass set c (p .method) (p .bytes) .accepted
+  corrections p = pass set (p .entry) (p .bytes) .accepted
 
-  -- Demand 3's F, n being the number of keys.
-  unfoldable pub F : Method → ℕ
-  F One = 12 + 3 * c
-  F Two = 69 + 13 * c
-  F Graph = 6 + 30 * length (set .keys)
-  F GapSize = 17 + set .k + 3 * c + 30 * length (set .keys)
+  -- Demand 3's F, c being a confirm and n the number of keys.
+  unfoldable pub F : ℕ → Method → ℕ
+  F c One = 12 + 3 * c
+  F c Two = 69 + 13 * c
+  F c Graph = 6 + 30 * length (set .keys)
+  F c GapSize = 17 + set .k + 3 * c + 30 * length (set .keys)
 
-  -- 1 + W × F; a pass shorter than k adds nothing.
+  -- 1 + W × F, with the confirm of the pass; a pass shorter than k adds nothing.
   unfoldable pub ceiling : Fed → ℕ
   unfolding W F
-  ceiling p = elim (ltb (length (p .bytes)) (set .k)) [ true ↦ 0 | false ↦ 1 + W set p * F (p .method) ]
+  ceiling p = elim (ltb (length (p .bytes)) (set .k)) [ true ↦ 0 | false ↦ 1 + W set p * F (p .entry .confirm) (p .entry .method) ]
 
--- Demand 3, of the turns t and lookups l of a list of reads through a list of methods: they are those that these rules count, summed over all
+-- Demand 3, of the turns t and lookups l of a list of reads through a list of entries: they are those that these rules count, summed over all
 -- passes; turns ≤ 2 × the sum of W; lookups ≤ the sum over passes of 1 + W × F. One statement about both whole lists.
-pub record Demand3 (set : KmerSet) (c : ℕ) (ms : List Method) (reads : List (List ℕ)) (t l : ℕ) : Type 0 where
-  pub turns-are : t ≡ sum (turns set c) (allPasses set c ms reads)
-  pub lookups-are : l ≡ sum (lookups set c) (allPasses set c ms reads)
-  pub turns-under : t ≤ 2 * sum (W set) (allPasses set c ms reads)
-  pub lookups-under : l ≤ sum (ceiling set c) (allPasses set c ms reads)
+pub record Demand3 (set : KmerSet) (es : List Entry) (reads : List (List ℕ)) (t l : ℕ) : Type 0 where
+  pub turns-are : t ≡ sum (turns set) (allPasses set es reads)
+  pub lookups-are : l ≡ sum (lookups set) (allPasses set es reads)
+  pub turns-under : t ≤ 2 * sum (W set) (allPasses set es reads)
+  pub lookups-under : l ≤ sum (ceiling set) (allPasses set es reads)

@@ -1,13 +1,13 @@
--- Document 01, "Records", Job.
-use Prim.Native.Nat.{ℕ}
+-- Document 01, "Records", Job; document 02, W1: each method has its own confirm.
+use Prim.Native.Nat.{ℕ, zero, suc, _+_, _*_, _/_, _≤_}
 use mathlib.Core.Bool.{Bool, true, false, _&&_}
 use mathlib.Core.List.{List, [], _∷_, _++_}
-use lib.ListN.{length}
+use lib.ListN.{length, getD}
 use lib.Dec.{eqb, leb}
 use Rattle.rules.specs.Set.{KmerSet, solid}
 use Rattle.rules.specs.Counted.{Try}
 use Rattle.rules.specs.Exist.{Mend, exist, one, two}
-use Rattle.rules.specs.Graph.{graph}
+use Rattle.rules.specs.Graph.{All, graph}
 use Rattle.rules.specs.GapSize.{gapSize}
 use Rattle.rules.specs.Driver.{Pass, drive}
 
@@ -22,10 +22,43 @@ known b = leb 1 b && leb b 4
 unfoldable pub methodOf : ℕ → Method
 methodOf b = elim (eqb b 1) [ true ↦ One | false ↦ elim (eqb b 2) [ true ↦ Two | false ↦ elim (eqb b 3) [ true ↦ Graph | false ↦ GapSize ] ] ]
 
-unfoldable pub methodsOf : List ℕ → List Method
+-- An entry of a job: a method and its own confirm.
+pub record Entry : Type 0 where
+  pub method : Method
+  pub confirm : ℕ
+
+-- The entry of a method byte and a confirm byte.
+unfoldable pub entry : ℕ → ℕ → Entry
 unfolding methodOf
-methodsOf [] = []
-methodsOf (b ∷ bs) = methodOf b ∷ methodsOf bs
+entry m c = record { method = methodOf m; confirm = c }
+
+-- A job is pairs of bytes, method first: entry i is bytes 2i and 2i + 1. An entry without its second byte has confirm 0.
+unfoldable pub methodByte : List ℕ → ℕ → ℕ
+methodByte job i = getD job (2 * i) 0
+
+unfoldable pub confirmByte : List ℕ → ℕ → ℕ
+confirmByte job i = getD job (2 * i + 1) 0
+
+abbrev pub entryAt : List ℕ → ℕ → Entry
+entryAt job i = entry (methodByte job i) (confirmByte job i)
+
+unfoldable pub entryCount : List ℕ → ℕ
+entryCount job = (length job + 1) / 2
+
+-- m entries from entry i on.
+unfoldable pub entriesFrom : List ℕ → ℕ → ℕ → List Entry
+unfolding entry methodByte confirmByte
+entriesFrom job i zero = []
+entriesFrom job i (suc m) = entryAt job i ∷ entriesFrom job (suc i) m
+
+-- All entries of a job.
+unfoldable pub entriesOf : List ℕ → List Entry
+unfolding entriesFrom entryCount
+entriesOf job = entriesFrom job 0 (entryCount job)
+
+-- Every entry has a confirm from 1.
+abbrev pub Confirmed : List Entry → Type 0
+Confirmed es = All (λ e. 1 ≤ e .confirm) es
 
 -- A batch is lines each ended by byte 10.
 unfoldable pub linesFrom : List ℕ → List ℕ → List (List ℕ)
@@ -46,13 +79,14 @@ module _ (set : KmerSet) (c : ℕ) where
   correctError Graph s y = graph (set .k) (length (set .keys)) (solid set) s y
   correctError GapSize s y = gapSize (set .k) (length (set .keys)) (solid set) c s y
 
-  -- A pass: what it is fed through one method.
-  unfoldable pub pass : Method → List ℕ → Pass
+module _ (set : KmerSet) where
+  -- A pass: what it is fed through one entry's method, with that entry's confirm.
+  unfoldable pub pass : Entry → List ℕ → Pass
   unfolding correctError drive
-  pass m fed = drive (set .k) (solid set) (correctError m) fed
+  pass e fed = drive (set .k) (solid set) (correctError set (e .confirm) (e .method)) fed
 
   -- Each method reads the bytes of the one before.
-  unfoldable pub result : List Method → List ℕ → List ℕ
+  unfoldable pub result : List Entry → List ℕ → List ℕ
   unfolding pass
   result [] read = read
-  result (m ∷ ms) read = result ms (pass m read .bytes)
+  result (e ∷ es) read = result es (pass e read .bytes)

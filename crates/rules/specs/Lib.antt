@@ -1,5 +1,5 @@
 -- Document 01 in its order: Records (Letters, Set, Job, Report, Counts), Successors and scan, Correctors (One and Two, Graph, GapSize),
--- Driver, and the calls with their refusals.
+-- Driver, the calls with their refusals, and the program; then document 02's requests.
 pub mod Letters
 pub mod Refusal
 pub mod Set
@@ -13,6 +13,9 @@ pub mod Graph
 pub mod GapSize
 pub mod Driver
 pub mod Calls
+pub mod Program
 pub mod Solid
+pub mod Blocks
+pub mod MakeSet
 pub mod Samples
 pub mod Scenarios

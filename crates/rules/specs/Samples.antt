@@ -1,8 +1,9 @@
--- Document 01, "Sample reads": its set and its reads marked *.
-use Prim.Native.Nat.{ℕ, zero, suc, _/_, _%_}
+-- Document 01, "Sample reads": its set and its reads marked *; document 02, W1: jobs of several entries.
+use Prim.Native.Nat.{ℕ}
 use mathlib.Core.List.{List, [], _∷_, _++_}
 use lib.ListN.{replicate}
 use Rattle.rules.specs.Set.{KmerSet}
+use Rattle.rules.specs.Blocks.{bytesOf}
 use Rattle.rules.specs.Job.{Method, One, Two, Graph, GapSize}
 
 abbrev pub A : ℕ
@@ -17,14 +18,21 @@ T = 84
 abbrev pub G : ℕ
 G = 71
 
+abbrev pub AACCG : List ℕ
+AACCG = A ∷ A ∷ C ∷ C ∷ G ∷ []
+
+abbrev pub AACGTC : List ℕ
+AACGTC = A ∷ A ∷ C ∷ G ∷ T ∷ C ∷ []
+
+abbrev pub AACGCCG : List ℕ
+AACGCCG = A ∷ A ∷ C ∷ G ∷ C ∷ C ∷ G ∷ []
+
+abbrev pub AACTCCG : List ℕ
+AACTCCG = A ∷ A ∷ C ∷ T ∷ C ∷ C ∷ G ∷ []
+
 -- k = 3, keys 6, 23, 51, 58, 60.
 unfoldable pub sampleSet : KmerSet
 sampleSet = record { k = 3; keys = 6 ∷ 23 ∷ 51 ∷ 58 ∷ 60 ∷ [] }
-
--- The m bytes of a number, lowest first.
-unfoldable pub bytesOf : ℕ → ℕ → List ℕ
-bytesOf zero w = []
-bytesOf (suc m) w = w % 256 ∷ bytesOf m (w / 256)
 
 -- 64-bit words as bytes.
 unfoldable pub wordBytes : List ℕ → List ℕ
@@ -73,4 +81,33 @@ table =
     ∷ line Two 1 [] [] 0 0
     ∷ line Graph 1 [] [] 0 0
     ∷ line GapSize 1 [] [] 0 0
+    ∷ []
+
+-- A line of the second table: a read through a job; its bytes, turns, lookups, and the ceiling on its lookups.
+pub record JobSample : Type 0 where
+  pub job : List ℕ
+  pub read : List ℕ
+  pub bytes : List ℕ
+  pub turns : ℕ
+  pub lookups : ℕ
+  pub ceiling : ℕ
+
+unfoldable pub jobLine : List ℕ → List ℕ → List ℕ → ℕ → ℕ → ℕ → JobSample
+jobLine job read bytes t l c = record { job = job; read = read; bytes = bytes; turns = t; lookups = l; ceiling = c }
+
+-- Each pass takes the confirm of its own entry: Two mends AACCG at c 2 and not at c 1, GapSize (whose index is k, so One) mends AACGCCG at
+-- c 1 and not at c 4. Without entries there are no passes.
+unfoldable pub jobTable : List JobSample
+unfolding jobLine
+jobTable =
+    jobLine (2 ∷ 1 ∷ []) AACCG AACCG 2 37 165
+    ∷ jobLine (2 ∷ 2 ∷ []) AACCG AACTCCG 3 37 191
+    ∷ jobLine (2 ∷ 1 ∷ 2 ∷ 1 ∷ []) AACCG AACCG 4 74 330
+    ∷ jobLine (2 ∷ 1 ∷ 2 ∷ 2 ∷ []) AACCG AACTCCG 5 74 356
+    ∷ jobLine (2 ∷ 2 ∷ 2 ∷ 1 ∷ []) AACCG AACTCCG 7 42 520
+    ∷ jobLine (4 ∷ 4 ∷ []) AACGCCG AACGCCG 4 16 729
+    ∷ jobLine (4 ∷ 4 ∷ 4 ∷ 1 ∷ []) AACGCCG AACTCCG 8 35 1422
+    ∷ jobLine (4 ∷ 1 ∷ 4 ∷ 4 ∷ []) AACGCCG AACTCCG 8 24 1422
+    ∷ jobLine (1 ∷ 4 ∷ 3 ∷ 200 ∷ 1 ∷ 1 ∷ []) AACGCCG AACTCCG 9 42 783
+    ∷ jobLine [] AACCG AACCG 0 0 0
     ∷ []

@@ -103,11 +103,15 @@ unfoldable pub isNone : Option ℕ → Bool
 isNone none = true
 isNone (some i) = false
 
+-- k is odd, from 1 to 31.
+abbrev pub kRight : ℕ → Bool
+kRight k = eqb (k % 2) 1 && leb k maxK
+
 -- Refused with 9: k not odd from 1 to 31, n too large, a header word not zero, or a wrong block count (1 + ceil(n/63) is right).
 unfoldable pub headerRight : List ℕ → Bool
 unfolding headerK headerN firstFailing isNone blocks
 headerRight bytes =
-    eqb (headerK bytes % 2) 1 && leb (headerK bytes) maxK
+    kRight (headerK bytes)
     && leb (headerN bytes) maxKeys
     && isNone (firstFailing (λ i. eqb (blockWord bytes 0 i) 0) 2 61)
     && eqb (blocks bytes) (1 + (headerN bytes + 62) / 63)

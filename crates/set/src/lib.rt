@@ -7,7 +7,9 @@ ghost use mathlib.Core.Option.{none};
 ghost use Prim.Native.Nat.{ℕ, _+_, _-_, _*_, _≤_, _<_, max};
 ghost use lib.ListN.{length, getD};
 ghost use Rattle.rules.specs.Set.{maxK, maxKeys, blocks, headerK, headerN, keyWord, setCheck, setOf, solid};
+ghost use Rattle.rules.specs.Letters.{canonical};
 ghost use Rattle.kmer.specs.Kmer.{Shifts, IsKmer};
+ghost use Rattle.keys.specs.Find.{Bracket};
 ghost use lib.Dec.{eqb};
 ghost use Rattle.set.specs.Ready as table;
 ghost use Rattle.set.specs.Ready.{tableLength, prefix, Below, Filled, Ready};
@@ -40,6 +42,27 @@ fn is_key(found: Found) -> bool
     }
 }
 
+// A key, and the indices of the keys between which it can stand.
+struct Range {
+    key: u64,
+    from: usize,
+    end: usize,
+}
+
+// The key of a k-mer, among those of its prefix.
+fn range_of(set: &[u8], starts: &[u32], head: Header, kmer: Kmer) -> Range
+    requires { ⌜ Ready (now set) (now starts) head × IsKmer (head .k) kmer ⌝ }
+    ensures { λ r. ⌜ (r .key ≡ canonical (head .k) (kmer .code)) × Bracket (now (set .entry)) (head .n) (r .key) (r .from) (r .end) ⌝ }
+{
+    let key = kmer::canonical(kmer, head);
+    let prefix = prefix_of(key, head.shift);
+    Range {
+        key,
+        from: start(starts, prefix),
+        end: start(starts, prefix + 1),
+    }
+}
+
 pub fn get(set: &[u8], starts: &[u32], head: Header, kmer: Kmer) -> bool
     requires { ⌜ Ready (now set) (now starts) head × IsKmer (head .k) kmer ⌝ }
     ensures { λ r. ⌜ r ≡ solid (setOf (now (set .entry))) (kmer .code) ⌝ }
@@ -49,11 +72,21 @@ pub fn get(set: &[u8], starts: &[u32], head: Header, kmer: Kmer) -> bool
         code: kmer.code,
         rev: kmer.rev,
     };
-    let key = kmer::canonical(both, head);
-    let prefix = prefix_of(key, head.shift);
-    let from = start(starts, prefix);
-    let end = start(starts, prefix + 1);
-    is_key(keys::find(set, key, head.shift, head.n, from, end))
+    let range = range_of(set, starts, head, both);
+    is_key(keys::find(set, range.key, head.shift, head.n, range.from, range.end))
+}
+
+// The line that a lookup of the k-mer reads first.
+pub fn first_line(set: &[u8], starts: &[u32], head: Header, kmer: Kmer) -> usize
+    requires { ⌜ Ready (now set) (now starts) head × IsKmer (head .k) kmer ⌝ }
+    ensures { λ r. ⌜ r < maxKeys ⌝ }
+{
+    let both = Kmer {
+        code: kmer.code,
+        rev: kmer.rev,
+    };
+    let range = range_of(set, starts, head, both);
+    keys::first_line(range.key, head.shift, range.from, range.end)
 }
 
 // How many bits a prefix has: at most 16, at most a key's 2k, and no more than four prefixes to a key.
@@ -80,13 +113,7 @@ fn header(k: usize, n: usize, bits: usize) -> Header
     requires { ⌜ (1 ≤ k) × (k ≤ maxK) × (bits ≤ 2 * k) ⌝ }
     ensures { λ r. ⌜ Shifts r × (r .k ≡ k) × (r .n ≡ n) × (r .shift ≡ 2 * k - bits) ⌝ }
 {
-    Header {
-        k,
-        n,
-        mask: kmer::mask(k),
-        top: kmer::mask(k - 1) + 1,
-        shift: (2 * k - bits) as u32,
-    }
+    kmer::header_of(k, n, (2 * k - bits) as u32)
 }
 
 fn clear(starts: &mut [u32], entries: usize)

@@ -26,7 +26,9 @@ fn count_kmers(set: &[u8], starts: &[u32], head: Header, read: &[u8]) -> u64
     let k = head.k;
     let mut kmer = kmer::seq2bit(read, head);
     let mut count = set::get(set, starts, head, kmer) as u64;
+    let mut ahead = scan::first_ahead(head.n, read.len());
     for i in k..read.len() {
+        ahead = scan::read_on(set, starts, head, kmer, read, i, ahead);
         kmer = scan::add_base(kmer, read[i], head);
         count += set::get(set, starts, head, kmer) as u64;
     }

@@ -173,7 +173,8 @@ fn placing_table(page: &mut String, placings: &[Placing]) {
         let _ = writeln!(page, "| {} | {asked} | {} | {} | {} |", short(placing.keys), placing.offset, part(placing.ours), part(placing.rust));
     }
     page.push('\n');
-    let missed = |placing: &&Placing| placing.huge && [placing.ours, placing.rust].iter().any(|memory| memory.is_none_or(|(all, huge)| huge * 10 < all * 9));
+    let missed =
+        |placing: &&Placing| placing.huge && [placing.ours, placing.rust].iter().any(|memory| memory.is_none_or(|(all, huge)| huge * 10 < all * 9));
     if placings.iter().any(|placing| missed(&placing)) {
         page.push_str("**The system did not grant them for all of the memory, so the following shows less than huge pages can give.**\n\n");
     }
@@ -186,10 +187,11 @@ fn split_table(page: &mut String, splits: &[Split]) {
     let _ = writeln!(
         page,
         "## Where a call's time goes\n\nOne batch call, in ms. *Opening* is `corrector_open` alone; *starts*, the table of starts, a batch call without a line less that; both by the clock. What is left is \
-         split by where a timer finds the call, about 2,000 times a second: *lookups* in functions of the crate `set`, *the rest* elsewhere. A function that the compiler wrote into its caller counts as the \
-         caller's: the second table shows which are there.\n"
+         split by where a timer finds the call, about 2,000 times a second: *lookups* in functions of the crates `set` and `keys`, *the rest* elsewhere. A function that the compiler wrote into its caller counts as the \
+         caller's: the second table shows which are there. So reading ahead, which waits for the set's lines before lookups need them, counts as `correct::correct`.\n"
     );
-    let _ = writeln!(page, "| keys | k | method | errors | reads | call | opening | starts | lookups | the rest | M lookups | ns a lookup | samples |");
+    let _ =
+        writeln!(page, "| keys | k | method | errors | reads | call | opening | starts | lookups | the rest | M lookups | ns a lookup | samples |");
     let _ = writeln!(page, "|--:|--:|---|--:|--:|--:|--:|--:|--:|--:|--:|--:|--:|");
     for split in splits {
         let milliseconds = |seconds: f64| format!("{:.1}", seconds * 1e3);

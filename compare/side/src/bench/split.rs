@@ -11,7 +11,7 @@ const ROUNDS: usize = 5;
 /// Seconds of calls that the timer looks into.
 const LOOKED_INTO: f64 = 1.5;
 /// Lookups are always more of the time than this: if their functions are not, the compiler has written them into their callers.
-const LEAST_ASKING: f64 = 0.25;
+const LEAST_ASKING: f64 = 0.05;
 /// Outside the program: what the compiler takes from C, as clearing and copying.
 const ELSEWHERE: &str = "C's library";
 
@@ -50,7 +50,7 @@ fn prepares(name: &str) -> bool {
 }
 
 fn asks(name: &str) -> bool {
-    name.starts_with("set::") && !prepares(name)
+    (name.starts_with("set::") || name.starts_with("keys::")) && !prepares(name)
 }
 
 pub fn split(library: &dyn Library, world: &World, method: Method, errors: usize) -> Split {

@@ -183,9 +183,7 @@ pub fn sampled(run: impl FnOnce()) -> Option<Vec<usize>> {
     let handler = take as extern "C" fn(c_int, *mut c_void, *mut c_void) as usize;
     let action = Action { handler, mask: [0; 16], flags: SA_SIGINFO | SA_RESTART, restorer: 0 };
     // SAFETY: the action and the timers are live; the handler only stores to atomics.
-    let set = |microseconds: i64| unsafe {
-        setitimer(ITIMER_REAL, &Timer { interval: [0, microseconds], value: [0, microseconds] }, null_mut())
-    };
+    let set = |microseconds: i64| unsafe { setitimer(ITIMER_REAL, &Timer { interval: [0, microseconds], value: [0, microseconds] }, null_mut()) };
     if unsafe { sigaction(SIGALRM, &action, null_mut()) } != 0 || set(MICROSECONDS) != 0 {
         return None;
     }

@@ -4,7 +4,7 @@ use side::bench::measure::{cell, gap, loops, opening, placing, Cell};
 use side::bench::page::{Peak, Results};
 use side::bench::split::{split, Split};
 use side::bench::system::{count_running_time, on_huge_pages, Allocator};
-use side::bench::{chart, memory, page};
+use side::bench::{chart, make, memory, page};
 use side::cases::batch_of;
 use side::library::{library, Library};
 use side::referee::correctors::{Method, METHODS};
@@ -16,7 +16,7 @@ use std::process::ExitCode;
 static ALLOCATOR: Allocator = Allocator;
 
 const USAGE: &str =
-    "compare/bench [--quick] [--stand-in] [--out FOLDER] [--keys N] [--k K] [--method NAME] [--errors N] [--huge] [--split] [--running-time]; each of --keys to --errors as often as you like";
+    "compare/bench [--make] [--quick] [--stand-in] [--out FOLDER] [--keys N] [--k K] [--method NAME] [--errors N] [--huge] [--split] [--running-time]; each of --keys to --errors as often as you like";
 const KEYS: [usize; 4] = [1_000, 100_000, 4_000_000, 16_000_000];
 /// How many of these --quick takes.
 const QUICK: usize = 2;
@@ -55,6 +55,7 @@ struct Options {
     errors: Vec<usize>,
     huge: bool,
     split: bool,
+    make: bool,
     folder: Option<String>,
 }
 
@@ -103,6 +104,7 @@ fn options(arguments: &[String]) -> Result<Options, String> {
             "--errors" => options.errors.push(number(value()?)?),
             "--huge" => options.huge = true,
             "--split" => options.split = true,
+            "--make" => options.make = true,
             "--running-time" => count_running_time(),
             "--out" => options.folder = Some(value()?.clone()),
             // Chosen when this was built.
@@ -120,13 +122,18 @@ fn method(name: &str) -> Result<Method, String> {
 
 fn bench(arguments: &[String]) -> Result<(), String> {
     let options = options(arguments)?;
+    if options.make {
+        make::measure_all(library());
+        return Ok(());
+    }
     let results = measure_all(&options);
     let Some(folder) = &options.folder else { return Ok(()) };
     let (chart, folder) = ("benchmark.svg", Path::new(folder));
     let write = |file: &str, text: String| std::fs::write(folder.join(file), text).map_err(|error| format!("{file}: {error}"));
     let k = if options.k.contains(&ONE_K) { ONE_K } else { options.k[0] };
     write(chart, chart::draw(&results.cells, k, &options.keys, &options.errors))?;
-    write("BENCHMARK.md", page::write(&results, chart))?;
+    let made = make::section(&make::measure_all(library()));
+    write("BENCHMARK.md", page::write(&results, chart) + &made)?;
     println!("{}", folder.join("BENCHMARK.md").display());
     Ok(())
 }

@@ -3,6 +3,7 @@ use side::cases::{run, units, Kind, Unit};
 use side::check::{Buffers, Site, Tally};
 use side::library::{library, Library};
 use side::list;
+use side::make::{self, Made};
 use side::referee::calls::Job;
 use side::samples;
 use side::shrink::{check, Failure};
@@ -115,8 +116,10 @@ fn compare(options: &Options, library: &dyn Library) -> bool {
             }
         }
     });
+    let asked = options.only.as_ref().is_none_or(|only| only.eq_ignore_ascii_case("make"));
+    let made = if asked { make::run(library, options.seed, options.rounds) } else { Made::default() };
     let _ = std::panic::take_hook();
-    report(options, library, found.into_inner().expect("no thread panics"), begun.elapsed())
+    report(options, library, found.into_inner().expect("no thread panics"), made, begun.elapsed())
 }
 
 /// Takes units until none is left.
@@ -150,14 +153,16 @@ fn work(options: &Options, library: &dyn Library, units: &[Unit], next: &AtomicU
 }
 
 /// What was seen, the smallest disagreement, and the last line.
-fn report(options: &Options, library: &dyn Library, found: Found, took: Duration) -> bool {
+fn report(options: &Options, library: &dyn Library, found: Found, made: Made, took: Duration) -> bool {
     let tally = &found.tally;
     println!("{:.0} s on {} threads", took.as_secs_f64(), options.threads);
     tally.print();
+    made.print();
     if let Some((kind, number, failure)) = found.failure {
         println!("smallest disagreement found (seed {}, {kind:?} {number}):", options.seed);
         failure.shrink(library).print();
     }
-    println!("{} passed, {} failed", tally.passes + tally.refusals.iter().sum::<u64>(), found.failed);
-    found.failed == 0
+    let failed = found.failed + made.failed;
+    println!("{} passed, {failed} failed", tally.passes + tally.refusals.iter().sum::<u64>() + made.agreed);
+    failed == 0
 }

@@ -1,5 +1,5 @@
 //! Damaged sets and inputs that are refused.
-use super::{batch_of, job, reads};
+use super::{any_entries, batch_of, job, reads};
 use crate::referee::calls::{Call, Job};
 use crate::referee::correctors::METHODS;
 use crate::rng::Rng;
@@ -84,6 +84,36 @@ pub fn every_bit(rng: &mut Rng, k: u8, visit: &mut dyn FnMut(Vec<u8>)) {
     }
 }
 
+/// Bytes that name no method.
+const UNKNOWN: [u8; 5] = [0, 5, 6, 10, 255];
+
+/// Jobs at their limits: no, 8 and 9 entries, and 9 without the last byte. For each place of 8 entries: the last one there and without its
+/// second byte; with confirm 0 there; and with an unknown method anywhere besides.
+pub fn jobs(rng: &mut Rng, visit: &mut dyn FnMut(&[u8])) {
+    visit(&[]);
+    let nine = any_entries(rng, 9, 6);
+    visit(&nine);
+    visit(&nine[..17]);
+    let eight = &nine[..16];
+    visit(eight);
+    for place in 0..8 {
+        visit(&eight[..2 * place + 1]);
+        let mut zero = eight.to_vec();
+        zero[2 * place + 1] = 0;
+        visit(&zero);
+        zero[2 * rng.below(8)] = *rng.pick(&UNKNOWN);
+        visit(&zero);
+    }
+}
+
+/// Entries of which one has a byte in its first or second place.
+fn entries_with(rng: &mut Rng, half: usize, byte: u8) -> Vec<u8> {
+    let count = rng.within(1, 9);
+    let mut entries = any_entries(rng, count, 5);
+    entries[2 * rng.below(count) + half] = byte;
+    entries
+}
+
 /// A call with one or two faults of refusals 1 to 6, or at those limits; `long` allows inputs of a million bytes.
 pub fn input(rng: &mut Rng, genome: &[u8], long: bool, visit: &mut dyn FnMut(&Job)) {
     let call = *rng.pick(&[Call::Read, Call::Batch]);
@@ -92,22 +122,25 @@ pub fn input(rng: &mut Rng, genome: &[u8], long: bool, visit: &mut dyn FnMut(&Jo
         Call::Read => read,
         Call::Batch => batch_of([&read]),
     };
-    let mut job = job(call, rng.within(1, 5) as u8, &[rng.pick(&METHODS).byte()], &input);
+    let mut job = job(call, &[rng.pick(&METHODS).byte(), rng.within(1, 5) as u8], &input);
     for _ in 0..rng.within(1, 2) {
-        match rng.below(if long { 10 } else { 8 }) {
-            0 => job.methods = (0..rng.within(7, 10)).map(|_| rng.pick(&METHODS).byte()).collect(),
-            1 => {
-                job.methods = (0..rng.within(1, 9)).map(|_| rng.pick(&METHODS).byte()).collect();
-                let place = rng.below(job.methods.len());
-                job.methods[place] = *rng.pick(&[0, 5, 6, 10, 255]);
+        match rng.below(if long { 11 } else { 9 }) {
+            0 => {
+                let count = rng.within(7, 10);
+                job.entries = any_entries(rng, count, 5);
             }
-            2 => job.confirm = 0,
-            3 => job.work = (2 * job.output.max(job.input.len()) + 1).saturating_sub(rng.below(4)),
-            4 => (job.output, job.work) = (rng.below(8), rng.below(4 * input.len() + 8)),
-            5 => job.input = (0..rng.within(1022, 1026)).map(|_| 10).collect(),
-            6 => drop(job.input.pop()),
-            7 => job.input.clear(),
-            8 => {
+            1 => {
+                let unknown = *rng.pick(&UNKNOWN);
+                job.entries = entries_with(rng, 0, unknown);
+            }
+            2 => job.entries = entries_with(rng, 1, 0),
+            3 => drop(job.entries.pop()),
+            4 => job.work = (2 * job.output.max(job.input.len()) + 1).saturating_sub(rng.below(4)),
+            5 => (job.output, job.work) = (rng.below(8), rng.below(4 * input.len() + 8)),
+            6 => job.input = (0..rng.within(1022, 1026)).map(|_| 10).collect(),
+            7 => drop(job.input.pop()),
+            8 => job.input.clear(),
+            9 => {
                 job.input = vec![*rng.pick(b"ACGT\n"); rng.within(1_048_575, 1_048_578)];
                 (job.output, job.work) = (1_048_576, 2_097_152);
             }

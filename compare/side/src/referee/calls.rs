@@ -1,10 +1,10 @@
-//! "Job", "Report" and the refusals: the single-read and the batch call.
+//! "Job" as document 02 has it, "Report" and the refusals: the single-read and the batch call.
 use super::correctors::Method;
 use super::driver::{pass, Pass};
 use super::set::{Refusal, Set};
 
 const MOST_INPUT: usize = 1_048_576;
-const MOST_METHODS: usize = 8;
+const MOST_ENTRIES: usize = 8;
 const MOST_OUTPUT: usize = 1_048_576;
 const MOST_WORK: usize = 2_097_152;
 const MOST_LINES: usize = 1_024;
@@ -19,11 +19,18 @@ pub enum Call {
 #[derive(Clone, Debug)]
 pub struct Job {
     pub call: Call,
-    pub confirm: u8,
-    pub methods: Vec<u8>,
+    /// The bytes of a job file: pairs, method first.
+    pub entries: Vec<u8>,
     pub input: Vec<u8>,
     pub output: usize,
     pub work: usize,
+}
+
+/// An entry of a job: a method byte and its own confirm.
+#[derive(Clone, Copy, Debug, PartialEq, Eq)]
+pub struct Entry {
+    pub method: u8,
+    pub confirm: u8,
 }
 
 #[derive(Clone, Copy, Debug, PartialEq, Eq)]
@@ -38,7 +45,7 @@ pub struct Report {
 
 pub type Answer = Result<Report, Refusal>;
 
-/// What a call answers and writes, and the passes that it made: for each read one for each method.
+/// What a call answers and writes, and the passes that it made: for each read one for each entry.
 pub struct Outcome {
     pub answer: Answer,
     pub bytes: Vec<u8>,
@@ -59,6 +66,11 @@ pub fn reads(job: &Job) -> Vec<&[u8]> {
     }
 }
 
+/// The entries of a job. One without its second byte has confirm 0.
+pub fn entries(job: &Job) -> Vec<Entry> {
+    job.entries.chunks(2).map(|pair| Entry { method: pair[0], confirm: pair.get(1).copied().unwrap_or(0) }).collect()
+}
+
 pub fn call(opened: &Result<Set, Refusal>, job: &Job) -> Outcome {
     if let Some(refusal) = input_refusal(job) {
         return Outcome::refused(refusal);
@@ -75,14 +87,15 @@ fn input_refusal(job: &Job) -> Option<Refusal> {
     if job.input.len() > MOST_INPUT {
         return refuse(1, 0);
     }
-    if job.methods.len() > MOST_METHODS {
+    let entries = entries(job);
+    if entries.len() > MOST_ENTRIES {
         return refuse(2, 0);
     }
-    if let Some(place) = job.methods.iter().position(|byte| Method::of(*byte).is_none()) {
+    if let Some(place) = entries.iter().position(|entry| Method::of(entry.method).is_none()) {
         return refuse(3, place);
     }
-    if job.confirm == 0 {
-        return refuse(4, 0);
+    if let Some(place) = entries.iter().position(|entry| entry.confirm == 0) {
+        return refuse(4, place);
     }
     if job.output > MOST_OUTPUT || job.work > MOST_WORK || job.work < 2 * job.output.max(job.input.len()) {
         return refuse(5, 0);
@@ -95,16 +108,16 @@ fn input_refusal(job: &Job) -> Option<Refusal> {
     None
 }
 
-/// The reads in turn, each through all methods; 11 at the first of which a pass result has no room.
+/// The reads in turn, each through all entries; 11 at the first of which a pass result has no room.
 fn correct(set: &Set, job: &Job) -> Outcome {
     let ending: &[u8] = match job.call {
         Call::Read => &[],
         Call::Batch => &[10],
     };
-    let methods: Vec<Method> = job.methods.iter().filter_map(|byte| Method::of(*byte)).collect();
+    let entries = entries(job);
     let (mut bytes, mut passes) = (Vec::new(), Vec::new());
     for (line, read) in reads(job).into_iter().enumerate() {
-        let made = passes_of(set, &methods, job.confirm, read);
+        let made = passes_of(set, &entries, read);
         let longest = made.iter().map(|pass| pass.bytes.len()).max().unwrap_or(read.len());
         if longest + ending.len() > job.output - bytes.len() {
             return Outcome::refused(Refusal::new(11, line));
@@ -116,12 +129,13 @@ fn correct(set: &Set, job: &Job) -> Outcome {
     Outcome { answer: Ok(report(bytes.len(), &passes)), bytes, passes }
 }
 
-/// A read's first pass is fed the read, each later one the bytes of the pass before.
-fn passes_of(set: &Set, methods: &[Method], confirm: u8, read: &[u8]) -> Vec<Pass> {
-    let mut made: Vec<Pass> = Vec::with_capacity(methods.len());
-    for method in methods {
+/// A read's first pass is fed the read, each later one the bytes of the pass before; each has its own entry's confirm.
+fn passes_of(set: &Set, entries: &[Entry], read: &[u8]) -> Vec<Pass> {
+    let mut made: Vec<Pass> = Vec::with_capacity(entries.len());
+    for entry in entries {
         let fed = made.last().map_or(read, |pass| &pass.bytes);
-        made.push(pass(set, *method, confirm, fed));
+        let method = Method::of(entry.method).expect("refused otherwise");
+        made.push(pass(set, method, entry.confirm, fed));
     }
     made
 }

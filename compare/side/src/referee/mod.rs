@@ -1,11 +1,12 @@
-//! Document 01 in plain Rust, written from the document alone: what a call answers, every byte, every count.
-//! It is written to be read beside the document, in its order and its words, and not to be fast.
+//! Document 01 in plain Rust, with document 02's entries for its methods, written from the documents alone: what a call answers, every
+//! byte, every count. It is written to be read beside document 01, in its order and its words, and not to be fast.
 //!
-//! One thing stands here that is not in the document: `Pass::again`, the lookups that natir/br makes beyond the document's, so that its
-//! own count can be held against this one. The places where it asks again carry a comment that begins "The Rust".
+//! One thing stands here that is in neither: `Pass::again`, the lookups that natir/br makes beyond the documents', so that its own count
+//! can be held against this one. The places where it asks again carry a comment that begins "The Rust".
 
 pub mod calls;
 pub mod correctors;
 pub mod driver;
 pub mod letters;
+pub mod make;
 pub mod set;

@@ -3,7 +3,7 @@ use super::letters::{canonical, mask};
 
 const BLOCK_BYTES: usize = 512;
 const BLOCK_WORDS: usize = 63;
-const MOST_KEYS: u64 = 16_777_216;
+pub const MOST_KEYS: u64 = 16_777_216;
 
 /// A refusal's number and place.
 #[derive(Clone, Copy, Debug, PartialEq, Eq)]

@@ -6,7 +6,8 @@ use lib.Dec.{eqb, leb}
 use lib.ListN.{length}
 use borrow.Author.Needs.{needs}
 use borrow.Author.Tests.{leb-true, eq-eqb, ne-eqb}
-use Rattle.blocks.proofs.Tests.{joined, both}
+use Rattle.rules.proofs.Opened.{both}
+use Rattle.blocks.proofs.Tests.{joined}
 use Rattle.blocks.proofs.Header.{sizes, counted, restZero, header-test}
 use Rattle.blocks.proofs.header_right.Statement.{statement}
 use Rattle.blocks.proofs.header_right.Tie as tie

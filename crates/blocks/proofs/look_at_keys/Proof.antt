@@ -14,7 +14,7 @@ use Rattle.blocks.specs.Opened.{wrongKey}
 use Rattle.blocks.proofs.First.{passed, failed}
 use Rattle.blocks.proofs.Header.{Sized, sized}
 use Rattle.blocks.proofs.Keys.{key-test, least-next}
-use Rattle.blocks.proofs.Tests.{both}
+use Rattle.rules.proofs.Opened.{both}
 use Rattle.blocks.proofs.Words.{key-in-block}
 use Rattle.blocks.proofs.look_at_keys.Statement.{statement}
 use Rattle.blocks.proofs.look_at_keys.Tie as tie

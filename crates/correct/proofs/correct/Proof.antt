@@ -5,13 +5,19 @@ use lib.Seq.{length-take-le}
 use borrow.Author.Needs.{needs}
 use Rattle.rules.specs.Set.{setOf}
 use Rattle.rules.specs.Driver as Rules
-use Rattle.rules.specs.Job.{methodOf, pass}
-use Rattle.correct.specs.Pass.{PassIs}
+use Rattle.rules.specs.Job.{entry, pass}
+use Rattle.correct.specs.Pass.{PassIs, Small}
 use Rattle.turn.specs.Turn.{stateOf, Countable, endOf}
-use Rattle.correct.proofs.Limits.{pass-limited}
+use Rattle.correct.proofs.Limits.{pass-limited, one-small}
 use Rattle.correct.proofs.Passes.{countable, firstPlace, pass-short, pass-long, pass-begun}
 use Rattle.correct.proofs.correct.Statement.{statement}
 use Rattle.correct.proofs.correct.Tie as tie
+
+-- Its counts are those of one pass.
+few : (s : tie.Start) → Small 1 (pass (setOf (s .args .set .now)) (entry (s .args .method) (s .args .c)) (s .args .read .now))
+few s =
+    let a = s .args in
+    one-small _ _ (s .pre .2) (pass-limited _ (s .pre .0 .opens) (a .c) (s .pre .1) (s .fits .c .fits) (a .method) (a .read .now))
 
 copied-requires : tie.Need-copied-requires
 copied-requires c κs = search needs
@@ -27,6 +33,7 @@ returns c =
     record {
       is = rw (pass-short _ _ (a .head) (s .pre .0) (a .method) (a .c) (a .read .now) (q .before .before .if1 .taken)) (q .copied .ensures);
       room = q .copied .kept .1 .0;
+      small = few s;
     }
 
 returns-2 : tie.Need-returns-2
@@ -36,6 +43,7 @@ returns-2 c =
     record {
       is = omega (arith, pass-long _ _ (a .head) (s .pre .0) (a .method) (a .c) (a .read .now) (c .before .if1 .left), c .if2 .taken);
       room = refl;
+      small = few s;
     }
 
 slice-aggregate-copy : tie.Need-slice-aggregate-copy
@@ -62,7 +70,7 @@ begun : (c : tie.After-get)
     let a = p .before .before .before .before .before .before .before .before .before .args in
     endOf (a .set .now) (a .head) (a .method) (a .c)
     (stateOf (firstPlace (a .head .k) (c .before .seq2bit .result) (c .get .result)) (a .read .now) (p .copy .last .1 .0))
-    ≡ pass (setOf (a .set .now)) (a .c) (methodOf (a .method)) (a .read .now)
+    ≡ pass (setOf (a .set .now)) (entry (a .method) (a .c)) (a .read .now)
 begun c =
     let p = c .before .before .before .before in
     let e = p .before .before .before .before in
@@ -83,7 +91,7 @@ turns-of-requires c κs =
       s .pre .1,
       record { kmer = g .before .seq2bit .ensures .kmer; at = e .if1 .left; written = omega (arith, p .copy .kept .1 .0, p .before .before .before .if2 .left) },
       subst Countable (sym (begun g))
-          (countable _ _ (s .pre .2) (pass-limited _ (s .pre .0 .opens) (a .c) (s .pre .1) (s .fits .c .fits) (methodOf (a .method)) (a .read .now))),
+          (countable _ _ (s .pre .2) (pass-limited _ (s .pre .0 .opens) (a .c) (s .pre .1) (s .fits .c .fits) (a .method) (a .read .now))),
     )
 
 same-length-2 : tie.Need-same-length-2
@@ -93,10 +101,12 @@ returns-3 : tie.Need-returns-3
 returns-3 c =
     let t = c .before .before in
     let g = t .before .before in
-    let copied = g .before .before .before .before .copy .kept .1 .0 in
+    let p = g .before .before .before .before in
+    let copied = p .copy .kept .1 .0 in
     record {
       is = subst₂ (λ (room : ℕ) (n : Rules.Pass). PassIs room (t .turns-of .last .1 .1 .1 .1 .1 .1 .1 .0) n (t .turns-of .result)) copied (begun g) (t .turns-of .ensures);
       room = t .turns-of .kept .1 .1 .1 .1 .1 .1 .1 .0 ∙ copied;
+      small = few (p .before .before .before .before .before .before .before .before .before);
     }
 
 pub correct-spec : {M : Type 1} → statement M

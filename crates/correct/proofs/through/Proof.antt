@@ -1,25 +1,37 @@
 -- The invariant: where the read stands after i passes. The measure: the passes that are left.
-use Prim.Native.Nat.{ℕ, _+_, _-_, _≤_}
+use Prim.Native.Nat.{ℕ, _+_, _-_, _≤_, _<_}
 use native.Mathlib.Omega.{arith}
 use mathlib.Core.Path.{_≡_, refl, sym, _∙_, subst, subst₂}
-use lib.ListN.{length, getD, take}
+use lib.ListN.{length, take}
 use borrow.Author.Needs.{needs}
 use Rattle.rules.specs.Set.{setOf}
-use Rattle.rules.specs.Job.{methodOf, pass}
+use Rattle.rules.specs.Job.{entryAt, entryCount, pass}
 use Rattle.correct.specs.declared.Pass.{Pass}
 use Rattle.correct.specs.Pass.{PassIs}
 use Rattle.correct.specs.Through.{joined, held}
-use Rattle.correct.proofs.Limits.{pass-limited}
 use Rattle.correct.proofs.Underway.{Underway, none-done, first-full, first-done, next-done, next-full, all-done}
 use Rattle.correct.proofs.through.Statement.{statement}
 use Rattle.correct.proofs.through.Tie as tie
 
 abbrev Inv-loop : tie.InvT-loop
-Inv-loop set starts head c methods read output₀ work₀ n counts₀ i₀ output work counts i =
-    (length output ≡ length output₀) × (length work ≡ length work₀) × Underway (setOf set) c methods read output work counts i
+Inv-loop set starts head job read output₀ work₀ n counts₀ i₀ output work counts i =
+    (length output ≡ length output₀) × (length work ≡ length work₀) × Underway (setOf set) job read output work counts i
 
 abbrev μ-loop : tie.MeasureT-loop
-μ-loop set starts head c methods read output₀ work₀ n counts₀ i₀ output work counts i = n - i
+μ-loop set starts head job read output₀ work₀ n counts₀ i₀ output work counts i = n - i
+
+abbrev start : tie.After-count Inv-loop μ-loop → tie.Start Inv-loop μ-loop
+start n = n .before .before .before .before .before .before .before
+
+-- The first pass, and the count of the entries before it.
+abbrev first-at : tie.At-loop Inv-loop μ-loop → tie.After-first-pass Inv-loop μ-loop
+first-at l = l .before .before .before .before .before .before .before .before
+
+abbrev count-at : tie.After-first-pass Inv-loop μ-loop → tie.After-count Inv-loop μ-loop
+count-at q = q .before .before .before .before
+
+count-requires : tie.Need-count-requires Inv-loop μ-loop
+count-requires c κs = search needs
 
 copied-requires : tie.Need-copied-requires Inv-loop μ-loop
 copied-requires c κs = search needs
@@ -31,22 +43,24 @@ returns : tie.Need-returns Inv-loop μ-loop
 returns c =
     let q = c .before .before in
     let t = q .before .before in
-    let s = t .before .before .before .before .before .before .before in
-    let a = s .args in
+    let n = t .before in
+    let a = start n .args in
     record {
-      is = none-done _ (a .c) (a .methods .now) (a .read .now) (a .output .now) (q .copied .last .1 .0) (q .copied .result) (t .if1 .taken) (q .copied .kept .1 .0) (q .copied .ensures);
+      is = none-done _ (a .job .now) (a .read .now) (a .output .now) (q .copied .last .1 .0) (q .copied .result) (sym (n .count .ensures) ∙ t .if1 .taken)
+          (q .copied .kept .1 .0) (q .copied .ensures);
       output-room = q .copied .kept .1 .0;
       work-room = refl;
     }
 
-shared-slice-read-first-pass : tie.Need-shared-slice-read-first-pass Inv-loop μ-loop
-shared-slice-read-first-pass c = search needs
+-- There is an entry.
+some : (c : tie.Else1 Inv-loop μ-loop) → 0 < entryCount (start (c .before) .args .job .now)
+some c = omega (arith, c .if1 .left, c .before .count .ensures)
 
 first-pass-requires : tie.Need-first-pass-requires Inv-loop μ-loop
 first-pass-requires c κs =
-    let e = c .before .before .before in
-    let s = e .before .before .before .before .before .before .before in
-    (s .pre .0 .0, s .pre .0 .1, omega (arith, e .if1 .left), s .pre .0 .3, s .pre .1 .1)
+    let e = c .before .before in
+    let s = start (e .before) in
+    (s .pre .0 .0, some e, s .pre .0 .2, s .pre .0 .3, s .pre .1 .1)
 
 enum-known-first : tie.Need-enum-known-first Inv-loop μ-loop
 enum-known-first c = search needs
@@ -63,55 +77,56 @@ same-length-3 c = search needs
 returns-2 : tie.Need-returns-2 Inv-loop μ-loop
 returns-2 c =
     let q = c .before .before .before .before .before .before in
-    let e = q .before .before .before .before in
-    let a = e .before .before .before .before .before .before .before .args in
+    let e = q .before .before .before in
+    let a = start (e .before) .args in
+    let output = q .first-pass .last .1 .1 .1 .1 .1 .0 in
+    let work = q .first-pass .last .1 .1 .1 .1 .1 .1 .0 in
     let full =
-    subst (PassIs (length (a .output .now)) (held (length (a .methods .now) - 1) (q .first-pass .last .1 .1 .1 .1 .1 .1 .1 .0) (q .first-pass .last .1 .1 .1 .1 .1 .1 .1 .1 .0))
-    (pass (setOf (a .set .now)) (a .c) (methodOf (getD (a .methods .now) 0 0)) (a .read .now))) (c .enum-told .given .1) (q .first-pass .ensures) in
+    subst (PassIs (length (a .output .now)) (held (entryCount (a .job .now) - 1) output work) (pass (setOf (a .set .now)) (entryAt (a .job .now) 0) (a .read .now)))
+    (c .enum-told .given .1) (q .first-pass .ensures .is) in
     record {
-      is = first-full _ _ (a .methods .now) _ (length (a .output .now)) (omega (arith, e .if1 .left)) full;
-      output-room = q .first-pass .kept .1 .1 .1 .1 .1 .1 .1 .0;
-      work-room = q .first-pass .kept .1 .1 .1 .1 .1 .1 .1 .1 .0;
+      is = first-full _ (a .job .now) _ (length (a .output .now)) (some e) full;
+      output-room = q .first-pass .kept .1 .1 .1 .1 .1 .0;
+      work-room = q .first-pass .kept .1 .1 .1 .1 .1 .1 .0;
     }
 
 -- After the first pass.
 begun : (c : tie.After-first Inv-loop μ-loop)
     → let q = c .before .before .before .before .before .before in
-    let a = q .before .before .before .before .before .before .before .before .before .before .before .args in
-    Underway (setOf (a .set .now)) (a .c) (a .methods .now) (a .read .now) (q .first-pass .last .1 .1 .1 .1 .1 .1 .1 .0)
-    (q .first-pass .last .1 .1 .1 .1 .1 .1 .1 .1 .0) (c .first .given .0 .0) 1
+    let a = start (count-at q) .args in
+    Underway (setOf (a .set .now)) (a .job .now) (a .read .now) (q .first-pass .last .1 .1 .1 .1 .1 .0) (q .first-pass .last .1 .1 .1 .1 .1 .1 .0)
+    (c .first .given .0 .0) 1
 begun c =
     let q = c .before .before .before .before .before .before in
-    let e = q .before .before .before .before in
-    let s = e .before .before .before .before .before .before .before in
+    let e = q .before .before .before in
+    let s = start (e .before) in
     let a = s .args in
-    let output = q .first-pass .last .1 .1 .1 .1 .1 .1 .1 .0 in
-    let work = q .first-pass .last .1 .1 .1 .1 .1 .1 .1 .1 .0 in
-    let kept = q .first-pass .kept .1 .1 .1 .1 .1 .1 .1 .0 in
-    let p = pass (setOf (a .set .now)) (a .c) (methodOf (getD (a .methods .now) 0 0)) (a .read .now) in
+    let output = q .first-pass .last .1 .1 .1 .1 .1 .0 in
+    let work = q .first-pass .last .1 .1 .1 .1 .1 .1 .0 in
+    let kept = q .first-pass .kept .1 .1 .1 .1 .1 .0 in
+    let p = pass (setOf (a .set .now)) (entryAt (a .job .now) 0) (a .read .now) in
     let done =
-    subst₂ (λ (room : ℕ) (r : Pass). PassIs room (held (length (a .methods .now) - 1) output work) p r) (sym kept) (c .first .given .1) (q .first-pass .ensures) in
-    first-done _ _ (a .methods .now) (a .read .now) (pass-limited _ (s .pre .0 .0 .opens) (a .c) (s .pre .0 .1) (s .fits .c .fits)) output work (c .first .given .0 .0)
-    (omega (arith, e .if1 .left)) (q .first-pass .kept .1 .1 .1 .1 .1 .1 .1 .1 .0 ∙ s .pre .1 .1 ∙ sym kept) (omega (arith, s .pre .1 .0)) (s .pre .0 .3) done
+    subst₂ (λ (room : ℕ) (r : Pass). PassIs room (held (entryCount (a .job .now) - 1) output work) p r) (sym kept) (c .first .given .1) (q .first-pass .ensures .is) in
+    first-done _ (a .job .now) (a .read .now) output work (c .first .given .0 .0) (some e)
+    (q .first-pass .kept .1 .1 .1 .1 .1 .1 .0 ∙ s .pre .1 .1 ∙ sym kept) (omega (arith, s .pre .1 .0)) (q .first-pass .ensures .small) done
 
 loop-holds : tie.Need-loop-holds Inv-loop μ-loop
 loop-holds c = (refl, refl, begun (c .before))
 
-shared-slice-read-next-pass : tie.Need-shared-slice-read-next-pass Inv-loop μ-loop
-shared-slice-read-next-pass c = search needs
-
-sub-next-pass : tie.Need-sub-next-pass Inv-loop μ-loop
-sub-next-pass c = search needs
+-- There is another entry.
+more : (c : tie.In-loop Inv-loop μ-loop) → c .before .loop .i < entryCount (start (count-at (first-at (c .before))) .args .job .now)
+more c = omega (arith, c .loop-test .taken, count-at (first-at (c .before)) .count .ensures)
 
 next-pass-requires : tie.Need-next-pass-requires Inv-loop μ-loop
 next-pass-requires c κs =
-    let l = c .before .before .before .before in
+    let t = c .before .before in
+    let l = t .before in
     let u = l .loop .inv .2 in
-    let s = l .before .before .before .before .before .before .before .before .before .before .before .before .before .before .before .before .before .before .before in
-    (s .pre .0 .0, s .pre .0 .1, omega (arith, c .before .before .before .loop-test .taken), u .written, u .small, u .rooms)
+    let s = start (count-at (first-at l)) in
+    (s .pre .0 .0, more t, s .pre .0 .2, u .written, u .short, u .rooms)
 
-enum-known-next : tie.Need-enum-known-next Inv-loop μ-loop
-enum-known-next c = search needs
+enum-known-passed : tie.Need-enum-known-passed Inv-loop μ-loop
+enum-known-passed c = search needs
 
 enum-told-2 : tie.Need-enum-told-2 Inv-loop μ-loop
 enum-told-2 c = search needs
@@ -122,70 +137,66 @@ same-length-4 c = search needs
 same-length-5 : tie.Need-same-length-5 Inv-loop μ-loop
 same-length-5 c = search needs
 
+-- What the pass of entry i answers.
+abbrev Answered : tie.After-next-pass Inv-loop μ-loop → Pass → Type 0
+Answered q =
+    let l = q .before .before .before .before in
+    let a = start (count-at (first-at l)) .args in
+    let left = entryCount (a .job .now) - l .loop .i in
+    PassIs (length (l .loop .output)) (held (left - 1) (q .next-pass .last .1 .1 .1 .1 .1 .1 .0) (q .next-pass .last .1 .1 .1 .1 .1 .1 .1 .0))
+    (pass (setOf (a .set .now)) (entryAt (a .job .now) (l .loop .i)) (take (l .loop .counts .written) (held left (l .loop .output) (l .loop .work))))
+
 returns-3 : tie.Need-returns-3 Inv-loop μ-loop
 returns-3 c =
     let q = c .before .before .before .before .before .before in
-    let t = q .before .before .before .before in
+    let t = q .before .before .before in
     let l = t .before in
-    let f = l .before .before in
-    let g = f .before .before .before .before .before .before in
-    let a = g .before .before .before .before .before .before .before .before .before .before .before .args in
-    let first = g .first-pass .kept .1 .1 .1 .1 .1 .1 .1 in
-    let full =
-    subst (PassIs (length (l .loop .output)) (held (length (a .methods .now) - l .loop .i - 1) (q .next-pass .last .1 .1 .1 .1 .1 .1 .1 .0) (q .next-pass .last .1 .1 .1 .1 .1 .1 .1 .1 .0))
-    (pass (setOf (a .set .now)) (a .c) (methodOf (getD (a .methods .now) (l .loop .i) 0)) (take (l .loop .counts .written) (held (length (a .methods .now) - l .loop .i) (l .loop .output) (l .loop .work)))))
-    (c .enum-told2 .given .1) (q .next-pass .ensures) in
-    let long = next-full _ _ (a .methods .now) _ (l .loop .output) (l .loop .work) (l .loop .counts) (l .loop .i) (l .loop .inv .2) (t .loop-test .taken) full in
+    let g = first-at l in
+    let first = g .first-pass .kept .1 .1 .1 .1 .1 in
+    let kept = q .next-pass .kept .1 .1 .1 .1 .1 .1 in
+    let full = subst (Answered q) (c .enum-told2 .given .1) (q .next-pass .ensures .is) in
+    let long = next-full _ (start (count-at g) .args .job .now) _ _ _ (l .loop .counts) (l .loop .i) (l .loop .inv .2) (more t) full in
     record {
       is = omega (arith, long, l .loop .inv .0, first .0);
-      output-room = q .next-pass .kept .1 .1 .1 .1 .1 .1 .1 .0 ∙ l .loop .inv .0 ∙ first .0;
-      work-room = q .next-pass .kept .1 .1 .1 .1 .1 .1 .1 .1 .0 ∙ l .loop .inv .1 ∙ first .1 .0;
+      output-room = kept .0 ∙ l .loop .inv .0 ∙ first .0;
+      work-room = kept .1 .0 ∙ l .loop .inv .1 ∙ first .1 .0;
     }
 
 -- After one pass more.
-moved : (c : tie.After-next Inv-loop μ-loop)
+moved : (c : tie.After-passed Inv-loop μ-loop)
     → let q = c .before .before .before .before .before .before in
-    let l = q .before .before .before .before .before in
-    let a = l .before .before .before .before .before .before .before .before .before .before .before .before .before .before .before .before .before .before .before .args in
-    Underway (setOf (a .set .now)) (a .c) (a .methods .now) (a .read .now) (q .next-pass .last .1 .1 .1 .1 .1 .1 .1 .0)
-    (q .next-pass .last .1 .1 .1 .1 .1 .1 .1 .1 .0) (joined (l .loop .counts) (c .next .given .0 .0)) (l .loop .i + 1)
+    let l = q .before .before .before .before in
+    let a = start (count-at (first-at l)) .args in
+    Underway (setOf (a .set .now)) (a .job .now) (a .read .now) (q .next-pass .last .1 .1 .1 .1 .1 .1 .0)
+    (q .next-pass .last .1 .1 .1 .1 .1 .1 .1 .0) (joined (l .loop .counts) (c .passed .given .0 .0)) (l .loop .i + 1)
 moved c =
     let q = c .before .before .before .before .before .before in
-    let t = q .before .before .before .before in
+    let t = q .before .before .before in
     let l = t .before in
-    let s = l .before .before .before .before .before .before .before .before .before .before .before .before .before .before .before .before .before .before .before in
-    let a = s .args in
-    let i = l .loop .i in
-    let output = q .next-pass .last .1 .1 .1 .1 .1 .1 .1 .0 in
-    let work = q .next-pass .last .1 .1 .1 .1 .1 .1 .1 .1 .0 in
-    let kept = q .next-pass .kept .1 .1 .1 .1 .1 .1 .1 in
-    let done =
-    subst (PassIs (length (l .loop .output)) (held (length (a .methods .now) - i - 1) output work)
-    (pass (setOf (a .set .now)) (a .c) (methodOf (getD (a .methods .now) i 0))
-    (take (l .loop .counts .written) (held (length (a .methods .now) - i) (l .loop .output) (l .loop .work)))))
-    (c .next .given .1) (q .next-pass .ensures) in
-    next-done _ _ (a .methods .now) (a .read .now) (pass-limited _ (s .pre .0 .0 .opens) (a .c) (s .pre .0 .1) (s .fits .c .fits))
-    (l .loop .output) (l .loop .work) output work (l .loop .counts) (c .next .given .0 .0) i (l .loop .inv .2) (t .loop-test .taken) (kept .0) (kept .1 .0) done
+    let a = start (count-at (first-at l)) .args in
+    let kept = q .next-pass .kept .1 .1 .1 .1 .1 .1 in
+    next-done _ (a .job .now) (a .read .now) (l .loop .output) (l .loop .work) (l .loop .counts) (l .loop .i) (l .loop .inv .2) (more t)
+    (q .next-pass .last .1 .1 .1 .1 .1 .1 .0) (q .next-pass .last .1 .1 .1 .1 .1 .1 .1 .0) (c .passed .given .0 .0)
+    (kept .0) (kept .1 .0) (q .next-pass .ensures .small) (subst (Answered q) (c .passed .given .1) (q .next-pass .ensures .is))
+
+-- 8 passes at most.
+few : (c : tie.After-passed Inv-loop μ-loop) → c .before .before .before .before .before .before .before .before .before .before .loop .i + 1 ≤ 8
+few c =
+    let l = c .before .before .before .before .before .before .before .before .before .before in
+    omega (arith, moved c .high, start (count-at (first-at l)) .pre .0 .1)
 
 join-requires : tie.Need-join-requires Inv-loop μ-loop
 join-requires c κs =
-    let n = c .before in
-    let l = n .before .before .before .before .before .before .before .before .before .before .before in
-    let s = l .before .before .before .before .before .before .before .before .before .before .before .before .before .before .before .before .before .before .before in
-    let u = moved n in
-    let few : l .loop .i + 1 ≤ 8 = omega (arith, u .high, s .pre .0 .2) in (
-      omega (arith, u .totals .turns),
-      omega (arith, u .totals .lookups),
-      omega (arith, u .totals .attempts),
-      omega (arith, u .totals .accepted),
+    let u = moved (c .before) .small in
+    let n = few (c .before) in (
+      omega (arith, u .turns),
+      omega (arith, u .lookups),
+      omega (arith, u .attempts),
+      omega (arith, u .accepted),
     )
 
 add-i : tie.Need-add-i Inv-loop μ-loop
-add-i c =
-    let n = c .before .before in
-    let l = n .before .before .before .before .before .before .before .before .before .before .before in
-    let s = l .before .before .before .before .before .before .before .before .before .before .before .before .before .before .before .before .before .before .before in
-    omega (arith, moved n .high, s .pre .0 .2)
+add-i c = omega (arith, few (c .before .before))
 
 loop-less : tie.Need-loop-less Inv-loop μ-loop
 loop-less c = search needs
@@ -194,8 +205,8 @@ loop-again : tie.Need-loop-again Inv-loop μ-loop
 loop-again c =
     let n = c .before .before in
     let q = n .before .before .before .before .before .before in
-    let l = q .before .before .before .before .before in
-    let kept = q .next-pass .kept .1 .1 .1 .1 .1 .1 .1 in (
+    let l = q .before .before .before .before in
+    let kept = q .next-pass .kept .1 .1 .1 .1 .1 .1 in (
       kept .0 ∙ l .loop .inv .0,
       kept .1 .0 ∙ l .loop .inv .1,
       rw (c .join .ensures) (moved n),
@@ -210,12 +221,14 @@ same-length-7 c = search needs
 returns-4 : tie.Need-returns-4 Inv-loop μ-loop
 returns-4 c =
     let l = c .before in
-    let g = l .before .before .before .before .before .before .before .before in
-    let a = g .before .before .before .before .before .before .before .before .before .before .before .args in
-    let first = g .first-pass .kept .1 .1 .1 .1 .1 .1 .1 in
+    let g = first-at l in
+    let n = count-at g in
+    let a = start n .args in
+    let first = g .first-pass .kept .1 .1 .1 .1 .1 in
     let same = l .loop .inv .0 ∙ first .0 in
-    let all = all-done _ _ (a .methods .now) _ (l .loop .output) (l .loop .work) (l .loop .counts) (l .loop .i) (l .loop .inv .2) (c .loop-test .left) in
-    record { is = (all .0, all .1, omega (arith, all .2, same)); output-room = same; work-room = l .loop .inv .1 ∙ first .1 .0 }
+    let all =
+    all-done _ (a .job .now) _ (l .loop .output) (l .loop .work) (l .loop .counts) (l .loop .i) (l .loop .inv .2) (omega (arith, c .loop-test .left, n .count .ensures)) in
+    record { is = (all .0, all .1, omega (arith, all .2, same), all .3); output-room = same; work-room = l .loop .inv .1 ∙ first .1 .0 }
 
 pub through-spec : {M : Type 1} → statement M
 through-spec =
@@ -223,10 +236,10 @@ through-spec =
     (tie.spec
     Inv-loop
     μ-loop
+    count-requires
     copied-requires
     same-length
     returns
-    shared-slice-read-first-pass
     first-pass-requires
     enum-known-first
     enum-told
@@ -234,10 +247,8 @@ through-spec =
     same-length-3
     returns-2
     loop-holds
-    shared-slice-read-next-pass
-    sub-next-pass
     next-pass-requires
-    enum-known-next
+    enum-known-passed
     enum-told-2
     same-length-4
     same-length-5

@@ -22,7 +22,7 @@ returns : tie.Need-returns
 returns c =
     let t = c .before .before in
     let d = t .before .before .before .before .before .before .correct-batch in
-    (told-exact (d .result) (t .tell-answer .ensures) (d .ensures .0), told-ceiling _ _ _ _ (d .result) (t .tell-answer .ensures) (d .ensures .1))
+    (told-exact (d .result) (t .tell-answer .ensures) (d .ensures .0), told-ceiling _ _ _ (d .result) (t .tell-answer .ensures) (d .ensures .1))
 
 pub corrector-batch-spec : {M : Type 1} → statement M
 corrector-batch-spec =

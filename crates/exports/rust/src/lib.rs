@@ -14,40 +14,38 @@
 //! #     [block(0, &[k, keys.len() as u64]), block(1, keys)].concat()
 //! # }
 //! # let set = set_of(3, &[6, 23, 51, 58, 60]);
+//! use corrector::{Entry, Job, Method};
+//! let entries = [Entry::new(Method::Graph, 1).expect("confirm is not 0")];
 //! let read = b"AACGCCG";
 //! let mut output = [0; 16];
 //! let mut work = vec![0; corrector::work_length(output.len(), read.len())];
-//! let report = corrector::correct_read(&set, 1, &[corrector::GRAPH], read, &mut output, &mut work)?;
+//! let report = corrector::correct_read(&set, Job::new(&entries), read, &mut output, &mut work)?;
 //! assert_eq!(output[..report.written], *b"AACTCCG");
 //! # Ok::<(), corrector::Refusal>(())
 //! ```
 #![deny(missing_docs)]
 #![deny(unsafe_code)]
 
+mod job;
 mod raw;
 mod refusal;
 
+pub use job::{Entry, Job, Method};
 pub use refusal::Refusal;
-
-/// The method One.
-pub const ONE: u8 = 1;
-/// The method Two.
-pub const TWO: u8 = 2;
-/// The method Graph.
-pub const GRAPH: u8 = 3;
-/// The method GapSize.
-pub const GAP_SIZE: u8 = 4;
 
 /// The longest read or batch, in bytes.
 pub const MAX_INPUT: usize = 1_048_576;
-/// The most methods of a job.
-pub const MAX_METHODS: usize = 8;
+/// The most entries of a job.
+pub const MAX_ENTRIES: usize = 8;
 /// The longest output, in bytes.
 pub const MAX_OUTPUT: usize = 1_048_576;
 /// The longest work buffer, in bytes.
 pub const MAX_WORK: usize = 2_097_152;
 /// The most lines of a batch.
 pub const MAX_LINES: usize = 1_024;
+
+/// The most keys of a set.
+pub const MAX_KEYS: usize = 16_777_216;
 
 /// What the header of a set says.
 #[derive(Clone, Copy, Debug, PartialEq, Eq)]
@@ -97,18 +95,18 @@ pub fn open(set: &[u8]) -> Result<Set, Refusal> {
     }
 }
 
-/// Corrects a read by the methods, each of which reads the result of the one before. At least `confirm` bases behind a correction must agree.
+/// Corrects a read by the job's entries, each of which reads the result of the one before and has its own confirm.
 ///
 /// Accepted, `output` has the result in its first [`written`](Report::written) bytes and zeros behind it, and `work` is all zero. Refused
 /// with [`Refusal::NoRoom`], both are all zero; refused otherwise, neither has changed. The set is checked at each call, so many reads are
 /// better sent as a batch.
-pub fn correct_read(set: &[u8], confirm: u8, methods: &[u8], read: &[u8], output: &mut [u8], work: &mut [u8]) -> Result<Report, Refusal> {
-    answer(raw::correct(raw::Call::Read, raw::Lent { set, confirm, methods, input: read, output, work }))
+pub fn correct_read(set: &[u8], job: Job<'_>, read: &[u8], output: &mut [u8], work: &mut [u8]) -> Result<Report, Refusal> {
+    answer(raw::correct(raw::Call::Read, raw::Lent { set, job: job.as_bytes(), input: read, output, work }))
 }
 
 /// Corrects a batch, lines each ended by byte 10, as [`correct_read`] does a read. The output is lines too.
-pub fn correct_batch(set: &[u8], confirm: u8, methods: &[u8], batch: &[u8], output: &mut [u8], work: &mut [u8]) -> Result<Report, Refusal> {
-    answer(raw::correct(raw::Call::Batch, raw::Lent { set, confirm, methods, input: batch, output, work }))
+pub fn correct_batch(set: &[u8], job: Job<'_>, batch: &[u8], output: &mut [u8], work: &mut [u8]) -> Result<Report, Refusal> {
+    answer(raw::correct(raw::Call::Batch, raw::Lent { set, job: job.as_bytes(), input: batch, output, work }))
 }
 
 /// The k-mers of a read, and the solid ones among them. A read that is shorter than k has none.
@@ -116,6 +114,32 @@ pub fn count_solid(set: &[u8], read: &[u8]) -> Result<Count, Refusal> {
     match raw::count_solid(set, read) {
         [0, _, kmers, solid] => Ok(Count { kmers, solid }),
         [number, place, ..] => Err(Refusal::from_numbers(number, place)),
+    }
+}
+
+/// The length of a set of n keys, in bytes.
+pub fn set_length(n: usize) -> usize {
+    512 * (1 + n.div_ceil(63))
+}
+
+/// Makes a set from k-mer counts as text: lines of k letters A, C, G, T, a comma, a count of 1 to 10 digits, and byte 10. Lines whose count is
+/// below `least` are passed over. The canonical codes of the others must rise strictly, in the order of the lines; README.md says how a text is
+/// brought into that order.
+///
+/// Accepted, `blocks` has the set in its first bytes, as many as the call answers, and zeros behind them; [`set_length`] of the lines' number is
+/// always enough. Refused, `blocks` has not changed: with [`Refusal::SetHeader`] k is not odd from 1 to 31 or over [`MAX_KEYS`] lines are kept.
+///
+/// ```
+/// let text = b"ACT,9\nCCG,4\nCTC,7\nAAC,5\nTCC,8\n";
+/// let mut blocks = vec![0; corrector::set_length(5)];
+/// let length = corrector::make_set(text, 3, 5, &mut blocks)?;
+/// assert_eq!(corrector::open(&blocks[..length])?, corrector::Set { k: 3, n: 4 });
+/// # Ok::<(), corrector::Refusal>(())
+/// ```
+pub fn make_set(text: &[u8], k: u64, least: u64, blocks: &mut [u8]) -> Result<usize, Refusal> {
+    match raw::make_set(text, k, least, blocks) {
+        [0, _, length] => Ok(length as usize),
+        [number, place, _] => Err(Refusal::from_numbers(number, place)),
     }
 }
 

@@ -1,30 +1,44 @@
-//! The calls of corrector.h, and the only unsafe code: each slice passes as pointer and length.
+//! The calls of corrector.h, and the only unsafe code: each slice passes as pointer and length, and entries as the bytes that they are.
 #![allow(unsafe_code)]
+
+use crate::job::Entry;
 
 #[rustfmt::skip]
 extern "C" {
     fn corrector_open(set: *const u8, set_length: usize, answer: *mut u64, answer_length: usize) -> u64;
     fn corrector_read(
-        set: *const u8, set_length: usize, confirm: u8, methods: *const u8, methods_length: usize, read: *const u8, read_length: usize,
+        set: *const u8, set_length: usize, job: *const u8, job_length: usize, read: *const u8, read_length: usize,
         output: *mut u8, output_length: usize, work: *mut u8, work_length: usize, answer: *mut u64, answer_length: usize,
     ) -> u64;
     fn corrector_batch(
-        set: *const u8, set_length: usize, confirm: u8, methods: *const u8, methods_length: usize, batch: *const u8, batch_length: usize,
+        set: *const u8, set_length: usize, job: *const u8, job_length: usize, batch: *const u8, batch_length: usize,
         output: *mut u8, output_length: usize, work: *mut u8, work_length: usize, answer: *mut u64, answer_length: usize,
     ) -> u64;
     fn corrector_count_solid(
         set: *const u8, set_length: usize, read: *const u8, read_length: usize, answer: *mut u64, answer_length: usize,
+    ) -> u64;
+    fn corrector_make_set(
+        text: *const u8, text_length: usize, k: u64, least: u64, blocks: *mut u8, blocks_length: usize, answer: *mut u64, answer_length: usize,
     ) -> u64;
 }
 
 /// What a read or a batch call is lent, but for its answer.
 pub struct Lent<'a> {
     pub set: &'a [u8],
-    pub confirm: u8,
-    pub methods: &'a [u8],
+    pub job: &'a [u8],
     pub input: &'a [u8],
     pub output: &'a mut [u8],
     pub work: &'a mut [u8],
+}
+
+// Method and confirm, a byte each.
+const _: () = assert!(std::mem::size_of::<Entry>() == 2 && std::mem::align_of::<Entry>() == 1);
+
+/// Entries as bytes, method first.
+pub fn bytes_of(entries: &[Entry]) -> &[u8] {
+    // SAFETY: an entry is laid out as in C, as two fields of a byte; so it is two bytes without any between or behind them, each initialised.
+    // They live as long as the entries, which nobody can write to meanwhile.
+    unsafe { std::slice::from_raw_parts(entries.as_ptr().cast(), std::mem::size_of_val(entries)) }
 }
 
 pub enum Call {
@@ -53,9 +67,8 @@ pub fn correct(call: Call, lent: Lent<'_>) -> [u64; 8] {
         entry(
             lent.set.as_ptr(),
             lent.set.len(),
-            lent.confirm,
-            lent.methods.as_ptr(),
-            lent.methods.len(),
+            lent.job.as_ptr(),
+            lent.job.len(),
             lent.input.as_ptr(),
             lent.input.len(),
             lent.output.as_mut_ptr(),
@@ -74,5 +87,15 @@ pub fn count_solid(set: &[u8], read: &[u8]) -> [u64; 4] {
     let mut answer = [0; 4];
     // SAFETY: each pointer and length are a live slice's, and `answer` is lent to this call alone.
     unsafe { corrector_count_solid(set.as_ptr(), set.len(), read.as_ptr(), read.len(), answer.as_mut_ptr(), answer.len()) };
+    answer
+}
+
+/// Number, place, length of the blocks.
+pub fn make_set(text: &[u8], k: u64, least: u64, blocks: &mut [u8]) -> [u64; 3] {
+    let mut answer = [0; 3];
+    // SAFETY: each pointer and length are a live slice's; `blocks` and `answer` are lent to this call alone.
+    unsafe {
+        corrector_make_set(text.as_ptr(), text.len(), k, least, blocks.as_mut_ptr(), blocks.len(), answer.as_mut_ptr(), answer.len());
+    }
     answer
 }

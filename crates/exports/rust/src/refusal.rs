@@ -2,20 +2,24 @@
 use std::error::Error;
 use std::fmt::{Display, Formatter, Result};
 
-/// Why a call is refused. Checked in this order: the first that applies is told. Places count from 0.
+/// Why a call is refused. Checked in this order: the first that applies is told; [`make_set`](crate::make_set) has an order of its own. Places
+/// count from 0.
 #[derive(Clone, Copy, Debug, PartialEq, Eq)]
 pub enum Refusal {
     /// 1: the read or batch is longer than [`MAX_INPUT`](crate::MAX_INPUT) bytes.
     InputLength,
-    /// 2: there are more than [`MAX_METHODS`](crate::MAX_METHODS) methods.
-    MethodCount,
+    /// 2: the job has more than [`MAX_ENTRIES`](crate::MAX_ENTRIES) entries.
+    EntryCount,
     /// 3: a method byte is none of the four.
     MethodUnknown {
-        /// Its index among the method bytes.
+        /// The first such entry.
         index: usize,
     },
-    /// 4: confirm is 0.
-    ConfirmZero,
+    /// 4: a confirm is 0, or an entry lacks its second byte.
+    ConfirmZero {
+        /// The first such entry.
+        index: usize,
+    },
     /// 5: output or work is too long, or work is shorter than [`work_length`](crate::work_length).
     Buffers,
     /// 6: the batch is not empty and lacks a final byte 10, or has more than [`MAX_LINES`](crate::MAX_LINES) lines.
@@ -39,6 +43,18 @@ pub enum Refusal {
         /// The line of the batch; 0 for a single read.
         line: usize,
     },
+    /// 12: a line of k-mer counts breaks the form.
+    Line {
+        /// The line of the text.
+        line: usize,
+    },
+    /// 13: the canonical code of a kept line of k-mer counts does not rise.
+    NotRising {
+        /// The line of the text.
+        line: usize,
+    },
+    /// 14: the buffer is too short for the blocks.
+    TooShort,
 }
 
 impl Refusal {
@@ -47,9 +63,9 @@ impl Refusal {
         let place = place as usize;
         match number {
             1 => Self::InputLength,
-            2 => Self::MethodCount,
+            2 => Self::EntryCount,
             3 => Self::MethodUnknown { index: place },
-            4 => Self::ConfirmZero,
+            4 => Self::ConfirmZero { index: place },
             5 => Self::Buffers,
             6 => Self::Batch,
             7 => Self::SetLength,
@@ -57,17 +73,20 @@ impl Refusal {
             9 => Self::SetHeader,
             10 => Self::SetKey { word: place },
             11 => Self::NoRoom { line: place },
-            _ => unreachable!("the library refuses by 1 to 11"),
+            12 => Self::Line { line: place },
+            13 => Self::NotRising { line: place },
+            14 => Self::TooShort,
+            _ => unreachable!("the library refuses by 1 to 14"),
         }
     }
 
-    /// The number, 1 to 11.
+    /// The number, 1 to 14.
     pub fn number(self) -> u8 {
         match self {
             Self::InputLength => 1,
-            Self::MethodCount => 2,
+            Self::EntryCount => 2,
             Self::MethodUnknown { .. } => 3,
-            Self::ConfirmZero => 4,
+            Self::ConfirmZero { .. } => 4,
             Self::Buffers => 5,
             Self::Batch => 6,
             Self::SetLength => 7,
@@ -75,15 +94,18 @@ impl Refusal {
             Self::SetHeader => 9,
             Self::SetKey { .. } => 10,
             Self::NoRoom { .. } => 11,
+            Self::Line { .. } => 12,
+            Self::NotRising { .. } => 13,
+            Self::TooShort => 14,
         }
     }
 
-    /// The place: an index, a block, a word or a line; 0 for a refusal that has none.
+    /// The place: an entry, a block, a word or a line; 0 for a refusal that has none.
     pub fn place(self) -> usize {
         match self {
-            Self::MethodUnknown { index: place } | Self::SetCheck { block: place } | Self::SetKey { word: place } | Self::NoRoom { line: place } => {
-                place
-            }
+            Self::MethodUnknown { index: place } | Self::ConfirmZero { index: place } => place,
+            Self::SetCheck { block: place } | Self::SetKey { word: place } => place,
+            Self::NoRoom { line: place } | Self::Line { line: place } | Self::NotRising { line: place } => place,
             _ => 0,
         }
     }
@@ -93,9 +115,9 @@ impl Display for Refusal {
     fn fmt(&self, to: &mut Formatter<'_>) -> Result {
         match self {
             Self::InputLength => write!(to, "the read or batch is too long"),
-            Self::MethodCount => write!(to, "there are too many methods"),
-            Self::MethodUnknown { index } => write!(to, "method {index} is unknown"),
-            Self::ConfirmZero => write!(to, "confirm is 0"),
+            Self::EntryCount => write!(to, "the job has too many entries"),
+            Self::MethodUnknown { index } => write!(to, "the method of entry {index} is unknown"),
+            Self::ConfirmZero { index } => write!(to, "the confirm of entry {index} is 0"),
             Self::Buffers => write!(to, "the output or work buffer has a wrong length"),
             Self::Batch => write!(to, "the batch lacks a final byte 10, or has too many lines"),
             Self::SetLength => write!(to, "the set's length is 0 or no multiple of 512"),
@@ -103,6 +125,9 @@ impl Display for Refusal {
             Self::SetHeader => write!(to, "the set's header is wrong"),
             Self::SetKey { word } => write!(to, "word {word} of the set's keys is wrong"),
             Self::NoRoom { line } => write!(to, "the result of line {line} does not fit the output"),
+            Self::Line { line } => write!(to, "line {line} of the counts breaks the form"),
+            Self::NotRising { line } => write!(to, "the code of line {line} of the counts does not rise"),
+            Self::TooShort => write!(to, "the buffer is too short for the blocks"),
         }
     }
 }

@@ -2,32 +2,32 @@
 mod common;
 
 use common::{genome_set, Rng};
-use corrector::{correct_batch, correct_read, work_length, Refusal, Report, GAP_SIZE, GRAPH, ONE, TWO};
+use corrector::{correct_batch, correct_read, work_length, Job, Refusal, Report};
 
 const THREADS: usize = 8;
 const ROUNDS: usize = 4;
 const ROOM: usize = 4096;
-const METHODS: [&[u8]; 5] = [&[ONE], &[TWO], &[GRAPH], &[GAP_SIZE], &[ONE, TWO, GRAPH, GAP_SIZE]];
+const JOBS: [&[u8]; 5] = [&[1, 2], &[2, 3], &[3, 1], &[4, 2], &[1, 4, 2, 3, 3, 1, 4, 2]];
 
-type Call = fn(&[u8], u8, &[u8], &[u8], &mut [u8], &mut [u8]) -> Result<Report, Refusal>;
+type Call = fn(&[u8], Job<'_>, &[u8], &mut [u8], &mut [u8]) -> Result<Report, Refusal>;
 type Done = (Result<Report, Refusal>, Vec<u8>, Vec<u8>);
 
-fn correct(set: &[u8], methods: &[u8], read: &[u8], output: &mut [u8], work: &mut [u8]) -> [Done; 2] {
+fn correct(set: &[u8], job: &[u8], read: &[u8], output: &mut [u8], work: &mut [u8]) -> [Done; 2] {
     let line = [read, b"\n"].concat();
     let mut done = |call: Call, input: &[u8]| {
-        let answer = call(set, 2, methods, input, output, work);
+        let answer = call(set, Job::from_bytes(job), input, output, work);
         (answer, output.to_vec(), work.to_vec())
     };
     [done(correct_read, read), done(correct_batch, &line)]
 }
 
-/// Every read by every list of methods, from a read on, in buffers that are used again and again.
+/// Every read by every job, from a read on, in buffers that are used again and again.
 fn all(set: &[u8], reads: &[Vec<u8>], from: usize) -> Vec<[Done; 2]> {
     let (mut output, mut work) = (vec![0; ROOM], vec![0; work_length(ROOM, ROOM)]);
     let order = (0..reads.len()).map(|i| (from + i) % reads.len());
     let mut done: Vec<(usize, [Done; 2])> = order
-        .flat_map(|i| METHODS.iter().enumerate().map(move |(m, methods)| (i * METHODS.len() + m, i, methods)))
-        .map(|(at, i, methods)| (at, correct(set, methods, &reads[i], &mut output, &mut work)))
+        .flat_map(|i| JOBS.iter().enumerate().map(move |(j, job)| (i * JOBS.len() + j, i, job)))
+        .map(|(at, i, job)| (at, correct(set, job, &reads[i], &mut output, &mut work)))
         .collect();
     done.sort_by_key(|(at, _)| *at);
     done.into_iter().map(|(_, done)| done).collect()

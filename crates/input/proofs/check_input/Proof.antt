@@ -2,9 +2,10 @@ use Prim.Native.Nat.{_<_, _≤_}
 use native.Mathlib.Omega.{arith}
 use mathlib.Core.Path.{_≡_, sym, ap, _∙_}
 use mathlib.Core.Bool.{Bool}
-use borrow.Author.Tests.{lt-ltb, lt-leb, le-leb, leb-true, not-true, not-false}
+use borrow.Author.Tests.{lt-leb, le-leb, leb-true, not-true, not-false}
 use Rattle.rules.specs.Refusal.{_orElse_, unless}
-use Rattle.rules.specs.Calls.{maxRead, inputCheck}
+use Rattle.rules.specs.Job.{entryCount}
+use Rattle.rules.specs.Calls.{maxRead, maxMethods, inputCheck}
 use Rattle.rules.proofs.Opened.{unless-passed}
 use Rattle.input.specs.Input.{checkOf}
 use Rattle.input.proofs.Checks.{refuses}
@@ -32,9 +33,18 @@ short c =
     let l = c .before .before in
     leb-true _ _ (unless-passed _ 1 (sym (l .check-length .ensures) ∙ ap checkOf (c .enum-told .given .1)))
 
+count-requires : tie.Need-count-requires
+count-requires c κs = search needs
+
 returns-2 : tie.Need-returns-2
 unfolding inputCheck unless _orElse_
-returns-2 c = rw (le-leb _ _ (short (c .before)), lt-leb _ _ (c .if1 .taken))
+returns-2 c =
+    let n = c .before in
+    let many : maxMethods < entryCount (n .before .before .before .before .before .args .job .now) = omega (arith, c .if1 .taken, n .count .ensures) in
+    rw (le-leb _ _ (short (n .before)), lt-leb _ _ many)
+
+few : (c : tie.Else1) → entryCount (c .before .before .before .before .before .before .args .job .now) ≤ maxMethods
+few c = omega (arith, c .if1 .left, c .before .count .ensures)
 
 check-methods-requires : tie.Need-check-methods-requires
 check-methods-requires c κs = search needs
@@ -49,44 +59,63 @@ returns-3 : tie.Need-returns-3
 unfolding inputCheck unless _orElse_
 returns-3 c =
     let m = c .before .before in
-    rw (le-leb _ _ (short (m .before .before)), le-leb _ _ (m .before .if1 .left), ← (m .check-methods .ensures))
+    rw (le-leb _ _ (short (m .before .before .before)), le-leb _ _ (few (m .before)), ← (m .check-methods .ensures))
     (refuses _ (c .enum-told4 .given .1))
+
+check-confirms-requires : tie.Need-check-confirms-requires
+check-confirms-requires c κs = search needs
+
+enum-told-5 : tie.Need-enum-told-5
+enum-told-5 c = search needs
+
+enum-told-6 : tie.Need-enum-told-6
+enum-told-6 c = search needs
 
 returns-4 : tie.Need-returns-4
 unfolding inputCheck unless _orElse_
 returns-4 c =
-    let t = c .before in
+    let q = c .before .before in
+    let t = q .before in
     let m = t .before .before in
-    rw (le-leb _ _ (short (m .before .before)), le-leb _ _ (m .before .if1 .left), ← (m .check-methods .ensures), t .enum-told3 .given .1, c .if2 .taken)
-
-buffers-right-requires : tie.Need-buffers-right-requires
-buffers-right-requires c κs = short (c .before .before .before .before .before)
-
--- Checks 1 to 4 let pass.
-by-buffers : (c : tie.After-buffers-right) → let a = c .before .before .before .before .before .before .before .before .before .before .args in
-    inputCheck (a .input) (a .methods .now) (a .confirm) (a .output) (a .work) ≡ unless (c .buffers-right .result) 5
-unfolding inputCheck unless _orElse_
-by-buffers c =
-    let t = c .before .before in
-    let m = t .before .before in
-    let a = m .before .before .before .before .before .before .args in
-    let confirmed : 0 < a .confirm = omega (arith, c .before .if2 .left) in
     rw (
-      le-leb _ _ (short (m .before .before)),
-      le-leb _ _ (m .before .if1 .left),
+      le-leb _ _ (short (m .before .before .before)),
+      le-leb _ _ (few (m .before)),
       ← (m .check-methods .ensures),
       t .enum-told3 .given .1,
-      lt-ltb 0 (a .confirm) confirmed,
+      ← (q .check-confirms .ensures),
+    )
+    (refuses _ (c .enum-told6 .given .1))
+
+buffers-right-requires : tie.Need-buffers-right-requires
+buffers-right-requires c κs = short (c .before .before .before .before .before .before .before .before)
+
+-- Checks 1 to 4 let pass.
+by-buffers : (c : tie.After-buffers-right) →
+    let a = c .before .before .before .before .before .before .before .before .before .before .before .before .before .args in
+    inputCheck (a .input) (a .job .now) (a .output) (a .work) ≡ unless (c .buffers-right .result) 5
+unfolding inputCheck unless _orElse_
+by-buffers c =
+    let f = c .before in
+    let q = f .before .before in
+    let t = q .before in
+    let m = t .before .before in
+    rw (
+      le-leb _ _ (short (m .before .before .before)),
+      le-leb _ _ (few (m .before)),
+      ← (m .check-methods .ensures),
+      t .enum-told3 .given .1,
+      ← (q .check-confirms .ensures),
+      f .enum-told5 .given .1,
       ← (c .buffers-right .ensures),
     )
 
 returns-5 : tie.Need-returns-5
 unfolding unless
-returns-5 c = sym (by-buffers (c .before) ∙ ap (λ (t : Bool). unless t 5) (not-true (c .before .buffers-right .result) (c .if3 .taken)))
+returns-5 c = sym (by-buffers (c .before) ∙ ap (λ (t : Bool). unless t 5) (not-true (c .before .buffers-right .result) (c .if2 .taken)))
 
 returns-6 : tie.Need-returns-6
 unfolding unless
-returns-6 c = sym (by-buffers (c .before) ∙ ap (λ (t : Bool). unless t 5) (not-false (c .before .buffers-right .result) (c .if3 .left)))
+returns-6 c = sym (by-buffers (c .before) ∙ ap (λ (t : Bool). unless t 5) (not-false (c .before .buffers-right .result) (c .if2 .left)))
 
 pub check-input-spec : {M : Type 1} → statement M
 check-input-spec =
@@ -96,11 +125,15 @@ check-input-spec =
     enum-told
     enum-told-2
     returns
+    count-requires
     returns-2
     check-methods-requires
     enum-told-3
     enum-told-4
     returns-3
+    check-confirms-requires
+    enum-told-5
+    enum-told-6
     returns-4
     buffers-right-requires
     returns-5

@@ -34,7 +34,7 @@ returns c =
 
 -- Checks 1 to 5 let pass.
 fine : (c : tie.After-enum-told) → let a = c .before .before .before .before .before .before .before .before .args in
-    inputCheck (length (a .batch .now)) (a .methods .now) (a .confirm) (length (a .output .now)) (length (a .work .now)) ≡ none
+    inputCheck (length (a .batch .now)) (a .job .now) (length (a .output .now)) (length (a .work .now)) ≡ none
 fine c = sym (c .before .before .check-input .ensures) ∙ ap checkOf (c .enum-told .given .1)
 
 check-batch-requires : tie.Need-check-batch-requires
@@ -81,7 +81,7 @@ slice-aggregate-correct-lines c = search needs
 correct-lines-requires : tie.Need-correct-lines-requires
 correct-lines-requires c κs =
     let b = c .before .before .before .before .before .before .before .before .before .before in
-    (c .before .before .before .before .prepare .ensures, within _ _ _ _ _ (fine (b .before .before)), right b)
+    (c .before .before .before .before .prepare .ensures, within _ _ _ _ (fine (b .before .before)), right b)
 
 same-length : tie.Need-same-length
 same-length c = search needs
@@ -96,7 +96,7 @@ returns-4 c =
     let b = k .before .before .before in
     let f = fine (b .before .before) in
     let opens = set-opened _ _ _ _ (k .opened .given .1) (k .before .before .«open» .ensures) in
-    batch-corrected _ f (right b) _ opens (within _ _ _ _ _ f .confirm) (q .correct-lines .ensures)
+    batch-corrected _ f (right b) _ opens (within _ _ _ _ f .confirms) (q .correct-lines .ensures)
 
 pub correct-batch-spec : {M : Type 1} → statement M
 correct-batch-spec =

@@ -32,7 +32,7 @@ returns c =
 
 -- Checks 1 to 5 let pass.
 fine : (c : tie.After-enum-told) → let a = c .before .before .before .before .before .before .before .before .args in
-    inputCheck (length (a .read .now)) (a .methods .now) (a .confirm) (length (a .output .now)) (length (a .work .now)) ≡ none
+    inputCheck (length (a .read .now)) (a .job .now) (length (a .output .now)) (length (a .work .now)) ≡ none
 fine c = sym (c .before .before .check-input .ensures) ∙ ap checkOf (c .enum-told .given .1)
 
 open-requires : tie.Need-open-requires
@@ -67,7 +67,7 @@ slice-aggregate-correct-one c = search needs
 correct-one-requires : tie.Need-correct-one-requires
 correct-one-requires c κs =
     let p = c .before .before .before .before in
-    (p .prepare .ensures, within _ _ _ _ _ (fine (p .before .before .before .before .before .before)))
+    (p .prepare .ensures, within _ _ _ _ (fine (p .before .before .before .before .before .before)))
 
 same-length : tie.Need-same-length
 same-length c = search needs
@@ -81,7 +81,7 @@ returns-3 c =
     let k = q .before .before .before .before .before .before .before .before in
     let f = fine (k .before .before .before) in
     let opens = set-opened _ _ _ _ (k .opened .given .1) (k .before .before .«open» .ensures) in
-    read-corrected _ _ f opens (within _ _ _ _ _ f .confirm) (q .correct-one .ensures)
+    read-corrected _ _ f opens (within _ _ _ _ f .confirms) (q .correct-one .ensures)
 
 pub correct-read-spec : {M : Type 1} → statement M
 correct-read-spec =

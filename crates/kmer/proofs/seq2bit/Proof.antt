@@ -4,7 +4,7 @@ use mathlib.Core.Path.{_≡_, refl, sym, _∙_}
 use lib.ListN.{take}
 use lib.Seq.{slice, slice-empty}
 use borrow.Author.Needs.{needs}
-use Rattle.rules.specs.Letters.{addAll, kmer, code}
+use Rattle.rules.specs.Letters.{addAll, kmer, code, complement}
 use Rattle.rules.proofs.Kmer.{four-pos, code-lt}
 use Rattle.kmer.specs.Kmer.{IsKmer}
 use Rattle.kmer.proofs.Laws.{mask-fits, revcomp-zero, next-base}
@@ -21,17 +21,21 @@ Inv-loop seq head k kmer₀ i₀ kmer i =
 abbrev μ-loop : tie.MeasureT-loop
 μ-loop seq head k kmer₀ i₀ kmer i = k - i
 
-mul-t7 : tie.Need-mul-t7 Inv-loop μ-loop
-mul-t7 c =
-    let b = c .before .before in
-    rw (b .pre .0 .mask-is) (omega (arith, mask-fits (b .args .head .k) (b .pre .0 .k-high)))
+complement-requires : tie.Need-complement-requires Inv-loop μ-loop
+complement-requires c κs = search needs
+
+mul-t8 : tie.Need-mul-t8 Inv-loop μ-loop
+unfolding complement
+mul-t8 c =
+    let b = c .before .before .before in
+    rw (c .complement .ensures .0, b .pre .0 .mask-is) (omega (arith, mask-fits (b .args .head .k) (b .pre .0 .k-high)))
 
 loop-holds : tie.Need-loop-holds Inv-loop μ-loop
 loop-holds c =
-    let b = c .before .before in (
+    let b = c .before .before .before in (
       refl,
       search needs,
-      record { small = four-pos _; turned = rw (b .pre .0 .mask-is) (revcomp-zero _) },
+      record { small = four-pos _; turned = rw (c .complement .ensures .0, b .pre .0 .mask-is) (revcomp-zero _) },
       refl,
     )
 
@@ -44,7 +48,7 @@ nuc2bit-requires c κs = search needs
 add-nuc-to-end-requires : tie.Need-add-nuc-to-end-requires Inv-loop μ-loop
 add-nuc-to-end-requires c κs =
     let l = c .before .before .before in
-    (l .before .before .before .pre .0, l .loop .inv .2, rw (c .nuc2bit .ensures) (code-lt _))
+    (l .before .before .before .before .pre .0, l .loop .inv .2, rw (c .nuc2bit .ensures) (code-lt _))
 
 add-i : tie.Need-add-i Inv-loop μ-loop
 add-i c = search needs
@@ -55,7 +59,7 @@ loop-less c = search needs
 loop-again : tie.Need-loop-again Inv-loop μ-loop
 loop-again c =
     let l = c .before .before .before .before in
-    let b = l .before .before .before in
+    let b = l .before .before .before .before in
     let i = l .loop .inv in
     let e = c .add-nuc-to-end .ensures in (
       i .0,
@@ -70,7 +74,7 @@ unfolding addAll kmer
 returns c =
     let l = c .before in
     let i = l .loop .inv in
-    let e : l .loop .i ≡ l .before .before .before .args .head .k = search needs in
+    let e : l .loop .i ≡ l .before .before .before .before .args .head .k = search needs in
     record { is = rw (e, slice-empty) at (i .3); kmer = i .2 }
 
 pub seq2bit-spec : {M : Type 1} → statement M
@@ -79,7 +83,8 @@ seq2bit-spec =
     (tie.spec
     Inv-loop
     μ-loop
-    mul-t7
+    complement-requires
+    mul-t8
     loop-holds
     shared-slice-read-nuc2bit
     nuc2bit-requires

@@ -12,11 +12,11 @@ use Rattle.lines.proofs.correct_lines.Statement.{statement}
 use Rattle.lines.proofs.correct_lines.Tie as tie
 
 abbrev Inv-loop : tie.InvT-loop
-Inv-loop set starts head confirm methods batch output₀ work₀ done₀ line₀ from₀ output work done line from =
-    (from ≤ length batch) × (length work ≡ length work₀) × going (given set confirm methods batch output₀ work₀) from line done output
+Inv-loop set starts head job batch output₀ work₀ done₀ line₀ from₀ output work done line from =
+    (from ≤ length batch) × (length work ≡ length work₀) × going (given set job batch output₀ work₀) from line done output
 
 abbrev μ-loop : tie.MeasureT-loop
-μ-loop set starts head confirm methods batch output₀ work₀ done₀ line₀ from₀ output work done line from = length batch - from
+μ-loop set starts head job batch output₀ work₀ done₀ line₀ from₀ output work done line from = length batch - from
 
 abbrev start : tie.At-loop Inv-loop μ-loop → tie.Start Inv-loop μ-loop
 start l = l .before .before .before .before .before .before .before
@@ -25,10 +25,10 @@ start l = l .before .before .before .before .before .before .before
 abbrev call : tie.At-loop Inv-loop μ-loop → Given
 call l =
     let a = start l .args in
-    given (a .set .now) (a .confirm) (a .methods .now) (a .batch .now) (a .output .now) (a .work .now)
+    given (a .set .now) (a .job .now) (a .batch .now) (a .output .now) (a .work .now)
 
 loop-holds : tie.Need-loop-holds Inv-loop μ-loop
-loop-holds c = (search needs, refl, begin _ _ _ _ _)
+loop-holds c = (search needs, refl, begin _ _ _ _)
 
 line-end-requires : tie.Need-line-end-requires Inv-loop μ-loop
 line-end-requires c κs =
@@ -75,23 +75,23 @@ returns c =
     let e = c .before .before .before .before .before .before .before in
     let p = e .before .before .before .before .before .before in
     let i = p .before .before .before .before .before .before .loop .inv in
-    let kept = p .correct-line .kept .1 .1 .1 .1 .1 .1 .1 in
+    let kept = p .correct-line .kept .1 .1 .1 .1 .1 .1 in
     batch-no-room _ _ _ _ _ _ _ _ (i .2) (p .before .before .before .before .line-end .ensures) (p .correct-line .ensures) (kept .0)
-    (p .correct-line .last .1 .1 .1 .1 .1 .1 .1 .1 .0) (e .enum-told .given .1) (kept .1 .0 ∙ i .1) (c .before .before .before .before .no-room .ensures)
+    (p .correct-line .last .1 .1 .1 .1 .1 .1 .1 .0) (e .enum-told .given .1) (kept .1 .0 ∙ i .1) (c .before .before .before .before .no-room .ensures)
 
 -- The line is done, and the next one is due.
 next : (c : tie.After-known-told Inv-loop μ-loop) →
     let p = c .before .before .before .before .before .before .before in
     let l = p .before .before .before .before .before .before in
     going (call l) (p .before .before .before .before .line-end .result + 1) (l .loop .line + 1) (summed (l .loop .done) (c .before .passed .given .0 .0))
-    (p .correct-line .last .1 .1 .1 .1 .1 .1 .1 .0)
+    (p .correct-line .last .1 .1 .1 .1 .1 .1 .0)
 next c =
     let e = c .before in
     let p = e .before .before .before .before .before .before in
     let l = p .before .before .before .before .before .before in
     let s = start l in
     batch-next (call l) (l .loop .from) _ _ _ _ _ _ (l .loop .inv .2) (p .before .before .before .before .line-end .ensures) (p .correct-line .ensures)
-    (p .correct-line .kept .1 .1 .1 .1 .1 .1 .1 .0) _ (e .passed .given .1) (s .pre .0 .opens) (s .fits .confirm .fits) (s .pre .1)
+    (p .correct-line .kept .1 .1 .1 .1 .1 .1 .0) _ (e .passed .given .1) (s .pre .1)
 
 fits : (c : tie.After-known-told Inv-loop μ-loop) →
     let l = c .before .before .before .before .before .before .before .before .before .before .before .before .before in
@@ -119,7 +119,7 @@ loop-again : tie.Need-loop-again Inv-loop μ-loop
 loop-again c =
     let p = c .before .before .before .before .before .before .before .before in (
       omega (arith, p .before .before .before .before .line-end .ensures .inside),
-      p .correct-line .kept .1 .1 .1 .1 .1 .1 .1 .1 .0 ∙ p .before .before .before .before .before .before .loop .inv .1,
+      p .correct-line .kept .1 .1 .1 .1 .1 .1 .1 .0 ∙ p .before .before .before .before .before .before .loop .inv .1,
       rw (c .add .ensures) (next (c .before)),
     )
 

@@ -11,12 +11,12 @@ use Rattle.solid.proofs.count_kmers.Statement.{statement}
 use Rattle.solid.proofs.count_kmers.Tie as tie
 
 abbrev Inv-loop : tie.InvT-loop
-Inv-loop set starts head read k kmer₀ count₀ i₀ i-end kmer count i =
+Inv-loop set starts head read k kmer₀ count₀ ahead₀ i₀ i-end kmer count ahead i =
     (i-end ≡ length read) × (i ≤ i-end) × (count ≤ i) × IsKmer (head .k) kmer
     × (solids (setOf set) (kmersOf (head .k) read) ≡ count + solids (setOf set) (kmersBehind (head .k) (kmer .code) (drop i read)))
 
 abbrev μ-loop : tie.MeasureT-loop
-μ-loop set starts head read k kmer₀ count₀ i₀ i-end kmer count i = i-end - i
+μ-loop set starts head read k kmer₀ count₀ ahead₀ i₀ i-end kmer count ahead i = i-end - i
 
 seq2bit-requires : tie.Need-seq2bit-requires Inv-loop μ-loop
 seq2bit-requires c κs = search needs
@@ -27,17 +27,24 @@ get-requires c κs = search needs
 cast-count : tie.Need-cast-count Inv-loop μ-loop
 cast-count c = search needs
 
+first-ahead-requires : tie.Need-first-ahead-requires Inv-loop μ-loop
+first-ahead-requires c κs = search needs
+
 loop-holds : tie.Need-loop-holds Inv-loop μ-loop
 loop-holds c =
-    let s = c .before .seq2bit .ensures in
-    let a = c .before .before .before .before .before .args in
-    let r = c .before .before .before .before .before .pre in (
+    let g = c .before in
+    let s = g .before .seq2bit .ensures in
+    let a = g .before .before .before .before .before .args in
+    let r = g .before .before .before .before .before .pre in (
       search needs,
       search needs,
-      omega (arith, bit-le (c .get .result), r .0 .shifts .k-low),
+      omega (arith, bit-le (g .get .result), r .0 .shifts .k-low),
       s .kmer,
-      solids-long _ (a .read .now) (setOf (a .set .now)) _ _ (r .1) (s .is) (c .get .ensures),
+      solids-long _ (a .read .now) (setOf (a .set .now)) _ _ (r .1) (s .is) (g .get .ensures),
     )
+
+read-on-requires : tie.Need-read-on-requires Inv-loop μ-loop
+read-on-requires c κs = search needs
 
 shared-slice-read-add-base : tie.Need-shared-slice-read-add-base Inv-loop μ-loop
 shared-slice-read-add-base c = search needs
@@ -63,10 +70,10 @@ loop-less c = search needs
 loop-again : tie.Need-loop-again Inv-loop μ-loop
 loop-again c =
     let b = c .before in
-    let l = b .before .before .before .loop in
-    let s = b .before .before .before .before .before .before .before .before .before in
+    let l = b .before .before .before .before .loop in
+    let s = b .before .before .before .before .before .before .before .before .before .before .before in
     let e = b .add-base .ensures in
-    let q = behind-one _ (s .args .read .now) (setOf (s .args .set .now)) (l .i) (l .kmer .code) _ _ (b .before .before .loop-test .taken) (e .is) (c .get2 .ensures) in (
+    let q = behind-one _ (s .args .read .now) (setOf (s .args .set .now)) (l .i) (l .kmer .code) _ _ (b .before .before .before .loop-test .taken) (e .is) (c .get2 .ensures) in (
       search needs,
       search needs,
       omega (arith, bit-le (c .get2 .result)),
@@ -77,7 +84,7 @@ loop-again c =
 returns : tie.Need-returns Inv-loop μ-loop
 returns c =
     let l = c .before .loop in
-    let s = c .before .before .before .before .before .before .before in
+    let s = c .before .before .before .before .before .before .before .before in
     omega (arith, l .inv .4, behind-end (s .args .head .k) (s .args .read .now) (setOf (s .args .set .now)) (l .i) (l .kmer .code) (search needs))
 
 pub count-kmers-spec : {M : Type 1} → statement M
@@ -89,7 +96,9 @@ count-kmers-spec =
     seq2bit-requires
     get-requires
     cast-count
+    first-ahead-requires
     loop-holds
+    read-on-requires
     shared-slice-read-add-base
     add-base-requires
     get-requires-2

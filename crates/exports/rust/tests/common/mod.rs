@@ -28,7 +28,8 @@ fn code(base: u8) -> u64 {
     base as u64 / 2 % 4
 }
 
-fn canonical(kmer: &[u8]) -> u64 {
+/// The canonical code of a k-mer.
+pub fn canonical(kmer: &[u8]) -> u64 {
     let forward = kmer.iter().fold(0, |sum, base| 4 * sum + code(*base));
     let reverse = kmer.iter().rev().fold(0, |sum, base| 4 * sum + (code(*base) ^ 2));
     if u64::count_ones(forward) % 2 == 0 {
