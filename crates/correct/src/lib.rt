@@ -1,6 +1,7 @@
 // The driver, `Corrector::correct` of src/correct/mod.rs: a pass, which is one read through one method, and a read through the entries
 // of a job. Document 01, "Driver", and document 02, W1.
 use kmer::Header;
+use kmer::Kmer;
 use turn::Place;
 use turn::Turned;
 ghost use mathlib.Core.Path.{_≡_};
@@ -60,7 +61,14 @@ fn turns_of(
     let mut p = first;
     let mut ahead = scan::first_ahead(head.n, read.len());
     while p.at < read.len() {
-        ahead = scan::read_on(set, starts, head, p.kmer, read, p.at, ahead);
+        if ahead <= p.at {
+            // A copy: what is lent to a call lies in memory, and the pass's own k-mer need not.
+            let kmer = Kmer {
+                code: p.kmer.code,
+                rev: p.kmer.rev,
+            };
+            ahead = scan::read_ahead(set, starts, head, kmer, read, p.at);
+        }
         let Turned::To(next) = turn::turn(set, starts, head, method, c, p, read, out) else {
             return Pass::Full;
         };

@@ -155,42 +155,28 @@ fn first_lines(set: &[u8], starts: &[u32], head: Header, kmer: Kmer, next: &[u8]
     lines
 }
 
-// Reads the lines of the next k-mers, all in one go: lookups one by one wait for memory much longer. It asks nothing. No key is above the
-// mask, so the answer is always no; the compiler does not know that, and keeps the reads.
-fn read_ahead(set: &[u8], starts: &[u32], head: Header, kmer: Kmer, next: &[u8]) -> bool
-    requires { ⌜ Ready (now set) (now starts) head × IsKmer (head .k) kmer × (length (now next) ≤ 16) ⌝ }
-{
-    let lines = first_lines(set, starts, head, kmer, next);
-    let mut words: u64 = 0;
-    for i in 0..16usize {
-        words = words | keys::touch(set, lines[i]);
-    }
-    head.mask < words
-}
-
-// From which base on to read ahead: from none if the set is small, for then its keys are near anyway.
-pub fn first_ahead(n: usize, len: usize) -> usize {
-    if n < 500000 { len } else { 0 }
-}
-
-// Reads ahead for the next 16 bases once those of the last time are behind, and says up to where that is done: any number is right.
-pub fn read_on(
+// Reads the lines of the k-mers of the next 16 bases, all in one go: lookups one by one wait for memory much longer. It asks nothing, and
+// tells up to which base it has read: any number is right. No key is above the mask; the compiler does not know that, and keeps the reads.
+pub fn read_ahead(
     set: &[u8],
     starts: &[u32],
     head: Header,
     kmer: Kmer,
     read: &[u8],
     at: usize,
-    done: usize,
 ) -> usize
     requires { ⌜ Ready (now set) (now starts) head × IsKmer (head .k) kmer × (at ≤ length (now read)) ⌝ }
 {
-    if at < done {
-        return done;
-    }
     let end = at + number::lesser(16, read.len() - at);
-    if read_ahead(set, starts, head, kmer, &read[at..end]) {
-        return at;
+    let lines = first_lines(set, starts, head, kmer, &read[at..end]);
+    let mut words: u64 = 0;
+    for i in 0..16usize {
+        words = words | keys::touch(set, lines[i]);
     }
-    end
+    if head.mask < words { at } else { end }
+}
+
+// From which base on to read ahead: from none if the set is small, for then its keys are near anyway.
+pub fn first_ahead(n: usize, len: usize) -> usize {
+    if n < 500000 { len } else { 0 }
 }

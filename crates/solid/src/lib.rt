@@ -28,7 +28,9 @@ fn count_kmers(set: &[u8], starts: &[u32], head: Header, read: &[u8]) -> u64
     let mut count = set::get(set, starts, head, kmer) as u64;
     let mut ahead = scan::first_ahead(head.n, read.len());
     for i in k..read.len() {
-        ahead = scan::read_on(set, starts, head, kmer, read, i, ahead);
+        if ahead <= i {
+            ahead = scan::read_ahead(set, starts, head, kmer, read, i);
+        }
         kmer = scan::add_base(kmer, read[i], head);
         count += set::get(set, starts, head, kmer) as u64;
     }

@@ -42,11 +42,11 @@ turning c =
       counts = subst Countable (sym (l .loop .inv .2)) (s .pre .3);
     }
 
-read-on-requires : tie.Need-read-on-requires Inv-loop μ-loop
-read-on-requires c κs = search needs
+read-ahead-requires : tie.Need-read-ahead-requires Inv-loop μ-loop
+read-ahead-requires c κs = search needs
 
 turn-requires : tie.Need-turn-requires Inv-loop μ-loop
-turn-requires c κs = turning (c .before .before)
+turn-requires c κs = turning (c .before .before .before)
 
 enum-known-next : tie.Need-enum-known-next Inv-loop μ-loop
 enum-known-next c = search needs
@@ -60,7 +60,7 @@ same-length c = search needs
 returns : tie.Need-returns Inv-loop μ-loop
 returns c =
     let t = c .before .before .before .before in
-    let u = t .before .before .before in
+    let u = t .before .before .before .before in
     let l = u .before .before in
     let a = l .before .before .before .before .before .before .args in
     let full =
@@ -70,28 +70,28 @@ returns c =
 -- What a turn did.
 did : (c : tie.After-next Inv-loop μ-loop)
     → let t = c .before .before .before .before in
-    let l = t .before .before .before .before .before in
+    let l = t .before .before .before .before .before .before in
     let a = l .before .before .before .before .before .before .args in
     TurnIs (a .set .now) (a .head) (a .method) (a .c) (l .loop .p) (a .read .now) (l .loop .out) (t .turn .last .1 .1 .1 .1 .1 .1 .1 .0) (To (c .next .given .0 .0))
 did c =
     let t = c .before .before .before .before in
-    let l = t .before .before .before .before .before in
+    let l = t .before .before .before .before .before .before in
     let a = l .before .before .before .before .before .before .args in
     subst (TurnIs (a .set .now) (a .head) (a .method) (a .c) (l .loop .p) (a .read .now) (l .loop .out) (t .turn .last .1 .1 .1 .1 .1 .1 .1 .0)) (c .next .given .1) (t .turn .ensures)
 
 loop-less : tie.Need-loop-less Inv-loop μ-loop
 loop-less c =
     let n = c .before in
-    fewer-left _ _ _ _ _ _ _ _ (turning (n .before .before .before .before .before .before .before)) _ _ (did n)
+    fewer-left _ _ _ _ _ _ _ _ (turning (n .before .before .before .before .before .before .before .before)) _ _ (did n)
 
 loop-again : tie.Need-loop-again Inv-loop μ-loop
 loop-again c =
     let n = c .before in
     let t = n .before .before .before .before in
-    let l = t .before .before .before .before .before in (
+    let l = t .before .before .before .before .before .before in (
       did n .1,
       t .turn .kept .1 .1 .1 .1 .1 .1 .1 .0 ∙ l .loop .inv .1,
-      same-end _ _ _ _ _ _ _ _ (turning (t .before .before .before)) _ _ (did n) ∙ l .loop .inv .2,
+      same-end _ _ _ _ _ _ _ _ (turning (t .before .before .before .before)) _ _ (did n) ∙ l .loop .inv .2,
     )
 
 same-length-2 : tie.Need-same-length-2 Inv-loop μ-loop
@@ -114,7 +114,7 @@ turns-of-spec =
     μ-loop
     first-ahead-requires
     loop-holds
-    read-on-requires
+    read-ahead-requires
     turn-requires
     enum-known-next
     enum-told

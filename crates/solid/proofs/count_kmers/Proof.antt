@@ -43,8 +43,8 @@ loop-holds c =
       solids-long _ (a .read .now) (setOf (a .set .now)) _ _ (r .1) (s .is) (g .get .ensures),
     )
 
-read-on-requires : tie.Need-read-on-requires Inv-loop μ-loop
-read-on-requires c κs = search needs
+read-ahead-requires : tie.Need-read-ahead-requires Inv-loop μ-loop
+read-ahead-requires c κs = search needs
 
 shared-slice-read-add-base : tie.Need-shared-slice-read-add-base Inv-loop μ-loop
 shared-slice-read-add-base c = search needs
@@ -98,7 +98,7 @@ count-kmers-spec =
     cast-count
     first-ahead-requires
     loop-holds
-    read-on-requires
+    read-ahead-requires
     shared-slice-read-add-base
     add-base-requires
     get-requires-2
