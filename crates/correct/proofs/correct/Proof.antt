@@ -14,8 +14,8 @@ use Rattle.correct.proofs.correct.Statement.{statement}
 use Rattle.correct.proofs.correct.Tie as tie
 
 -- Its counts are those of one pass.
-few : (s : tie.Start) → Small 1 (pass (setOf (s .args .set .now)) (entry (s .args .method) (s .args .c)) (s .args .read .now))
-few s =
+one-pass : (s : tie.Start) → Small 1 (pass (setOf (s .args .set .now)) (entry (s .args .method) (s .args .c)) (s .args .read .now))
+one-pass s =
     let a = s .args in
     one-small _ _ (s .pre .2) (pass-limited _ (s .pre .0 .opens) (a .c) (s .pre .1) (s .fits .c .fits) (a .method) (a .read .now))
 
@@ -33,7 +33,7 @@ returns c =
     record {
       is = rw (pass-short _ _ (a .head) (s .pre .0) (a .method) (a .c) (a .read .now) (q .before .before .if1 .taken)) (q .copied .ensures);
       room = q .copied .kept .1 .0;
-      small = few s;
+      small = one-pass s;
     }
 
 returns-2 : tie.Need-returns-2
@@ -43,7 +43,7 @@ returns-2 c =
     record {
       is = omega (arith, pass-long _ _ (a .head) (s .pre .0) (a .method) (a .c) (a .read .now) (c .before .if1 .left), c .if2 .taken);
       room = refl;
-      small = few s;
+      small = one-pass s;
     }
 
 slice-aggregate-copy : tie.Need-slice-aggregate-copy
@@ -106,7 +106,7 @@ returns-3 c =
     record {
       is = subst₂ (λ (room : ℕ) (n : Rules.Pass). PassIs room (t .turns-of .last .1 .1 .1 .1 .1 .1 .1 .0) n (t .turns-of .result)) copied (begun g) (t .turns-of .ensures);
       room = t .turns-of .kept .1 .1 .1 .1 .1 .1 .1 .0 ∙ copied;
-      small = few (p .before .before .before .before .before .before .before .before .before);
+      small = one-pass (p .before .before .before .before .before .before .before .before .before);
     }
 
 pub correct-spec : {M : Type 1} → statement M
