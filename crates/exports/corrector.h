@@ -102,7 +102,7 @@ enum {
     CORRECTOR_LOOKUPS = 4,
     CORRECTOR_ATTEMPTS = 5,
     CORRECTOR_ACCEPTED = 6,
-    CORRECTOR_YIELD = 7, /* accepted * 1000 / attempts, rounded down; 0 if there were none */
+    CORRECTOR_YIELD = 7, /* accepted * 1000 / attempts to the nearest whole, an exact half to the even neighbour; 0 if there were none */
     CORRECTOR_CALL_NUMBERS = 8 /* how many there are */
 };
 

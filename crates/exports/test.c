@@ -121,8 +121,7 @@ static int counts(const struct done *done, const struct sample *sample)
 {
     return (sample->turns < 0 || done->answer[CORRECTOR_TURNS] == (uint64_t)sample->turns)
         && (sample->lookups < 0 || done->answer[CORRECTOR_LOOKUPS] == (uint64_t)sample->lookups)
-        && done->answer[CORRECTOR_YIELD]
-        == (done->answer[CORRECTOR_ATTEMPTS] ? done->answer[CORRECTOR_ACCEPTED] * 1000 / done->answer[CORRECTOR_ATTEMPTS] : 0);
+        && done->answer[CORRECTOR_YIELD] * done->answer[CORRECTOR_ATTEMPTS] == done->answer[CORRECTOR_ACCEPTED] * 1000;
 }
 
 static int sample_right(const uint8_t *set, const struct sample *sample)
@@ -143,6 +142,29 @@ static void test_samples(const uint8_t *set)
     check("two lines", gives(&two, "AACTCCG\nAA\n") && two.answer[CORRECTOR_TURNS] == 1 && two.answer[CORRECTOR_LOOKUPS] == 24);
     struct done none = run(corrector_batch, set, JOB("\3\1"), "", OUTPUT);
     check("empty batch", gives(&none, ""));
+}
+
+/* ---- the yield: One mends AACGC, and attempts AACG in vain */
+
+static int yields(const uint8_t *set, size_t mended, size_t attempts, uint64_t yield)
+{
+    uint8_t batch[128], output[128], work[256];
+    uint64_t answer[8];
+    size_t length = 0;
+    for (size_t i = 0; i < attempts; i++) {
+        const char *line = i < mended ? "AACGC\n" : "AACG\n";
+        memcpy(batch + length, line, strlen(line));
+        length += strlen(line);
+    }
+    return corrector_batch(set, SET, JOB("\1\1"), batch, length, output, sizeof output, work, sizeof work, answer, 8) == 0
+        && answer[CORRECTOR_ATTEMPTS] == attempts && answer[CORRECTOR_ACCEPTED] == mended && answer[CORRECTOR_YIELD] == yield;
+}
+
+static void test_yields(const uint8_t *set)
+{
+    check("an exact half to the even neighbour", yields(set, 1, 16, 62) && yields(set, 3, 16, 188));
+    check("the nearest whole", yields(set, 2, 3, 667) && yields(set, 1, 3, 333));
+    check("all, none, no attempts", yields(set, 7, 7, 1000) && yields(set, 0, 7, 0) && yields(set, 0, 0, 0));
 }
 
 /* ---- jobs: Two mends AACCG with confirm 2 and not with 1, whichever entry has it */
@@ -447,6 +469,7 @@ int main(void)
     uint8_t set[SET];
     sample_set(set);
     test_samples(set);
+    test_yields(set);
     test_jobs(set);
     test_job_refusals(set);
     test_input_refusals(set);

@@ -41,7 +41,7 @@ pub fn no_room(line: usize, output: &mut [u8], work: &mut [u8]) -> Answer
     Answer::Refused(Refusal::NoRoom(line))
 }
 
-// accepted × 1000 / attempts rounded down.
+// accepted × 1000 / attempts to the nearest whole, an exact half to the even neighbour (document 02, W4).
 fn yield_of(accepted: u64, attempts: u64) -> u64
     requires { ⌜ accepted < 2 ^ 54 ⌝ }
     ensures { λ r. ⌜ r ≡ yieldOf accepted attempts ⌝ }
@@ -49,7 +49,15 @@ fn yield_of(accepted: u64, attempts: u64) -> u64
     if attempts == 0 {
         return 0;
     }
-    accepted * 1000 / attempts
+    let whole = accepted * 1000 / attempts;
+    let rest = accepted * 1000 % attempts;
+    if rest < attempts - rest {
+        return whole;
+    }
+    if attempts - rest < rest {
+        return whole + 1;
+    }
+    whole + whole % 2
 }
 
 // Accepted: the report on what was done.

@@ -1,7 +1,8 @@
--- Document 01, "Records", Report.
-use Prim.Native.Nat.{ℕ, _*_, _/_}
+-- Document 01, "Records", Report; document 02, W4: the yield to the nearest whole.
+use Prim.Native.Nat.{ℕ, _+_, _*_, _/_, _%_, _≤_}
+use mathlib.Core.Path.{_≡_}
 use mathlib.Core.Bool.{true, false}
-use lib.Dec.{eqb}
+use lib.Dec.{eqb, ltb}
 
 -- Bytes written, turns, lookups, attempts, accepted, and yield.
 pub record Report : Type 0 where
@@ -12,6 +13,23 @@ pub record Report : Type 0 where
   pub accepted : ℕ
   pub yield : ℕ
 
--- accepted × 1000 / attempts rounded down, 0 if no attempts.
+-- q is the whole number nearest to a / d, an exact half going to the even neighbour: q is at most one half below a / d and at most one half
+-- above it, and where it is just one half, q is even. (All is multiplied by 2d.)
+pub record Nearest (a d q : ℕ) : Type 0 where
+  pub not-below : 2 * a ≤ 2 * (q * d) + d
+  pub not-above : 2 * (q * d) ≤ 2 * a + d
+  pub half-below : 2 * a ≡ 2 * (q * d) + d → q % 2 ≡ 0
+  pub half-above : 2 * (q * d) ≡ 2 * a + d → q % 2 ≡ 0
+
+-- That number: a / d down or up, by what is left.
+unfoldable pub nearest : ℕ → ℕ → ℕ
+nearest a d =
+    elim (ltb (2 * (a % d)) d) [
+      | true ↦ a / d
+      | false ↦ elim (eqb (2 * (a % d)) d) [ true ↦ a / d + a / d % 2 | false ↦ a / d + 1 ]
+    ]
+
+-- accepted × 1000 / attempts to the nearest whole, 0 if no attempts.
 unfoldable pub yieldOf : ℕ → ℕ → ℕ
-yieldOf accepted attempts = elim (eqb attempts 0) [ true ↦ 0 | false ↦ accepted * 1000 / attempts ]
+unfolding nearest
+yieldOf accepted attempts = elim (eqb attempts 0) [ true ↦ 0 | false ↦ nearest (accepted * 1000) attempts ]

@@ -140,6 +140,20 @@ fn passes_of(set: &Set, entries: &[Entry], read: &[u8]) -> Vec<Pass> {
     made
 }
 
+/// Rounded to the nearest whole, an exact half to the even neighbour; 0 without attempts (document 02, W4).
+fn nearest(parts: u64, whole: u64) -> u64 {
+    if whole == 0 {
+        return 0;
+    }
+    let (quotient, rest) = (parts / whole, parts % whole);
+    match (2 * rest).cmp(&whole) {
+        std::cmp::Ordering::Less => quotient,
+        std::cmp::Ordering::Greater => quotient + 1,
+        std::cmp::Ordering::Equal if quotient % 2 == 0 => quotient,
+        std::cmp::Ordering::Equal => quotient + 1,
+    }
+}
+
 /// Numbers are sums over all passes, yield from the sums.
 fn report(written: usize, passes: &[Vec<Pass>]) -> Report {
     let sum = |of: fn(&Pass) -> u64| passes.iter().flatten().map(of).sum();
@@ -150,6 +164,6 @@ fn report(written: usize, passes: &[Vec<Pass>]) -> Report {
         lookups: sum(|pass| pass.lookups),
         attempts,
         accepted,
-        yields: (accepted * 1000).checked_div(attempts).unwrap_or(0),
+        yields: nearest(accepted * 1000, attempts),
     }
 }

@@ -78,7 +78,7 @@ pub struct Report {
     pub attempts: u64,
     /// Attempts that were accepted.
     pub accepted: u64,
-    /// Accepted × 1000 / attempts, rounded down; 0 without attempts.
+    /// Accepted × 1000 / attempts to the nearest whole, an exact half to the even neighbour; 0 without attempts.
     pub yield_: u64,
 }
 

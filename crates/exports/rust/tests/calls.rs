@@ -134,6 +134,17 @@ fn lists_of_methods_and_of_lines() {
     Done::batch(&set, job, b"").gives(b"");
 }
 
+/// One mends AACGC, and attempts AACG in vain.
+#[test]
+fn yields_to_the_nearest() {
+    for (mended, attempts, yields) in [(1, 16, 62), (3, 16, 188), (2, 3, 667), (1, 3, 333), (7, 7, 1000), (0, 7, 0), (0, 0, 0)] {
+        let batch = [b"AACGC\n".repeat(mended), b"AACG\n".repeat(attempts - mended)].concat();
+        let (mut output, mut work) = (vec![0; batch.len()], vec![0; 2 * batch.len()]);
+        let report = correct_batch(&sample_set(), ONE, &batch, &mut output, &mut work).expect("accepted");
+        assert_eq!((report.attempts, report.accepted, report.yield_), (attempts as u64, mended as u64, yields));
+    }
+}
+
 /// Two mends AACCG with confirm 2 and not with 1, whichever pass has it: the counts of both passes are those that they have alone.
 #[test]
 fn each_pass_has_its_own_confirm() {
