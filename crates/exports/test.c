@@ -184,6 +184,14 @@ static void test_lines(const uint8_t *set)
     check("6, a line more", lines(set, CORRECTOR_MAX_LINES + 1) == CORRECTOR_BATCH);
 }
 
+static int not_counted(const uint8_t *set, size_t length, const uint8_t *read, size_t read_length, uint64_t refusal, uint64_t place)
+{
+    uint64_t answer[CORRECTOR_SOLID_NUMBERS];
+    uint64_t number = corrector_count_solid(set, length, read, read_length, answer, CORRECTOR_SOLID_NUMBERS);
+    return number == refusal && answer[CORRECTOR_NUMBER] == refusal && answer[CORRECTOR_PLACE] == place && answer[CORRECTOR_KMERS] == 0
+        && answer[CORRECTOR_SOLID] == 0;
+}
+
 static int set_refused(const uint8_t *set, size_t length, uint64_t number, uint64_t place)
 {
     struct done done;
@@ -193,7 +201,7 @@ static int set_refused(const uint8_t *set, size_t length, uint64_t number, uint6
         set, length, 1, (const uint8_t *)"\1", 1, (const uint8_t *)"AAC", 3, done.output, OUTPUT, done.work, WORK, done.answer, CORRECTOR_CALL_NUMBERS);
     return refuses(&done, OUTPUT, number, place) && corrector_open(set, length, opened, CORRECTOR_OPEN_NUMBERS) == number
         && opened[CORRECTOR_NUMBER] == number && opened[CORRECTOR_PLACE] == place && opened[CORRECTOR_K] == 0 && opened[CORRECTOR_N] == 0
-        && corrector_count_solid(set, length, (const uint8_t *)"AAC", 3) == 0;
+        && not_counted(set, length, (const uint8_t *)"AAC", 3, number, place);
 }
 
 static void test_set_refusals(void)
@@ -280,20 +288,12 @@ static void test_answers(const uint8_t *set)
     check("answers of a refused batch", short_answers(corrector_batch, set, 1, "AACGC"));
 }
 
-static int counts(const uint8_t *set, size_t length, const char *read, uint64_t kmers, uint64_t solid)
+static int counts_solid(const uint8_t *set, size_t length, const char *read, uint64_t kmers, uint64_t solid)
 {
     uint64_t answer[CORRECTOR_SOLID_NUMBERS];
     uint64_t number = corrector_count_solid(set, length, (const uint8_t *)read, strlen(read), answer, CORRECTOR_SOLID_NUMBERS);
     return number == answer[CORRECTOR_NUMBER] && number == CORRECTOR_NOT_REFUSED && answer[CORRECTOR_PLACE] == 0
         && answer[CORRECTOR_KMERS] == kmers && answer[CORRECTOR_SOLID] == solid;
-}
-
-static int not_counted(const uint8_t *set, size_t length, const uint8_t *read, size_t read_length, uint64_t refusal, uint64_t place)
-{
-    uint64_t answer[CORRECTOR_SOLID_NUMBERS];
-    uint64_t number = corrector_count_solid(set, length, read, read_length, answer, CORRECTOR_SOLID_NUMBERS);
-    return number == refusal && answer[CORRECTOR_NUMBER] == refusal && answer[CORRECTOR_PLACE] == place && answer[CORRECTOR_KMERS] == 0
-        && answer[CORRECTOR_SOLID] == 0;
 }
 
 static void test_count(const uint8_t *set)
@@ -302,9 +302,9 @@ static void test_count(const uint8_t *set)
     uint8_t wrong[SET];
     memcpy(wrong, set, SET);
     wrong[SET - 1]++;
-    check("solid k-mers", counts(set, SET, "AACTCCG", 5, 5) && counts(set, SET, "AACGC", 3, 1) && counts(set, SET, "AAC", 1, 1)
-        && counts(set, SET, "ACGT", 2, 0));
-    check("no k-mers", counts(set, SET, "AA", 0, 0) && counts(set, SET, "", 0, 0));
+    check("solid k-mers", counts_solid(set, SET, "AACTCCG", 5, 5) && counts_solid(set, SET, "AACGC", 3, 1) && counts_solid(set, SET, "AAC", 1, 1)
+        && counts_solid(set, SET, "ACGT", 2, 0));
+    check("no k-mers", counts_solid(set, SET, "AA", 0, 0) && counts_solid(set, SET, "", 0, 0));
     check("a count is refused", not_counted(set, SET, long_read, sizeof long_read, CORRECTOR_INPUT_LENGTH, 0)
         && not_counted(set, SET - 1, long_read, 3, CORRECTOR_SET_LENGTH, 0) && not_counted(wrong, SET, long_read, 3, CORRECTOR_SET_CHECK, 1));
 }
