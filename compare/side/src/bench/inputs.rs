@@ -1,4 +1,5 @@
 //! Genomes, their sets and reads.
+use super::system::on_huge_pages;
 use crate::oracle::Keys;
 use crate::rng::Rng;
 use crate::set_file::{self, BLOCK, WORDS};
@@ -13,6 +14,8 @@ pub struct World {
     pub genome: Vec<u8>,
     pub set: Vec<u8>,
     pub rust: Keys,
+    /// Whether set and table were asked for on huge pages.
+    pub huge: bool,
     circle: bool,
 }
 
@@ -30,15 +33,19 @@ impl World {
             kmer
         });
         let keys = set_file::keys_of(k, kmers.skip(k as usize - 1));
-        World { k, keys: keys.len(), set: set_file::make(k as u64, &keys), rust: Keys::new(k, &keys), genome, circle }
+        World { k, keys: keys.len(), set: set_file::make(k as u64, &keys), rust: Keys::new(k, &keys), huge: false, genome, circle }
     }
 
-    /// The same once more: while `system::on_huge_pages` builds it, the set and the Rust's table lie there.
-    pub fn again(&self) -> Self {
+    /// The same once more, with the set and the Rust's table on huge pages.
+    pub fn on_huge_pages(&self) -> Self {
+        on_huge_pages(|| self.again())
+    }
+
+    fn again(&self) -> Self {
         let word = |word: &[u8]| word.iter().rev().fold(0_u64, |sum, byte| sum << 8 | *byte as u64);
         let keys = self.set.chunks_exact(BLOCK).skip(1).flat_map(|block| block.chunks_exact(8).take(WORDS).map(word)).take(self.keys);
         let rust = Keys::from_iter(self.k, keys);
-        World { k: self.k, keys: self.keys, set: self.set.clone(), rust, genome: self.genome.clone(), circle: self.circle }
+        World { k: self.k, keys: self.keys, set: self.set.clone(), rust, huge: true, genome: self.genome.clone(), circle: self.circle }
     }
 
     /// The genome from a place, round and round if it is a circle.

@@ -27,6 +27,7 @@ pub struct Cell {
     pub method: Method,
     pub keys: usize,
     pub k: u8,
+    pub huge: bool,
     pub errors: usize,
     pub reads: usize,
     pub bases: usize,
@@ -173,7 +174,7 @@ pub fn cell(library: &dyn Library, world: &World, method: Method, errors: usize,
     let mut batch = Batch::of_cell(library, world, method, errors);
     let rounds = batch.rounds();
     let lookups = batch.report.as_ref().map_or(0, |report| report.lookups);
-    Cell { method, keys: world.keys, k: world.k, errors, reads: batch.reads.len(), bases: batch.bases(), lookups, rounds, a_lookup }
+    Cell { method, keys: world.keys, k: world.k, huge: world.huge, errors, reads: batch.reads.len(), bases: batch.bases(), lookups, rounds, a_lookup }
 }
 
 /// Plain loops over the k-mers of reads, joined to one; opening and preparing the set are taken off. Both sides count the same solid ones.
@@ -196,9 +197,15 @@ pub fn loops(library: &dyn Library, world: &World, errors: usize) -> Loops {
     Loops { ours: (!ours.is_empty()).then(|| median(ours)), rust: median(rust) }
 }
 
-pub fn placing(world: &World, huge: bool) -> Placing {
+pub fn placing(world: &World) -> Placing {
     let address = world.set.as_ptr() as usize;
-    Placing { keys: world.keys, huge, offset: address % 64, ours: on_huge_pages(address), rust: world.rust.address().and_then(on_huge_pages) }
+    Placing {
+        keys: world.keys,
+        huge: world.huge,
+        offset: address % 64,
+        ours: on_huge_pages(address),
+        rust: world.rust.address().and_then(on_huge_pages),
+    }
 }
 
 /// Opening the set, and reading the same bytes as words.

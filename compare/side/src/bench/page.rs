@@ -144,16 +144,17 @@ fn huge_table(page: &mut String, results: &Results) {
     placing_table(page, &results.placings);
     let _ = writeln!(
         page,
-        "| keys | k | method | errors | reads × rounds | ours Mb/s | Rust Mb/s | ratio | from | to | less opening | plain ours Mb/s | plain Rust Mb/s | plain ratio |"
+        "| keys | k | method | errors | reads × rounds | ours Mb/s | Rust Mb/s | ratio | from | to | less opening | plain ours Mb/s | plain Rust Mb/s | plain ratio | plain Rust's time by ours on huge pages |"
     );
-    let _ = writeln!(page, "|--:|--:|---|--:|--:|--:|--:|--:|--:|--:|--:|--:|--:|--:|");
+    let _ = writeln!(page, "|--:|--:|---|--:|--:|--:|--:|--:|--:|--:|--:|--:|--:|--:|--:|");
     for cell in &results.huge {
         let same = |plain: &&Cell| (plain.keys, plain.k, plain.method, plain.errors) == (cell.keys, cell.k, cell.method, cell.errors);
         let plain = results.cells.iter().find(same).map(|plain| {
             let speed = |seconds: f64| figure(plain.bases as f64 / seconds / 1e6);
-            format!("{} | {} | {:.2}", speed(plain.rounds.ours()), speed(plain.rounds.rust()), plain.rounds.ratio().median)
+            let across = plain.rounds.rust() / cell.rounds.ours();
+            format!("{} | {} | {:.2} | {across:.2}", speed(plain.rounds.ours()), speed(plain.rounds.rust()), plain.rounds.ratio().median)
         });
-        let plain = plain.unwrap_or(format!("{NONE} | {NONE} | {NONE}"));
+        let plain = plain.unwrap_or(format!("{NONE} | {NONE} | {NONE} | {NONE}"));
         let _ = writeln!(page, "| {} | {} | {:?} | {} % | {} | {plain} |", short(cell.keys), cell.k, cell.method, cell.errors, speeds(cell));
     }
     page.push('\n');
@@ -186,21 +187,20 @@ fn split_table(page: &mut String, splits: &[Split]) {
     }
     let _ = writeln!(
         page,
-        "## Where a call's time goes\n\nOne batch call, in ms. *Opening* is `corrector_open` alone; *starts*, the table of starts, a batch call without a line less that; both by the clock. What is left is \
-         split by where a timer finds the call, about 2,000 times a second: *lookups* in functions of the crates `set` and `keys`, *the rest* elsewhere. A function that the compiler wrote into its caller counts as the \
-         caller's: the second table shows which are there. So reading ahead, which waits for the set's lines before lookups need them, counts as `correct::correct`.\n"
+        "## Where a call's time goes\n\nOne batch call, in ms. *Opening* is `corrector_open` alone; *starts*, the table of starts, a batch call without a line less that. What is left is \
+         split by where a timer finds the call, about 2,000 times a second: *lookups* in functions of the crates `set` and `keys`, *ahead* in `scan::read_ahead`, which reads the lines of the next k-mers before lookups need them, \
+         *the rest* elsewhere; *ns a lookup* is of *lookups* and *ahead*. A function that the compiler wrote into its caller counts as the caller's: the second table shows which are there.\n"
     );
-    let _ =
-        writeln!(page, "| keys | k | method | errors | reads | call | opening | starts | lookups | the rest | M lookups | ns a lookup | samples |");
-    let _ = writeln!(page, "|--:|--:|---|--:|--:|--:|--:|--:|--:|--:|--:|--:|--:|");
+    let _ = writeln!(
+        page,
+        "| keys | k | method | errors | reads | call | opening | starts | lookups | ahead | the rest | M lookups | ns a lookup | samples |"
+    );
+    let _ = writeln!(page, "|--:|--:|---|--:|--:|--:|--:|--:|--:|--:|--:|--:|--:|--:|");
     for split in splits {
         let milliseconds = |seconds: f64| format!("{:.1}", seconds * 1e3);
-        let (left, lookups) = (split.left(), split.lookups as f64);
-        // Without the functions of lookups both stand together.
-        let parts = match split.asking {
-            Some(part) => format!("{} | {}", milliseconds(left * part), milliseconds(left * (1.0 - part))),
-            None => format!("with the rest | {}", milliseconds(left)),
-        };
+        let (lookups, ahead, rest) = split.parts();
+        let parts = format!("{} | {} | {}", lookups.map_or("with the rest".to_string(), milliseconds), milliseconds(ahead), milliseconds(rest));
+        let a_lookup = |seconds: f64| seconds / split.lookups as f64 * 1e9;
         let _ = writeln!(
             page,
             "| {} | {} | {:?} | {} % | {} | {} | {} | {} | {parts} | {:.2} | {:.1} | {} |",
@@ -212,8 +212,8 @@ fn split_table(page: &mut String, splits: &[Split]) {
             milliseconds(split.call),
             milliseconds(split.opening),
             milliseconds(split.starts),
-            lookups / 1e6,
-            left * split.asking.unwrap_or(1.0) / lookups * 1e9,
+            split.lookups as f64 / 1e6,
+            a_lookup(lookups.unwrap_or(rest) + ahead),
             split.samples
         );
     }

@@ -26,8 +26,9 @@ pub struct Split {
     pub call: f64,
     pub opening: f64,
     pub starts: f64,
-    /// Of what is left: the part in the lookups' own functions, where they are in use.
+    /// Of what is left: the part in the lookups' own functions, where they are in use, and in the one that reads ahead of them.
     pub asking: Option<f64>,
+    pub ahead: f64,
     pub samples: usize,
     /// Parts of the whole, by function.
     pub functions: BTreeMap<String, f64>,
@@ -38,9 +39,15 @@ impl Split {
     pub fn left(&self) -> f64 {
         (self.call - self.opening - self.starts).max(0.0)
     }
+
+    /// Lookups, reading ahead and the rest; without the functions of lookups these stand with the rest.
+    pub fn parts(&self) -> (Option<f64>, f64, f64) {
+        let left = self.left();
+        (self.asking.map(|part| left * part), left * self.ahead, left * (1.0 - self.asking.unwrap_or(0.0) - self.ahead))
+    }
 }
 
-/// Functions of opening a set, and the one that fills the table of starts.
+/// Functions of opening a set, the one that fills the table of starts, the lookups' own, and the one that reads ahead of them.
 fn opens(name: &str) -> bool {
     name.starts_with("blocks::")
 }
@@ -51,6 +58,10 @@ fn prepares(name: &str) -> bool {
 
 fn asks(name: &str) -> bool {
     (name.starts_with("set::") || name.starts_with("keys::")) && !prepares(name)
+}
+
+fn reads_ahead(name: &str) -> bool {
+    name.starts_with("scan::read_ahead")
 }
 
 pub fn split(library: &dyn Library, world: &World, method: Method, errors: usize) -> Split {
@@ -65,9 +76,9 @@ pub fn split(library: &dyn Library, world: &World, method: Method, errors: usize
     let symbols = Symbols::of_this_program();
     let functions = symbols.as_ref().and_then(|symbols| by_function(symbols, &mut batch)).unwrap_or_default();
     let count = |part: fn(&str) -> bool| functions.iter().filter(|function| part(function.0)).map(|function| function.1).sum::<usize>();
-    let samples = functions.values().sum();
-    let left = samples - count(opens) - count(prepares);
-    let asking = count(asks) as f64 / (left as f64).max(1.0);
+    let samples: usize = functions.values().sum();
+    let left = (samples - count(opens) - count(prepares)).max(1) as f64;
+    let asking = count(asks) as f64 / left;
     Split {
         keys: world.keys,
         k: world.k,
@@ -79,6 +90,7 @@ pub fn split(library: &dyn Library, world: &World, method: Method, errors: usize
         opening,
         starts: (empty - opening).max(0.0),
         asking: (asking > LEAST_ASKING).then_some(asking),
+        ahead: count(reads_ahead) as f64 / left,
         samples,
         functions: functions.into_iter().map(|(name, count)| (name, count as f64 / samples as f64)).collect(),
     }

@@ -6,7 +6,7 @@ use std::fmt::Write;
 
 /// Rust's time by ours, at least.
 fn goal(cell: &Cell) -> f64 {
-    if cell.errors <= 5 {
+    if cell.errors <= 5 || cell.huge {
         1.0
     } else {
         0.9
@@ -34,7 +34,10 @@ fn count(cells: &[&Cell], of: fn(&Cell) -> bool) -> usize {
 }
 
 pub fn summary(page: &mut String, plain: &[Cell], huge: &[Cell]) {
-    let _ = writeln!(page, "## In short\n\nThe goal is a ratio of at least 1.0 at 1 and 5 % errors, and of 0.9 at 12 %.");
+    let _ = writeln!(
+        page,
+        "## In short\n\nThe goal is a ratio of at least 1.0 at 1 and 5 % errors, and of 0.9 at 12 %; on huge pages of 1.0 everywhere."
+    );
     sentence(page, "", plain);
     sentence(page, " on huge pages", huge);
     let _ = writeln!(
@@ -93,10 +96,8 @@ fn row(page: &mut String, size: &str, cells: &[&Cell]) {
 
 /// The cells that miss it, those that miss it most first.
 fn short_of_goal(page: &mut String, plain: &[Cell], huge: &[Cell]) {
-    let marked = |cells: &'static str| move |cell| (cell, cells);
-    let mut cells: Vec<(&Cell, &str)> = plain.iter().map(marked("")).chain(huge.iter().map(marked(", huge pages"))).collect();
-    cells.retain(|(cell, _)| !meets(cell));
-    cells.sort_by(|(a, _), (b, _)| shortfall(b).total_cmp(&shortfall(a)));
+    let mut cells: Vec<&Cell> = plain.iter().chain(huge).filter(|cell| !meets(cell)).collect();
+    cells.sort_by(|a, b| shortfall(b).total_cmp(&shortfall(a)));
     if cells.is_empty() {
         page.push_str("No cell falls short of the goal.\n\n");
         return;
@@ -105,8 +106,8 @@ fn short_of_goal(page: &mut String, plain: &[Cell], huge: &[Cell]) {
         page,
         "Short of the goal:\n\n| keys | k | method | errors | goal | ratio | its rounds from | to | short by |\n|--:|--:|---|--:|--:|--:|--:|--:|--:|"
     );
-    for (cell, pages) in cells {
-        let ratio = cell.rounds.ratio();
+    for cell in cells {
+        let (ratio, pages) = (cell.rounds.ratio(), if cell.huge { ", huge pages" } else { "" });
         let _ = writeln!(
             page,
             "| {}{pages} | {} | {:?} | {} % | {:.1} | {:.2} | {:.2} | {:.2} | {:.2} |",

@@ -3,7 +3,7 @@ use side::bench::inputs::World;
 use side::bench::measure::{cell, gap, loops, opening, placing, Cell};
 use side::bench::page::{Peak, Results};
 use side::bench::split::{split, Split};
-use side::bench::system::{count_running_time, on_huge_pages, Allocator};
+use side::bench::system::{count_running_time, Allocator};
 use side::bench::{chart, make, memory, page};
 use side::cases::batch_of;
 use side::library::{library, Library};
@@ -173,9 +173,9 @@ fn measure(library: &dyn Library, options: &Options, world: &World, results: &mu
         }
     }
     if options.beside(world, options.huge) {
-        let huge = on_huge_pages(|| world.again());
+        let huge = world.on_huge_pages();
         eprintln!("on huge pages:");
-        results.placings.extend([placing(world, false), placing(&huge, true)]);
+        results.placings.extend([placing(world), placing(&huge)]);
         results.huge.extend(cells(library, options, &huge));
     }
 }
@@ -213,19 +213,18 @@ fn say(cell: &Cell) {
 }
 
 fn say_split(split: &Split) {
-    let (milliseconds, left) = (|seconds: f64| seconds * 1e3, split.left());
-    eprint!(
-        "  {:?}, {} %: call {:.1} ms, opening {:.1}, starts {:.1}, ",
+    let (milliseconds, (lookups, ahead, rest)) = (|seconds: f64| seconds * 1e3, split.parts());
+    eprintln!(
+        "  {:?}, {} %: call {:.1} ms, opening {:.1}, starts {:.1}, lookups {}, ahead {:.1}, the rest {:.1}",
         split.method,
         split.errors,
         milliseconds(split.call),
         milliseconds(split.opening),
-        milliseconds(split.starts)
+        milliseconds(split.starts),
+        lookups.map_or("with the rest".to_string(), |seconds| format!("{:.1}", milliseconds(seconds))),
+        milliseconds(ahead),
+        milliseconds(rest)
     );
-    match split.asking {
-        Some(part) => eprintln!("lookups {:.1}, the rest {:.1}", milliseconds(left * part), milliseconds(left * (1.0 - part))),
-        None => eprintln!("lookups and the rest {:.1}", milliseconds(left)),
-    }
 }
 
 /// The set and a batch in files, for a process of each side.
