@@ -15,7 +15,7 @@ use Rattle.rules.specs.Letters.{mask, add, addAll, code, complement, revcomp, e
 use Rattle.rules.proofs.Kmer.{four-pos, add-is, complement-lt, revcomp-lt, revcomp-first, ones-in, two-four}
 use Rattle.kmer.specs.declared.Header.{Header}
 use Rattle.kmer.specs.declared.Kmer.{Kmer}
-use Rattle.kmer.specs.Kmer.{Shifts, IsKmer}
+use Rattle.kmer.specs.Kmer.{basePairs, Shifts, IsKmer}
 
 -- k is at most 31, so a k-mer is below 2 ^ 62
 pub bound : (k : ℕ) → k ≤ 31 → 4 ^ k ≤ 2 ^ 62
@@ -43,6 +43,14 @@ shifted head y a s l h = rw (s .mask-is) (go (head .k) (s .k-low) (s .k-high) l)
         rw (mod-eq-of-lt fits, and-mask-of, kept) (xor-shifted (y % 4 ^ j) 2 a h ∙ sym (add-is j y a h))
 
 -- ---- the reverse complement, carried along
+
+pub pair-is : (a : ℕ) → a < 4 → bitAnd (basePairs / 2 ^ (2 * a)) 3 ≡ complement a
+unfolding basePairs complement
+pair-is zero h = refl
+pair-is (suc zero) h = refl
+pair-is (suc (suc zero)) h = refl
+pair-is (suc (suc (suc zero))) h = refl
+pair-is (suc (suc (suc (suc a)))) h = absurd (omega arith)
 
 -- y+a turned round: y's first letter is the last and goes, and a's complement comes first
 revcomp-add : (k y a : ℕ) → 1 ≤ k → y < 4 ^ k → a < 4 → revcomp k y / 4 + complement a * 4 ^ (k - 1) ≡ revcomp k (add k y a)

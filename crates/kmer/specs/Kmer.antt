@@ -1,9 +1,14 @@
 -- What the functions over k-mers ask and give.
-use Prim.Native.Nat.{ℕ, _-_, _^_, _≤_, _<_}
+use Prim.Native.Nat.{ℕ, _+_, _*_, _-_, _^_, _≤_, _<_}
 use mathlib.Core.Path.{_≡_}
-use Rattle.rules.specs.Letters.{mask, add, revcomp}
+use Rattle.rules.specs.Letters.{mask, add, complement, revcomp}
 use Rattle.kmer.specs.declared.Header.{Header}
 use Rattle.kmer.specs.declared.Kmer.{Kmer}
+
+-- The complements of the four codes, two bits each.
+unfoldable pub basePairs : ℕ
+unfolding complement
+basePairs = complement 0 + 4 * complement 1 + 16 * complement 2 + 64 * complement 3
 
 -- The header's masks belong to its k.
 pub record Shifts (head : Header) : Type 0 where
@@ -11,6 +16,7 @@ pub record Shifts (head : Header) : Type 0 where
   pub k-high : head .k ≤ 31
   pub mask-is : head .mask ≡ mask (head .k)
   pub top-is : head .top ≡ 4 ^ (head .k - 1)
+  pub pairs-are : head .pairs ≡ basePairs
 
 -- The code of a k-mer, and beside it that of its reverse complement.
 pub record IsKmer (k : ℕ) (y : Kmer) : Type 0 where

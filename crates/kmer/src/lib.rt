@@ -4,7 +4,7 @@ ghost use mathlib.Core.Path.{_≡_};
 ghost use Prim.Native.Nat.{_/_, _<_, _≤_, _^_};
 ghost use lib.ListN.{length, take};
 ghost use Rattle.rules.specs.Letters;
-ghost use Rattle.kmer.specs.Kmer.{Shifts, IsKmer, HasCode, Added};
+ghost use Rattle.kmer.specs.Kmer.{basePairs, Shifts, IsKmer, HasCode, Added};
 
 // What a set's header says, k and n, with what lookups and shifts need beside it.
 pub struct Header {
@@ -12,6 +12,7 @@ pub struct Header {
     pub n: usize,
     pub mask: u64,
     pub top: u64,
+    pub pairs: u64,
     pub shift: u32,
 }
 
@@ -88,6 +89,21 @@ fn complement(nuc: u64) -> u64
     }
 }
 
+// The complements of the four codes, two bits each. The match is made once a call: at each base it would slow a pass.
+fn base_pairs() -> u64
+    ensures { λ r. ⌜ r ≡ basePairs ⌝ }
+{
+    complement(0) + 4 * complement(1) + 16 * complement(2) + 64 * complement(3)
+}
+
+// The complement, from those that the header holds.
+fn pair_of(nuc: u64, head: Header) -> u64
+    requires { ⌜ Shifts head × (nuc < 4) ⌝ }
+    ensures { λ r. ⌜ r ≡ Letters.complement nuc ⌝ }
+{
+    (head.pairs >> (2 * nuc)) & 3
+}
+
 pub fn mask(k: usize) -> u64
     requires { ⌜ k < 32 ⌝ }
     ensures { λ r. ⌜ r ≡ Letters.mask k ⌝ }
@@ -104,6 +120,7 @@ pub fn header_of(k: usize, n: usize, shift: u32) -> Header
         n,
         mask: mask(k),
         top: mask(k - 1) + 1,
+        pairs: base_pairs(),
         shift,
     }
 }
@@ -122,7 +139,7 @@ pub fn add_nuc_to_end(kmer: Kmer, nuc: u64, head: Header) -> Kmer
 {
     Kmer {
         code: shift_in(kmer.code, nuc, head),
-        rev: kmer.rev / 4 + complement(nuc) * head.top,
+        rev: kmer.rev / 4 + pair_of(nuc, head) * head.top,
     }
 }
 

@@ -7,7 +7,7 @@
 //! Each call opens the set and fills a table of where its keys start, 6 ms at 4 million keys and 22 at 16 million, so send batches as long as may
 //! be. A large `Vec<u8>` starts 16 bytes into a page, where lookups in a set of millions of keys take more lines of memory than they need to:
 //! lend it from memory that starts at a multiple of 64 bytes (4 to 7 % less time), or better of 2 MB, with `madvise(.., MADV_HUGEPAGE)`
-//! before the set is read into it (5 to 23 % less).
+//! before the set is read into it (5 to 27 % less).
 //!
 //! ```
 //! # fn set_of(k: u64, keys: &[u64]) -> Vec<u8> {
