@@ -11,7 +11,7 @@ use Rattle.rules.specs.Driver.{Pass}
 use Rattle.rules.specs.Job.{Entry, entriesOf, pass, result}
 use Rattle.rules.specs.Counts.{Fed, sum, allPasses, turns, lookups, ceiling}
 use Rattle.rules.specs.Calls.{Given, After, correctRead, correctBatch}
-use Rattle.rules.specs.Samples.{A, C, T, G, AACGTC, AACGCCG, sampleSet, sampleBytes, Sample, line, table, JobSample, jobLine, jobTable}
+use Rattle.rules.specs.Samples.{A, C, T, G, AACGTC, AACGCCG, sampleSet, sampleBytes, Sample, line, table, unknownTable, JobSample, jobLine, jobTable}
 use Rattle.rules.specs.Scenarios.{OnSet, on, scenarioTable}
 
 -- A line as the rules have it: its bytes, turns and lookups computed.
@@ -23,6 +23,11 @@ byRules set s = (let p : Pass = pass set (record { method = s .method; confirm =
 pub samples : map (byRules sampleSet) table ≡ table
 unfolding byRules table sampleSet
 samples = refl
+
+-- And every line of the reads with unknown letters, document 02, W5.
+pub unknownSamples : map (byRules sampleSet) unknownTable ≡ unknownTable
+unfolding byRules unknownTable sampleSet
+unknownSamples = refl
 
 pub byRulesOn : OnSet → OnSet
 unfolding byRules
