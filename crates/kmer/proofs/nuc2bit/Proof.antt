@@ -1,12 +1,31 @@
-use Prim.Native.Nat.{_/_}
-use lib.Bits.{and-mask}
+use mathlib.Core.Path.{_≡_, refl, sym}
 use Rattle.rules.specs.Letters.{code}
+use Rattle.kmer.proofs.Laws.{code-pair, code-none}
 use Rattle.kmer.proofs.nuc2bit.Statement.{statement}
 use Rattle.kmer.proofs.nuc2bit.Tie as tie
 
 returns : tie.Need-returns
 unfolding code
-returns c = and-mask (c .args .nuc / 2) 2
+returns c = sym (code-pair 65 97 refl refl (c .match .keys1))
+
+returns-2 : tie.Need-returns-2
+unfolding code
+returns-2 c = sym (code-pair 67 99 refl refl (c .match .keys2))
+
+returns-3 : tie.Need-returns-3
+unfolding code
+returns-3 c = sym (code-pair 84 116 refl refl (c .match .keys3))
+
+returns-4 : tie.Need-returns-4
+unfolding code
+returns-4 c = sym (code-pair 85 117 refl refl (c .match .keys4))
+
+returns-5 : tie.Need-returns-5
+unfolding code
+returns-5 c = sym (code-pair 71 103 refl refl (c .match .keys5))
+
+returns-6 : tie.Need-returns-6
+returns-6 c = (let r = c .match .rest in sym (code-none _ (r .0 .0 .0 .0 .1) (r .0 .0 .0 .1) (r .0 .0 .1) (r .0 .1) (r .1)))
 
 pub nuc2bit-spec : {M : Type 1} → statement M
-nuc2bit-spec = tie.close (tie.spec returns)
+nuc2bit-spec = tie.close (tie.spec returns returns-2 returns-3 returns-4 returns-5 returns-6)

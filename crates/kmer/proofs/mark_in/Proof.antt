@@ -1,0 +1,19 @@
+use native.Mathlib.Omega.{arith}
+use lib.Bits.{and-mask}
+use Rattle.rules.specs.Letters.{push}
+use Rattle.kmer.proofs.Laws.{bits-fit}
+use Rattle.kmer.proofs.mark_in.Statement.{statement}
+use Rattle.kmer.proofs.mark_in.Tie as tie
+
+mul-result : tie.Need-mul-result
+mul-result c = omega (arith, c .pre .1, bits-fit (c .args .head .k) (c .pre .0 .k-high))
+
+add-result : tie.Need-add-result
+add-result c = omega (arith, c .pre .1, c .pre .2, bits-fit (c .args .head .k) (c .pre .0 .k-high))
+
+returns : tie.Need-returns
+unfolding push
+returns c = (let b = c .before in rw (b .pre .0 .letters-are) (and-mask _ (b .args .head .k)))
+
+pub mark-in-spec : {M : Type 1} → statement M
+mark-in-spec = tie.close (tie.spec mul-result add-result returns)
