@@ -19,7 +19,7 @@ use Rattle.rules.specs.Letters.{mask, push, add, addAll, hasCode, code, complem
 use Rattle.rules.proofs.Kmer.{four-pos, push-is, push-lt, complement-lt, revcomp-lt, revcomp-first, ones-in, two-four}
 use Rattle.kmer.specs.declared.Header.{Header}
 use Rattle.kmer.specs.declared.Kmer.{Kmer}
-use Rattle.kmer.specs.Kmer.{basePairs, Shifts, IsKmer}
+use Rattle.kmer.specs.Kmer.{basePairs, Shifts, kmerOf, IsKmer, HasLetters}
 
 -- k is at most 31, so a k-mer is below 2 ^ 62
 pub bound : (k : ℕ) → k ≤ 31 → 4 ^ k ≤ 2 ^ 62
@@ -166,3 +166,14 @@ pub next-base : (k i : ℕ) (y : rules.Kmer) (seq : List ℕ) → i < k → k �
     → addAll k y (slice i k seq) ≡ addAll k (add k y (code (getD seq i 0))) (slice (i + 1) k seq)
 unfolding addAll
 next-base k i y seq l h = rw (slice-cons i k seq 0 l h, add-one)
+
+-- ---- a k-mer by the rules
+
+module _ {k : ℕ} {y : rules.Kmer} {r : Kmer} (is : HasLetters k y r) where
+  pub code-is : r .code ≡ y .code
+  unfolding kmerOf
+  code-is = ap (λ (z : rules.Kmer). z .code) (is .is)
+
+  pub unknown-is : r .unknown ≡ y .unknown
+  unfolding kmerOf
+  unknown-is = ap (λ (z : rules.Kmer). z .unknown) (is .is)

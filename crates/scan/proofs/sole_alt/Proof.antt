@@ -1,7 +1,7 @@
-use Prim.Native.Nat.{ℕ}
 use native.Mathlib.Omega.{arith}
 use mathlib.Core.Path.{ap, _∙_}
 use borrow.Author.Needs.{needs}
+use Rattle.rules.specs.Letters.{Kmer}
 use Rattle.rules.specs.Counted.{Try}
 use Rattle.scan.proofs.Laws.{alternative-is, no-next, next-is, nuc-lt}
 use Rattle.scan.proofs.sole_alt.Statement.{statement}
@@ -22,7 +22,7 @@ enum-told c = search needs
 returns : tie.Need-returns
 returns c =
     let n = c .before .before in
-    ap (λ (t : Try ℕ). t .answer) (alternative-is _ _ _)
+    ap (λ (t : Try Kmer). t .answer) (alternative-is _ _ _)
     ∙ no-next _ _ _ (n .sole-nuc .result) (n .before .alt-nucs .ensures) (n .sole-nuc .ensures) (c .enum-told .given .1)
 
 drop-last-requires : tie.Need-drop-last-requires
