@@ -15,8 +15,8 @@ use lib.Seq.{slice, slice-cons}
 use lib.Arith.{digits-div, digits-mod, mod-mul}
 use lib.Bits.{bitAnd, bitXor, and-mask, xor-shifted}
 use Rattle.rules.specs.Letters as rules
-use Rattle.rules.specs.Letters.{mask, push, add, addAll, hasCode, code, complement, revcomp, evenOnes, canonical}
-use Rattle.rules.proofs.Kmer.{four-pos, push-is, push-lt, complement-lt, revcomp-lt, revcomp-first, ones-in, two-four}
+use Rattle.rules.specs.Letters.{mask, same, push, add, addAll, hasCode, code, complement, revcomp, evenOnes, canonical}
+use Rattle.rules.proofs.Kmer.{known-true, ne-known, same-code, four-pos, push-is, push-lt, complement-lt, revcomp-lt, revcomp-first, ones-in, two-four}
 use Rattle.kmer.specs.declared.Header.{Header}
 use Rattle.kmer.specs.declared.Kmer.{Kmer}
 use Rattle.kmer.specs.Kmer.{basePairs, Shifts, kmerOf, IsKmer, HasLetters}
@@ -168,6 +168,19 @@ unfolding addAll
 next-base k i y seq l h = rw (slice-cons i k seq 0 l h, add-one)
 
 -- ---- a k-mer by the rules
+
+module _ (y z : Kmer) where
+  pub first-unknown : (y .unknown ≡ 0 → ⊥) → same (kmerOf y) (kmerOf z) ≡ false
+  unfolding kmerOf same
+  first-unknown n = rw (ne-known (kmerOf y) n)
+
+  pub second-unknown : y .unknown ≡ 0 → (z .unknown ≡ 0 → ⊥) → same (kmerOf y) (kmerOf z) ≡ false
+  unfolding kmerOf same
+  second-unknown h n = rw (known-true (kmerOf y) h, ne-known (kmerOf z) n)
+
+  pub both-known : y .unknown ≡ 0 → z .unknown ≡ 0 → same (kmerOf y) (kmerOf z) ≡ eqb (y .code) (z .code)
+  unfolding kmerOf
+  both-known h g = same-code (kmerOf y) (kmerOf z) h g
 
 module _ {k : ℕ} {y : rules.Kmer} {r : Kmer} (is : HasLetters k y r) where
   pub code-is : r .code ≡ y .code

@@ -195,6 +195,19 @@ pub fn seq2bit(seq: &[u8], head: Header) -> Kmer
     kmer
 }
 
+// A k-mer that holds an unknown letter is equal to none.
+pub fn same(a: Kmer, b: Kmer) -> bool
+    ensures { λ r. ⌜ r ≡ Letters.same (kmerOf a) (kmerOf b) ⌝ }
+{
+    if a.unknown != 0 {
+        return false;
+    }
+    if b.unknown != 0 {
+        return false;
+    }
+    a.code == b.code
+}
+
 // Over all 64 bits; a k-mer has none above its own 2k.
 pub fn parity_even(code: u64) -> bool
     ensures { λ r. ⌜ r ≡ Letters.evenOnes 32 code ⌝ }

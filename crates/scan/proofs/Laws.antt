@@ -1,6 +1,7 @@
 -- Laws of bases added, the sole successor and the scan in the code's terms.
 use Prim.Native.Nat.{ℕ, zero, suc, _+_, _*_, _/_, _≤_, _<_}
 use native.Mathlib.Omega.{arith}
+use native.Mathlib.Nat.{zero-mod}
 use native.Mathlib.Numerals.{add-one}
 use mathlib.Core.Path.{_≡_, refl, sym, ap, _∙_}
 use mathlib.Core.Bool.{Bool, true, false}
@@ -14,7 +15,8 @@ use Rattle.rules.specs.Letters.{Kmer, add, addBase, addAll, dropLast}
 use Rattle.rules.specs.Counted.{Counted, Try, give, _>>=_, next, after, refuse}
 use Rattle.rules.specs.Scan.{ask, only, yesFrom, successor, successors, fourCost, u, sole, alternative, scanFrom}
 use Rattle.rules.proofs.Kmer.{Known, add-unknown, ne-known}
-use Rattle.rules.proofs.Scan.{ask-is, ask-none, only-yes, sole-lookups, four-cost, four-free}
+use Rattle.rules.proofs.Scan.{ask-known, ask-is, ask-none, only-yes, sole-lookups, sole-cost, four-cost, four-free, sole-four}
+use Rattle.rules.proofs.Scan.{sole-is as only-is}
 use Rattle.kmer.specs.declared.Kmer.{Kmer as KmerOf}
 use Rattle.kmer.specs.Kmer.{kmerOf, IsKmer, HasLetters}
 use Rattle.kmer.proofs.Laws.{code-is, unknown-is}
@@ -117,6 +119,18 @@ module _ (k : ℕ) (sol : ℕ → Bool) (y : Kmer) where
   unfolding alternative
   alternative-cost = sole-lookups k sol (dropLast y)
 
+  pub alternative-at-most : alternative k sol y .lookups ≤ 4
+  unfolding alternative
+  alternative-at-most = sole-cost k sol (dropLast y)
+
+  -- a k-mer found solid has no unknown letter
+  pub sole-known : (z : Kmer) → sole k sol y .answer ≡ some z → Known z
+  sole-known z e = ask-known sol z (only-is k sol y z e .is-solid)
+
+  pub alternative-known : (z : Kmer) → alternative k sol y .answer ≡ some z → Known z
+  unfolding alternative
+  alternative-known z e = ask-known sol z (only-is k sol (dropLast y) z e .is-solid)
+
   -- the code's choice r among the answers f
   module _ {f : List Bool} (r : Sole) (found : f ≡ successors k sol y) (choice-is : nucOf r ≡ only (yesFrom 0 f)) where
     by : only (yesFrom 0 (successors k sol y)) ≡ nucOf r
@@ -154,6 +168,23 @@ module _ (k : ℕ) (y : Kmer) (low : 1 ≤ k) where
     pub successor-is : (a : ℕ) {z : KmerOf} {p : Bool} → HasLetters k (add k y a) z → z .unknown ≡ 0 → p ≡ sol (z .code)
         → p ≡ ask sol (add k y a) .answer
     successor-is a h u e = e ∙ ap sol (code-is h) ∙ sym (ask-is sol (add k y a) (sym (unknown-is h) ∙ u))
+
+    -- the successors of a k-mer without unknown letters cost 4
+    pub known-four : Known y → sole k sol y .lookups ≡ 4
+    known-four h = go k low
+      where
+        go : (n : ℕ) → 1 ≤ n → sole n sol y .lookups ≡ 4
+        go zero n = absurd (omega arith)
+        go (suc j) n = sole-lookups (suc j) sol y ∙ four-cost j sol y (rw h (zero-mod _))
+
+    -- and so do the alternatives where there is a sole one
+    pub alternative-four : (z : Kmer) → alternative k sol y .answer ≡ some z → alternative k sol y .lookups ≡ 4
+    unfolding alternative
+    alternative-four z e = go k low e
+      where
+        go : (n : ℕ) → 1 ≤ n → sole n sol (dropLast y) .answer ≡ some z → sole n sol (dropLast y) .lookups ≡ 4
+        go zero n e = absurd (omega arith)
+        go (suc j) n e = sole-four j sol (dropLast y) z e
 
     pub four-made : Known (add k y 0) → fourCost k sol y ≡ 4
     four-made h = go k low h
