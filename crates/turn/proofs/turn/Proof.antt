@@ -68,8 +68,7 @@ returns-2 c =
 bad-base-requires : tie.Need-bad-base-requires
 bad-base-requires c κs =
     let g = c .before .before .before in
-    let s = g .before .before .before .before .before .before .before in
-    (
+    let s = g .before .before .before .before .before .before .before in (
       s .pre,
       record {
         kmer = g .before .add-base .ensures;
