@@ -50,9 +50,9 @@ low-bits a = and-mask a 2
 -- ---- codes of bytes
 
 -- two bytes of one code
-pub code-pair : (p q : ℕ) {a b : ℕ} → code p ≡ a → code q ≡ a → OneOf (p ∷ q ∷ []) b → code b ≡ a
-code-pair p q e f (inl h) = ap code h ∙ e
-code-pair p q e f (inr h) = ap code h ∙ f
+pub code-pair : {p q a b : ℕ} → OneOf (p ∷ q ∷ []) b → code p ≡ a → code q ≡ a → code b ≡ a
+code-pair (inl h) e f = ap code h ∙ e
+code-pair (inr h) e f = ap code h ∙ f
 
 -- and any byte but those of the five pairs has none
 pub code-none : (b : ℕ)

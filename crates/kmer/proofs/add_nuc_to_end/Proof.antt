@@ -1,7 +1,7 @@
 use native.Mathlib.Omega.{arith}
-use mathlib.Core.Path.{_≡_}
-use Prim.Native.Nat.{_%_, _<_}
-use Rattle.rules.specs.Letters.{add}
+use mathlib.Core.Path.{_≡_, ap, _∙_}
+use Prim.Native.Nat.{_%_}
+use Rattle.rules.specs.Letters.{add, complement}
 use Rattle.rules.proofs.Kmer.{push-lt}
 use lib.Dec.{lit<}
 use Rattle.kmer.specs.Kmer.{kmerOf}
@@ -11,21 +11,25 @@ use Rattle.kmer.proofs.add_nuc_to_end.Statement.{statement}
 use Rattle.kmer.proofs.add_nuc_to_end.Tie as tie
 
 shift-in-requires : tie.Need-shift-in-requires
-shift-in-requires c κs = (c .pre .0, c .pre .1 .small, rw low-bits (omega arith))
+shift-in-requires c κs = (c .pre .0, c .pre .1 .small, omega (arith, low-bits (c .args .nuc)))
 
 pair-of-requires : tie.Need-pair-of-requires
-pair-of-requires c κs = (c .before .before .pre .0, rw low-bits (omega arith))
+pair-of-requires c κs = (let b = c .before .before in (b .pre .0, omega (arith, low-bits (b .args .nuc))))
+
+-- the complement of the letter's two bits
+paired : (c : tie.After-pair-of) → c .pair-of .result ≡ complement (c .before .before .before .args .nuc % 4)
+paired c = c .pair-of .ensures ∙ ap complement (low-bits (c .before .before .before .args .nuc))
 
 mul-t8 : tie.Need-mul-t8
 mul-t8 c =
     let b = c .before .before .before .before in
-    rw (c .before .pair-of .ensures, low-bits)
+    rw (paired (c .before))
     (omega (arith, rev-fits (b .args .head) (b .args .kmer) (b .pre .0) (b .pre .1) (b .args .nuc % 4) (omega arith)))
 
 add-t9 : tie.Need-add-t9
 add-t9 c =
     let b = c .before .before .before .before in
-    rw (c .before .pair-of .ensures, low-bits)
+    rw (paired (c .before))
     (omega (arith, rev-fits (b .args .head) (b .args .kmer) (b .pre .0) (b .pre .1) (b .args .nuc % 4) (omega arith)))
 
 mark-in-requires : tie.Need-mark-in-requires
@@ -42,7 +46,7 @@ returns c =
       is = λ i. record { code = (rw m at e) i; unknown = u i };
       kmer = record {
         small = rw e (push-lt 4 _ _ _ (lit< tt));
-        turned = rw (e, c .before .before .pair-of .ensures, m)
+        turned = rw (e, m, paired (c .before .before))
             (rev-add (b .args .head) (b .args .kmer) (b .pre .0) (b .pre .1) (b .args .nuc % 4) (omega arith));
         unknown-lt = rw u (push-lt 2 _ _ _ (lit< tt));
       };

@@ -1,5 +1,7 @@
+use Prim.Native.Nat.{ℕ, _+_, _*_}
 use native.Mathlib.Omega.{arith}
-use lib.Bits.{and-mask}
+use mathlib.Core.Path.{ap, _∙_}
+use lib.Bits.{bitAnd, and-mask}
 use Rattle.rules.specs.Letters.{push}
 use Rattle.kmer.proofs.Laws.{bits-fit}
 use Rattle.kmer.proofs.mark_in.Statement.{statement}
@@ -13,7 +15,10 @@ add-result c = omega (arith, c .pre .1, c .pre .2, bits-fit (c .args .head .k) (
 
 returns : tie.Need-returns
 unfolding push
-returns c = (let b = c .before in rw (b .pre .0 .letters-are) (and-mask _ (b .args .head .k)))
+returns c =
+    let b = c .before in
+    let z : ℕ = 2 * (b .args .unknown) + b .args .bit in
+    ap (bitAnd z) (b .pre .0 .letters-are) ∙ and-mask z (b .args .head .k)
 
 pub mark-in-spec : {M : Type 1} → statement M
 mark-in-spec = tie.close (tie.spec mul-result add-result returns)

@@ -6,23 +6,23 @@ use Rattle.kmer.proofs.nuc2bit.Tie as tie
 
 returns : tie.Need-returns
 unfolding code
-returns c = sym (code-pair 65 97 refl refl (c .match .keys1))
+returns c = sym (code-pair (c .match .keys1) refl refl)
 
 returns-2 : tie.Need-returns-2
 unfolding code
-returns-2 c = sym (code-pair 67 99 refl refl (c .match .keys2))
+returns-2 c = sym (code-pair (c .match .keys2) refl refl)
 
 returns-3 : tie.Need-returns-3
 unfolding code
-returns-3 c = sym (code-pair 84 116 refl refl (c .match .keys3))
+returns-3 c = sym (code-pair (c .match .keys3) refl refl)
 
 returns-4 : tie.Need-returns-4
 unfolding code
-returns-4 c = sym (code-pair 85 117 refl refl (c .match .keys4))
+returns-4 c = sym (code-pair (c .match .keys4) refl refl)
 
 returns-5 : tie.Need-returns-5
 unfolding code
-returns-5 c = sym (code-pair 71 103 refl refl (c .match .keys5))
+returns-5 c = sym (code-pair (c .match .keys5) refl refl)
 
 returns-6 : tie.Need-returns-6
 returns-6 c = (let r = c .match .rest in sym (code-none _ (r .0 .0 .0 .0 .1) (r .0 .0 .0 .1) (r .0 .0 .1) (r .0 .1) (r .1)))

@@ -33,7 +33,7 @@ get-requires-2 : tie.Need-get-requires-2
 get-requires-2 c κs =
     let f = c .before .before in
     let low = f .before .before .before .before .before .pre .0 .shifts .k-low in
-    (search needs, search needs, unknown-is (c .add-nuc-to-end2 .ensures) ∙ four-known _ _ low (first-known f) 1 (search needs))
+    (search needs, search needs, unknown-is (c .add-nuc-to-end2 .ensures) ∙ four-known _ _ low (first-known f) _ (search needs))
 
 add-nuc-to-end-requires-3 : tie.Need-add-nuc-to-end-requires-3
 add-nuc-to-end-requires-3 c κs = search needs
@@ -42,7 +42,7 @@ get-requires-3 : tie.Need-get-requires-3
 get-requires-3 c κs =
     let f = c .before .before .before .before in
     let low = f .before .before .before .before .before .pre .0 .shifts .k-low in
-    (search needs, search needs, unknown-is (c .add-nuc-to-end3 .ensures) ∙ four-known _ _ low (first-known f) 2 (search needs))
+    (search needs, search needs, unknown-is (c .add-nuc-to-end3 .ensures) ∙ four-known _ _ low (first-known f) _ (search needs))
 
 add-nuc-to-end-requires-4 : tie.Need-add-nuc-to-end-requires-4
 add-nuc-to-end-requires-4 c κs = search needs
@@ -51,7 +51,7 @@ get-requires-4 : tie.Need-get-requires-4
 get-requires-4 c κs =
     let f = c .before .before .before .before .before .before in
     let low = f .before .before .before .before .before .pre .0 .shifts .k-low in
-    (search needs, search needs, unknown-is (c .add-nuc-to-end4 .ensures) ∙ four-known _ _ low (first-known f) 3 (search needs))
+    (search needs, search needs, unknown-is (c .add-nuc-to-end4 .ensures) ∙ four-known _ _ low (first-known f) _ (search needs))
 
 returns-2 : tie.Need-returns-2
 unfolding successors successor

@@ -12,7 +12,8 @@ use Rattle.set.proofs.ask.Tie as tie
 returns : tie.Need-returns
 unfolding kmerOf
 returns c =
-    let e = ask-none _ _ (ne-known _ (c .if1 .taken)) in
+    let unknown : c .before .before .before .before .args .kmer .unknown ≡ 0 → ⊥ = λ e. omega arith in
+    let e = ask-none _ _ (ne-known _ unknown) in
     record { solid = sym (ap (λ (t : Counted Bool). t .answer) e); lookups = sym (ap (λ (t : Counted Bool). t .lookups) e) }
 
 get-requires : tie.Need-get-requires
