@@ -1,18 +1,18 @@
 -- An attempt from its parts: the alternative, the scenarios kept, the choice.
-use Prim.Native.Nat.{ℕ, zero, suc, _+_, _≤_, _<_}
+use Prim.Native.Nat.{ℕ, _+_, _≤_, _<_}
 use native.Mathlib.Omega.{arith}
 use mathlib.Core.Path.{_≡_, refl, sym, ap, _∙_}
 use mathlib.Core.Bool.{Bool}
 use mathlib.Core.Option.{none, some, Option·some-injective, Option·none-ne-some}
 use mathlib.Core.List.{List}
 use lib.ListN.{length, take}
-use Rattle.rules.specs.Letters.{Kmer, dropLast}
+use Rattle.rules.specs.Letters.{Kmer}
 use Rattle.rules.specs.Counted.{Try, after}
 use Rattle.rules.specs.Scan.{alternative}
 use Rattle.rules.specs.Exist.{Scenario, kept, choose, exist}
 use Rattle.rules.specs.Exist as rules
-use Rattle.rules.proofs.Scan.{sole-four, sole-cost}
 use Rattle.scan.specs.Attempt.{Attempted}
+use Rattle.scan.proofs.Laws.{alternative-four}
 use Rattle.scan.specs.declared.Attempt.the-variants.{Mend as Mended, Refused, Full}
 use Rattle.scenario.specs.declared.Mend.{Mend}
 use Rattle.scenario.specs.Scenario.{spelledOut}
@@ -20,20 +20,6 @@ use Rattle.scenario.proofs.Trials.{refused-bind, given-bind}
 use Rattle.exist.specs.declared.Scenarii.{Scenarii}
 use Rattle.exist.specs.Exist.{mendsOf, KeptIs}
 use Rattle.exist.proofs.Letters.{spelled-length}
-
-module _ (k : ℕ) (sol : ℕ → Bool) (y : Kmer) where
-  -- an alternative that is found costs 4 lookups
-  alternative-four : {x : Kmer} → 1 ≤ k → alternative k sol y .answer ≡ some x → alternative k sol y .lookups ≡ 4
-  unfolding alternative
-  alternative-four {x} low a = go k low a
-    where
-      go : (n : ℕ) → 1 ≤ n → alternative n sol y .answer ≡ some x → alternative n sol y .lookups ≡ 4
-      go zero l e = absurd (omega arith)
-      go (suc j) l e = sole-four j sol (dropLast y) x e
-
-  pub alternative-le : {l : ℕ} → l ≡ alternative k sol y .lookups → l ≤ 4
-  unfolding alternative
-  alternative-le e = omega (arith, sole-cost k sol (dropLast y))
 
 -- made lookups before it
 module _ (k : ℕ) (sol : ℕ → Bool) (c : ℕ) (s : List ℕ) (scs : Kmer → List ℕ → List Scenario) (y : Kmer) (made : ℕ) where
@@ -49,7 +35,7 @@ module _ (k : ℕ) (sol : ℕ → Bool) (c : ℕ) (s : List ℕ) (scs : Kmer →
     chosen : attempt ≡ after made (after 4 (after (r .lookups) (choose k sol c s y (mendsOf r))))
     unfolding exist
     chosen =
-        let four = alternative-four k sol y low a in
+        let four = alternative-four k y low sol x a in
         ap (after made) (given-bind _ (λ i. record { answer = a i; lookups = four i }) ∙ rw (q .answer, q .lookups))
 
     pub exist-answer : attempt .answer ≡ choose k sol c s y (mendsOf r) .answer

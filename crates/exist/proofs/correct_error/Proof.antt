@@ -13,7 +13,8 @@ use Rattle.scan.specs.Scan.{NextIs}
 use Rattle.scenario.specs.Scenario.{scenarios}
 use Rattle.exist.specs.declared.Pick.the-variants.{Mend as Use}
 use Rattle.exist.specs.Exist.{PickIs}
-use Rattle.exist.proofs.Attempts.{alternative-le, exist-none, exist-answer, exist-lookups, refused, full, mended}
+use Rattle.scan.proofs.Laws.{alternative-at-most}
+use Rattle.exist.proofs.Attempts.{exist-none, exist-answer, exist-lookups, refused, full, mended}
 use Rattle.exist.proofs.correct_error.Statement.{statement}
 use Rattle.exist.proofs.correct_error.Tie as tie
 
@@ -64,7 +65,7 @@ alt-cost-requires c κs = search needs
 add-t19 : tie.Need-add-t19
 add-t19 c =
     let b = c .before .before .before .before .before .before .before .before in
-    omega (arith, b .pre .3, alternative-le _ (λ y. true) _ (c .alt-cost .ensures _))
+    omega (arith, b .pre .3, c .alt-cost .ensures (λ y. true), alternative-at-most (b .args .head .k) (λ y. true) (kmerOf (b .args .kmer)))
 
 returns : tie.Need-returns
 returns c =
