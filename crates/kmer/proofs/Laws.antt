@@ -2,20 +2,21 @@
 use Prim.Native.Nat.{ℕ, zero, suc, _+_, _*_, _-_, _/_, _%_, _^_, _≤_, _<_}
 use native.Mathlib.Omega.{arith}
 use native.Mathlib.Numerals.{add-one}
-use native.Mathlib.Nat.{mod-eq-of-lt, mod-lt, pow-suc, pow-le-pow-right, mul-comm, add-comm, div-lt-iff-lt-mul, div-add-mod'}
+use native.Mathlib.Nat.{mod-eq-of-lt, mod-lt, one-le-pow, suc-mul, pow-suc, pow-le-pow-right, mul-comm, add-comm, div-lt-iff-lt-mul, div-add-mod', eq-or-lt-of-le}
 use mathlib.Core.Path.{_≡_, refl, sym, ap, _∙_}
-use mathlib.Core.Bool.{true, false}
+use mathlib.Core.Bool.{Bool, true, false, _&&_}
 use mathlib.Core.List.{List, [], _∷_}
-use mathlib.Core.Logic.{inl, inr}
-use types.Run.{OneOf}
+use mathlib.Core.Logic.{_⊎_, inl, inr}
 use lib.Dec.{eqb, lit<, lit≤}
-use borrow.Author.Tests.{ne-eqb}
+use borrow.Author.Tests.{eqb-true, eq-eqb, ne-eqb}
 use lib.ListN.{length, getD}
 use lib.Seq.{slice, slice-cons}
+use lib.Pow.{pow-add}
 use lib.Arith.{digits-div, digits-mod, mod-mul}
 use lib.Bits.{bitAnd, bitXor, and-mask, xor-shifted}
 use Rattle.rules.specs.Letters as rules
 use Rattle.rules.specs.Letters.{mask, same, push, add, addAll, hasCode, code, complement, revcomp, evenOnes, canonical}
+use Rattle.rules.proofs.Opened.{both}
 use Rattle.rules.proofs.Kmer.{known-true, ne-known, same-code, four-pos, push-is, push-lt, complement-lt, revcomp-lt, revcomp-first, ones-in, two-four}
 use Rattle.kmer.specs.declared.Header.{Header}
 use Rattle.kmer.specs.declared.Kmer.{Kmer}
@@ -37,11 +38,21 @@ and-mask-of y k = rw (← (two-four k)) (and-mask y (2 * k))
 pub bits-fit : (k : ℕ) → k ≤ 31 → 2 ^ k ≤ 2 ^ 31
 bits-fit k h = pow-le-pow-right {n = 2} (lit≤ tt) {i = k} {j = 31} h
 
--- 1 shifted by k places
-pub one-shifted : (k : ℕ) → k ≤ 31 → 1 * 2 ^ k % 2 ^ 64 ≡ 2 ^ k
-one-shifted k h =
-    let e : 1 * 2 ^ k ≡ 2 ^ k = omega arith in
-    rw e (mod-eq-of-lt (omega (arith, bits-fit k h)))
+-- half of a mask's bits
+less-one : (a : ℕ) → 1 ≤ a → (a * a - 1) / a ≡ a - 1
+less-one zero h = absurd (omega arith)
+less-one (suc j) h =
+    let e : suc j * suc j ≡ j * suc j + suc j = suc-mul j (suc j) in
+    let d : suc j * suc j - 1 ≡ j * suc j + j = omega arith in
+    let o : suc j - 1 ≡ j = omega arith in
+    rw (d, o) (digits-div j (omega arith))
+
+pub half-mask : (k : ℕ) → mask k / 2 ^ k ≡ 2 ^ k - 1
+unfolding mask
+half-mask k =
+    let twice : 2 * k ≡ k + k = omega arith in
+    let square : 4 ^ k ≡ 2 ^ k * 2 ^ k = sym (two-four k) ∙ ap (λ (n : ℕ). 2 ^ n) twice ∙ pow-add 2 k k in
+    rw square (less-one (2 ^ k) (one-le-pow k 2 (lit< tt)))
 
 -- a code's two bits
 pub low-bits : (a : ℕ) → bitAnd a 3 ≡ a % 4
@@ -49,35 +60,56 @@ low-bits a = and-mask a 2
 
 -- ---- codes of bytes
 
--- two bytes of one code
-pub code-pair : {p q a b : ℕ} → OneOf (p ∷ q ∷ []) b → code p ≡ a → code q ≡ a → code b ≡ a
-code-pair (inl h) e f = ap code h ∙ e
-code-pair (inr h) e f = ap code h ∙ f
-
--- and any byte but those of the five pairs has none
-pub code-none : (b : ℕ)
-    → (OneOf (65 ∷ 97 ∷ []) b → ⊥)
-    → (OneOf (67 ∷ 99 ∷ []) b → ⊥)
-    → (OneOf (84 ∷ 116 ∷ []) b → ⊥)
-    → (OneOf (85 ∷ 117 ∷ []) b → ⊥)
-    → (OneOf (71 ∷ 103 ∷ []) b → ⊥)
-    → code b ≡ 4
+-- letters with a code are bytes 64 to 127
+pub code-none : (b : ℕ) → (b / 64 ≡ 1 → ⊥) → code b ≡ 4
 unfolding code hasCode
-code-none b a c t u g =
+code-none b n =
     let e : hasCode b ≡ false =
     rw (
-      ne-eqb b 65 (λ e. a (inl e)),
-      ne-eqb b 67 (λ e. c (inl e)),
-      ne-eqb b 71 (λ e. g (inl e)),
-      ne-eqb b 84 (λ e. t (inl e)),
-      ne-eqb b 85 (λ e. u (inl e)),
-      ne-eqb b 97 (λ e. a (inr e)),
-      ne-eqb b 99 (λ e. c (inr e)),
-      ne-eqb b 103 (λ e. g (inr e)),
-      ne-eqb b 116 (λ e. t (inr e)),
-      ne-eqb b 117 (λ e. u (inr e)),
+      ne-eqb b 65 (λ e. n (omega arith)),
+      ne-eqb b 67 (λ e. n (omega arith)),
+      ne-eqb b 71 (λ e. n (omega arith)),
+      ne-eqb b 84 (λ e. n (omega arith)),
+      ne-eqb b 85 (λ e. n (omega arith)),
+      ne-eqb b 97 (λ e. n (omega arith)),
+      ne-eqb b 99 (λ e. n (omega arith)),
+      ne-eqb b 103 (λ e. n (omega arith)),
+      ne-eqb b 116 (λ e. n (omega arith)),
+      ne-eqb b 117 (λ e. n (omega arith)),
     ) in
     rw (e, code)
+
+-- a byte's code where the letters that have one are the bits of a number
+abbrev byBits : ℕ → ℕ → ℕ
+byBits letters b = elim (eqb (letters / 2 ^ (b % 32) % 2) 0) [ true ↦ 4 | false ↦ b / 2 % 4 ]
+
+-- so it is for the m lowest bytes from 64 on
+unfoldable pub coded : ℕ → ℕ → Bool
+unfolding code
+coded letters zero = true
+coded letters (suc m) = eqb (code (64 + m)) (byBits letters (64 + m)) && coded letters m
+
+coded-at : (letters m i : ℕ) → coded letters m ≡ true → i < m → code (64 + i) ≡ byBits letters (64 + i)
+unfolding coded
+coded-at letters zero i r h = absurd (omega arith)
+coded-at letters (suc m) i r h = go (coded-at letters m i (both (eqb (code (64 + m)) (byBits letters (64 + m))) (coded letters m) r .1)) (eq-or-lt-of-le h)
+  where
+    go : (i < m → code (64 + i) ≡ byBits letters (64 + i)) → (suc i ≡ suc m) ⊎ (suc i < suc m) → code (64 + i) ≡ byBits letters (64 + i)
+    go f (inl e) =
+        let d : i ≡ m = omega arith in
+        rw d (eqb-true _ _ (both (eqb (code (64 + m)) (byBits letters (64 + m))) (coded letters m) r .0))
+    go f (inr l) = f (omega arith)
+
+code-by : (letters b : ℕ) → coded letters 64 ≡ true → b / 64 ≡ 1 → code b ≡ byBits letters b
+code-by letters b r e =
+    let is : 64 + (b - 64) ≡ b = omega arith in
+    rw is at (coded-at letters 64 (b - 64) r (omega arith))
+
+pub code-unset : (letters b : ℕ) → coded letters 64 ≡ true → b / 64 ≡ 1 → letters / 2 ^ (b % 32) % 2 ≡ 0 → code b ≡ 4
+code-unset letters b r e h = code-by letters b r e ∙ rw (eq-eqb (letters / 2 ^ (b % 32) % 2) 0 h, byBits)
+
+pub code-set : (letters b : ℕ) → coded letters 64 ≡ true → b / 64 ≡ 1 → (letters / 2 ^ (b % 32) % 2 ≡ 0 → ⊥) → code b ≡ b / 2 % 4
+code-set letters b r e h = code-by letters b r e ∙ rw (ne-eqb (letters / 2 ^ (b % 32) % 2) 0 h, byBits)
 
 -- the shift under the mask
 pub shifted : (head : Header) (y a : ℕ) → Shifts head → y < 4 ^ head .k → a < 4 → bitXor (bitAnd (y * 4 % 2 ^ 64) (head .mask)) a ≡ push 4 (head .k) y a

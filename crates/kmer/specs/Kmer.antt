@@ -17,7 +17,6 @@ pub record Shifts (head : Header) : Type 0 where
   pub k-high : head .k ≤ 31
   pub mask-is : head .mask ≡ mask (head .k)
   pub top-is : head .top ≡ 4 ^ (head .k - 1)
-  pub letters-are : head .letters ≡ 2 ^ head .k - 1
   pub pairs-are : head .pairs ≡ basePairs
 
 -- The code of k letters, beside it that of its reverse complement, and a bit for each letter.

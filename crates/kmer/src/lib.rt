@@ -12,7 +12,6 @@ pub struct Header {
     pub n: usize,
     pub mask: u64,
     pub top: u64,
-    pub letters: u64,
     pub pairs: u64,
     pub shift: u32,
 }
@@ -61,18 +60,22 @@ const MASK_LOOKUP: [u64; 32] = [
     4611686018427387903,
 ];
 
-// Document 02, W5: any other byte is an unknown letter, said by 4.
+// The letters that have a code, a bit for each: its number is the letter's last five bits, the same in upper and lower case.
+const LETTERS: u64 = 3145866;
+
+// Document 02, W5: only A, C, G, T, U and their lower case have a code; any other byte is an unknown letter, said by 4. No branch goes by
+// which letter it is.
 pub fn nuc2bit(nuc: u8) -> u64
     ensures { λ r. ⌜ r ≡ Letters.code nuc ⌝ }
 {
-    match nuc {
-        b'A' | b'a' => 0,
-        b'C' | b'c' => 1,
-        b'T' | b't' => 2,
-        b'U' | b'u' => 2,
-        b'G' | b'g' => 3,
-        _ => 4,
+    let byte = nuc as u64;
+    if byte / 64 != 1 {
+        return 4;
     }
+    if (LETTERS >> (byte % 32)) % 2 == 0 {
+        return 4;
+    }
+    byte / 2 % 4
 }
 
 pub fn bit2nuc(bit: u64) -> u8
@@ -131,7 +134,6 @@ pub fn header_of(k: usize, n: usize, shift: u32) -> Header
         n,
         mask: mask(k),
         top: mask(k - 1) + 1,
-        letters: (1u64 << k) - 1,
         pairs: base_pairs(),
         shift,
     }
@@ -145,12 +147,12 @@ fn shift_in(code: u64, nuc: u64, head: Header) -> u64
     ((code << 2) & head.mask) ^ nuc
 }
 
-// The same with the letters' bits: 1 for an unknown one.
+// The same with the letters' bits: 1 for an unknown one. Half of the mask's bits are one for each letter.
 fn mark_in(unknown: u64, bit: u64, head: Header) -> u64
     requires { ⌜ Shifts head × (unknown < 2 ^ head .k) × (bit < 2) ⌝ }
     ensures { λ r. ⌜ r ≡ Letters.push 2 (head .k) unknown bit ⌝ }
 {
-    (2 * unknown + bit) & head.letters
+    (2 * unknown + bit) & (head.mask >> head.k)
 }
 
 // An unknown letter, said by 4, has 0 in its place of the code.
