@@ -1,6 +1,7 @@
 -- Laws of bases added, the sole successor and the scan in the code's terms.
 use Prim.Native.Nat.{ℕ, zero, suc, _+_, _*_, _/_, _≤_, _<_}
 use native.Mathlib.Omega.{arith}
+use native.Mathlib.Decide.{ℕ-discrete}
 use native.Mathlib.Nat.{zero-mod}
 use native.Mathlib.Numerals.{add-one}
 use mathlib.Core.Path.{_≡_, refl, sym, ap, _∙_}
@@ -156,6 +157,14 @@ module _ (k : ℕ) (sol : ℕ → Bool) (y : Kmer) where
 
 -- The four have all letters but the last in common: what holds of y+A's unknown letters holds of the others'.
 module _ (k : ℕ) (y : Kmer) (low : 1 ≤ k) where
+  -- those of a k-mer without unknown letters hold none
+  pub known-asked : Known y → Known (add k y 0)
+  known-asked h = go k low
+    where
+      go : (n : ℕ) → 1 ≤ n → Known (add n y 0)
+      go zero n = absurd (omega arith)
+      go (suc j) n = add-unknown j y 0 (lit< tt) ∙ rw (h, zero-mod) (omega arith)
+
   pub four-known : Known (add k y 0) → (a : ℕ) → a < 4 → Known (add k y a)
   four-known h a l = go k low h
     where
@@ -210,6 +219,16 @@ module _ (k : ℕ) (y : Kmer) (low : 1 ≤ k) where
 
         no : (a : ℕ) → a < 4 → ask sol (add k y a) .answer ≡ false
         no a l = ap (λ (t : Counted Bool). t .answer) (ask-none sol (add k y a) (ne-known (add k y a) (λ e. h (back k low a l e))))
+
+    -- what they cost tells whether they are asked
+    pub four-asked : (fourCost k sol y ≡ 0 → ⊥) → Known (add k y 0)
+    four-asked n = elim (ℕ-discrete (add k y 0 .unknown) 0) [ yes e ↦ e | no u ↦ absurd (n (none-made u)) ]
+
+    pub sole-none : fourCost k sol y ≡ 0 → sole k sol y .answer ≡ none
+    unfolding soleBy next after refuse only yesFrom
+    sole-none z =
+        let u : Known (add k y 0) → ⊥ = λ h. (let q = four-made h in omega arith) in
+        ap (λ (t : Try Kmer). t .answer) (sole-is k sol y ∙ ap (λ (l : List Bool). soleBy k sol y (only (yesFrom 0 l))) (four-no u))
 
 -- ---- the scan
 

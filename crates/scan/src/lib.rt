@@ -6,7 +6,7 @@ ghost use mathlib.Core.Path.{_≡_};
 ghost use mathlib.Core.Bool.{Bool};
 ghost use Prim.Native.Nat.{ℕ, _≤_};
 ghost use lib.ListN.{length};
-ghost use Rattle.rules.specs.Letters.{addBase, addAll, dropLast};
+ghost use Rattle.rules.specs.Letters.{add, addBase, addAll, dropLast};
 ghost use Rattle.rules.specs.Set.{solid, setOf};
 ghost use Rattle.rules.specs.Scan as rules;
 ghost use Rattle.kmer.specs.Kmer.{Shifts, kmerOf, IsKmer, HasLetters};
@@ -58,16 +58,12 @@ pub fn add_all(kmer: Kmer, bases: &[u8], head: Header) -> Kmer
     last
 }
 
+// All letters of the k-mer but its first are known: the four have them in common.
 pub fn next_nucs(set: &[u8], starts: &[u32], head: Header, kmer: Kmer) -> [bool; 4]
-    requires { ⌜ Ready (now set) (now starts) head × IsKmer (head .k) kmer ⌝ }
+    requires { ⌜ Ready (now set) (now starts) head × IsKmer (head .k) kmer × (add (head .k) (kmerOf kmer) 0 .unknown ≡ 0) ⌝ }
     ensures { λ r. ⌜ r ≡ rules.successors (head .k) (solid (setOf (now (set .entry)))) (kmerOf kmer) ⌝ }
 {
-    let first = kmer::add_nuc_to_end(kmer, 0, head);
-    // The four have all letters but the last in common.
-    if first.unknown != 0 {
-        return [false; 4];
-    }
-    let a = set::get(set, starts, head, first);
+    let a = set::get(set, starts, head, kmer::add_nuc_to_end(kmer, 0, head));
     let c = set::get(set, starts, head, kmer::add_nuc_to_end(kmer, 1, head));
     let t = set::get(set, starts, head, kmer::add_nuc_to_end(kmer, 2, head));
     let g = set::get(set, starts, head, kmer::add_nuc_to_end(kmer, 3, head));
@@ -84,7 +80,7 @@ pub fn next_cost(kmer: Kmer, head: Header) -> u64
 }
 
 fn alt_nucs(set: &[u8], starts: &[u32], head: Header, kmer: Kmer) -> [bool; 4]
-    requires { ⌜ Ready (now set) (now starts) head × IsKmer (head .k) kmer ⌝ }
+    requires { ⌜ Ready (now set) (now starts) head × IsKmer (head .k) kmer × (add (head .k) (dropLast (kmerOf kmer)) 0 .unknown ≡ 0) ⌝ }
     ensures { λ r. ⌜ r ≡ rules.successors (head .k) (solid (setOf (now (set .entry)))) (dropLast (kmerOf kmer)) ⌝ }
 {
     let shifted = kmer::drop_last(kmer, head);
@@ -111,23 +107,15 @@ pub fn sole_next(set: &[u8], starts: &[u32], head: Header, kmer: Kmer) -> Next
     requires { ⌜ Ready (now set) (now starts) head × IsKmer (head .k) kmer ⌝ }
     ensures { λ r. ⌜ NextIs (head .k) (rules.sole (head .k) (solid (setOf (now (set .entry)))) (kmerOf kmer) .answer) r ⌝ }
 {
+    // No lookup is made for k-mers that hold an unknown letter.
+    if next_cost(kmer, head) == 0 {
+        return Next::Refused;
+    }
     let Sole::Nuc(nuc) = sole_nuc(next_nucs(set, starts, head, kmer)) else {
         return Next::Refused;
     };
     let next = kmer::add_nuc_to_end(kmer, nuc, head);
     Next::Kmer(next)
-}
-
-// The bad k-mer with its last letter replaced by the sole solid alternative.
-pub fn sole_alt(set: &[u8], starts: &[u32], head: Header, kmer: Kmer) -> Next
-    requires { ⌜ Ready (now set) (now starts) head × IsKmer (head .k) kmer ⌝ }
-    ensures { λ r. ⌜ NextIs (head .k) (rules.alternative (head .k) (solid (setOf (now (set .entry)))) (kmerOf kmer) .answer) r ⌝ }
-{
-    let Sole::Nuc(nuc) = sole_nuc(alt_nucs(set, starts, head, kmer)) else {
-        return Next::Refused;
-    };
-    let shifted = kmer::drop_last(kmer, head);
-    Next::Kmer(kmer::add_nuc_to_end(shifted, nuc, head))
 }
 
 // What the alternatives of the bad k-mer cost.
@@ -137,6 +125,21 @@ pub fn alt_cost(kmer: Kmer, head: Header) -> u64
 {
     let shifted = kmer::drop_last(kmer, head);
     next_cost(shifted, head)
+}
+
+// The bad k-mer with its last letter replaced by the sole solid alternative.
+pub fn sole_alt(set: &[u8], starts: &[u32], head: Header, kmer: Kmer) -> Next
+    requires { ⌜ Ready (now set) (now starts) head × IsKmer (head .k) kmer ⌝ }
+    ensures { λ r. ⌜ NextIs (head .k) (rules.alternative (head .k) (solid (setOf (now (set .entry)))) (kmerOf kmer) .answer) r ⌝ }
+{
+    if alt_cost(kmer, head) == 0 {
+        return Next::Refused;
+    }
+    let Sole::Nuc(nuc) = sole_nuc(alt_nucs(set, starts, head, kmer)) else {
+        return Next::Refused;
+    };
+    let shifted = kmer::drop_last(kmer, head);
+    Next::Kmer(kmer::add_nuc_to_end(shifted, nuc, head))
 }
 
 // s is the rest of the read at its bad base s0, kmer the bad k-mer: s1, s2, .. are added up to the first solid k-mer or the end.

@@ -10,7 +10,7 @@ use Rattle.rules.proofs.Kmer.{Known}
 use Rattle.rules.proofs.Scan.{ask-known}
 use Rattle.kmer.specs.declared.Kmer.{Kmer}
 use Rattle.kmer.specs.Kmer.{kmerOf, IsKmer}
-use Rattle.scan.proofs.Laws.{no-next, next-kmer, nuc-lt, sole-known}
+use Rattle.scan.proofs.Laws.{no-next, next-kmer, nuc-lt, sole-known, known-asked}
 use Rattle.gap_size.specs.Gap.{passed}
 use Rattle.gap_size.specs.Filter.{suffix, Covers}
 use Rattle.gap_size.proofs.Bits.{move-begins}
@@ -102,7 +102,7 @@ add-lookups-2 : tie.Need-add-lookups-2 Inv-loop μ-loop
 add-lookups-2 c = omega (arith, few-lookups (c .before), c .before .loop .inv .2, entry (c .before) .pre .0)
 
 next-nucs-requires : tie.Need-next-nucs-requires Inv-loop μ-loop
-next-nucs-requires c κs = (entry (c .before) .pre .0 .ready, c .before .loop .inv .5)
+next-nucs-requires c κs = (entry (c .before) .pre .0 .ready, c .before .loop .inv .5, known-asked _ _ (low (c .before)) (c .before .loop .inv .6))
 
 sole-nuc-requires : tie.Need-sole-nuc-requires Inv-loop μ-loop
 sole-nuc-requires c κs = search needs

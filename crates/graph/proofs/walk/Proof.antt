@@ -15,7 +15,7 @@ use Rattle.kmer.specs.declared.Kmer.{Kmer}
 use Rattle.kmer.specs.Kmer.{kmerOf, IsKmer}
 use Rattle.set.proofs.Opened.{opened-n-le}
 use Rattle.scan.specs.Scan.{scanOf}
-use Rattle.scan.proofs.Laws.{no-next, next-kmer, nuc-lt, sole-known}
+use Rattle.scan.proofs.Laws.{no-next, next-kmer, nuc-lt, sole-known, known-asked}
 use Rattle.graph.proofs.Laws.{Arrived, Going, going-start, walk-dark, walk-dead, walk-arrives, walk-meets, walk-marks, walk-goes, walk-stays, walk-over, walk-refused, walk-mends, walk-full}
 use Rattle.graph.proofs.walk.Statement.{statement}
 use Rattle.graph.proofs.walk.Tie as tie
@@ -155,7 +155,9 @@ add-lookups-3 : tie.Need-add-lookups-3 Inv-loop μ-loop
 add-lookups-3 c = omega (arith, c .before .before .before .loop .inv, entry (c .before .before .before) .pre)
 
 next-nucs-requires : tie.Need-next-nucs-requires Inv-loop μ-loop
-next-nucs-requires c κs = let l = c .before .before .before in (entry l .pre .0, l .loop .inv .5)
+next-nucs-requires c κs =
+    let l = c .before .before .before in
+    (entry l .pre .0, l .loop .inv .5, known-asked _ _ (low l) (l .loop .inv .6))
 
 sole-nuc-requires : tie.Need-sole-nuc-requires Inv-loop μ-loop
 sole-nuc-requires c κs = search needs
