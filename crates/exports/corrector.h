@@ -153,7 +153,10 @@ uint64_t corrector_batch(
     uint8_t *work, size_t work_length,
     uint64_t *answer, size_t answer_length);
 
-/* The k-mers of a read, and how many of them are solid; none where it is shorter than k. Returns 0, or refusal 1 or 7 to 10. */
+/*
+ * The k-mers of a read, and how many of them are solid; none where it is shorter than k. A k-mer that holds another byte than A, C, G, T, U
+ * and their lower case counts as a k-mer and is not solid. Returns 0, or refusal 1 or 7 to 10.
+ */
 uint64_t corrector_count_solid(
     const uint8_t *set, size_t set_length,
     const uint8_t *read, size_t read_length,

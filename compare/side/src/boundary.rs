@@ -26,8 +26,8 @@ impl Library for Linked {
         corrector::make_set(text, k, least, blocks).map(|length| length as u64).map_err(refusal)
     }
 
-    fn count_solid(&self, set: &[u8], read: &[u8]) -> Option<u64> {
-        Some(corrector::count_solid(set, read).expect("a set that opens").solid)
+    fn count_solid(&self, set: &[u8], read: &[u8]) -> Result<(u64, u64), Refusal> {
+        corrector::count_solid(set, read).map(|count| (count.kmers, count.solid)).map_err(refusal)
     }
 }
 

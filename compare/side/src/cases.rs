@@ -27,8 +27,12 @@ pub enum Kind {
     Genome,
     /// Periodic and low-complexity genomes, which make cycles.
     Periodic,
-    /// Reads of arbitrary bytes.
-    Bytes,
+    /// Reads in all ten letters that have a code.
+    Letters,
+    /// Reads with other bytes, which natir/br has no part in.
+    Unknown,
+    /// k = 1: every set, and k = 3: a random set; every read of up to 6 bytes over A, C, T, G and N.
+    AllWithN,
     /// Confirm up to 255, with errors far enough apart.
     Confirm,
     /// Lists of no to eight entries, each with its own confirm.
@@ -44,14 +48,16 @@ pub enum Kind {
 }
 
 /// The kinds and how many units of each a run has. The exhaustive ones have as many as there are sets; the others are repeated by --rounds.
-const SCHEDULE: [(Kind, u64, bool); 13] = [
+const SCHEDULE: [(Kind, u64, bool); 15] = [
     (Kind::AllOfOne, 4, false),
     (Kind::AllOfThree, 529, false),
     (Kind::AllReads, 400, true),
     (Kind::Dense, 5000, true),
     (Kind::Genome, 6400, true),
     (Kind::Periodic, 5000, true),
-    (Kind::Bytes, 3000, true),
+    (Kind::Letters, 2000, true),
+    (Kind::Unknown, 4000, true),
+    (Kind::AllWithN, 104, true),
     (Kind::Confirm, 1600, true),
     (Kind::Lists, 2000, true),
     (Kind::Limits, 1600, true),
@@ -79,12 +85,16 @@ pub fn units(rounds: u64) -> Vec<Unit> {
 pub fn run(unit: &Unit, seed: u64, visit: &mut Visit) {
     let rng = &mut Rng::of_unit(seed, (unit.kind as u64) << 32 | unit.number);
     match unit.kind {
-        Kind::AllOfOne => all_reads(&sets::subset(1, unit.number), 6, &mut every_job, visit),
-        Kind::AllOfThree => all_reads(&sets::up_to_two(3, unit.number as usize), 6, &mut every_job, visit),
+        Kind::AllOfOne => all_reads(&sets::subset(1, unit.number), b"ACTG", 6, &mut every_job, visit),
+        Kind::AllOfThree => all_reads(&sets::up_to_two(3, unit.number as usize), b"ACTG", 6, &mut every_job, visit),
         Kind::AllReads => {
-            let site = sets::dense(rng, 3);
-            let entry = [rng.pick(&METHODS).byte(), rng.within(1, 4) as u8];
-            all_reads(&site, 7, &mut |batch| vec![job(Call::Batch, &entry, batch)], visit);
+            let (site, entry) = (sets::dense(rng, 3), any_entry(rng));
+            all_reads(&site, b"ACTG", 7, &mut |batch| vec![job(Call::Batch, &entry, batch)], visit);
+        }
+        Kind::AllWithN if unit.number < 4 => all_reads(&sets::subset(1, unit.number), b"ACTGN", 6, &mut every_job, visit),
+        Kind::AllWithN => {
+            let (site, entry) = (sets::dense(rng, 3), any_entry(rng));
+            all_reads(&site, b"ACTGN", 6, &mut |batch| vec![job(Call::Batch, &entry, batch)], visit);
         }
         Kind::Dense => {
             let k = *rng.pick(&[1, 3, 3, 5, 5, 5, 7, 7]);
@@ -101,13 +111,19 @@ pub fn run(unit: &Unit, seed: u64, visit: &mut Visit) {
         Kind::Periodic => {
             let k = sets::any_k(rng);
             let (site, genome) = sets::periodic(rng, k);
-            let reads: Vec<_> = (0..60).map(|_| reads::noisy(rng, &genome, 160)).collect();
+            let reads = noisy_reads(rng, &genome, |_, read| read);
             each_method(rng, &site, &reads, 8, visit);
         }
-        Kind::Bytes => {
+        Kind::Letters => {
             let k = sets::any_k(rng);
             let (site, genome) = sets::genome(rng, k);
-            let reads: Vec<_> = (0..60).map(|_| reads::bytes(rng, &genome)).collect();
+            let reads = noisy_reads(rng, &genome, reads::in_ten_letters);
+            each_method(rng, &site, &reads, 6, visit);
+        }
+        Kind::Unknown => {
+            let k = sets::any_k(rng);
+            let (site, genome) = if rng.percent(70) { sets::genome(rng, k) } else { sets::periodic(rng, k) };
+            let reads = noisy_reads(rng, &genome, reads::with_unknown);
             each_method(rng, &site, &reads, 6, visit);
         }
         Kind::Confirm => confirm(rng, visit),
@@ -144,11 +160,24 @@ pub fn batch_of<'a>(reads: impl IntoIterator<Item = &'a Vec<u8>>) -> Vec<u8> {
     batch
 }
 
+fn any_entry(rng: &mut Rng) -> [u8; 2] {
+    [rng.pick(&METHODS).byte(), rng.within(1, 4) as u8]
+}
+
+/// Noisy parts of a genome, written in a way of their own.
+fn noisy_reads(rng: &mut Rng, genome: &[u8], written: fn(&mut Rng, Vec<u8>) -> Vec<u8>) -> Vec<Vec<u8>> {
+    let mut next = || {
+        let read = reads::noisy(rng, genome, 160);
+        written(rng, read)
+    };
+    (0..60).map(|_| next()).collect()
+}
+
 /// Every read of up to `longest` letters: the shortest by read calls, the others by batches of 1,024.
-fn all_reads(site: &Site, longest: u32, jobs: &mut dyn FnMut(&[u8]) -> Vec<Job>, visit: &mut Visit) {
+fn all_reads(site: &Site, letters: &[u8], longest: u32, jobs: &mut dyn FnMut(&[u8]) -> Vec<Job>, visit: &mut Visit) {
     visit(site, None);
     for length in 0..=longest {
-        let reads: Vec<Vec<u8>> = (0..4_usize.pow(length)).map(|number| reads::numbered(length, number)).collect();
+        let reads: Vec<Vec<u8>> = reads::all(letters, length).collect();
         for lines in reads.chunks(1024) {
             for job in jobs(&batch_of(lines)) {
                 if length > 4 {

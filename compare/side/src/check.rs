@@ -1,9 +1,10 @@
 //! One case on all sides.
 use crate::library::Library;
 use crate::oracle::{self, Keys};
-use crate::referee::calls::{self, Entry, Job, Outcome};
+use crate::referee::calls::{self, Call, Entry, Job, Outcome};
 use crate::referee::correctors::{Method, ALL_BY, ALL_EVENTS, BY, METHODS};
 use crate::referee::driver::Pass;
+use crate::referee::letters::code;
 use crate::referee::set::{open, Refusal, Set};
 use std::fmt::Debug;
 
@@ -28,7 +29,11 @@ impl Site {
 /// What agreed.
 #[derive(Clone)]
 pub struct Tally {
+    /// Passes of reads of the ten letters that have a code: on all sides.
     pub passes: u64,
+    /// Passes of other reads, and the corrections in them: the library and the referee alone.
+    pub other: u64,
+    pub other_accepted: u64,
     pub calls: u64,
     pub refusals: [u64; 12],
     pub attempts: u64,
@@ -48,6 +53,8 @@ impl Default for Tally {
     fn default() -> Self {
         Tally {
             passes: 0,
+            other: 0,
+            other_accepted: 0,
             calls: 0,
             refusals: [0; 12],
             attempts: 0,
@@ -72,6 +79,8 @@ fn add_each<'a>(mine: &mut [u64], others: impl IntoIterator<Item = &'a u64>) {
 impl Tally {
     pub fn add(&mut self, other: &Tally) {
         self.passes += other.passes;
+        self.other += other.other;
+        self.other_accepted += other.other_accepted;
         self.calls += other.calls;
         self.attempts += other.attempts;
         self.accepted += other.accepted;
@@ -91,6 +100,7 @@ impl Tally {
             "{} passes in {} calls: {} attempts, {} corrections, {} lookups",
             self.passes, self.calls, self.attempts, self.accepted, self.lookups
         );
+        println!("besides, of reads with other bytes and without natir/br: {} passes, {} corrections", self.other, self.other_accepted);
         for (method, by) in METHODS.iter().zip(self.by) {
             println!("corrections by {method:?}: {}", counts(ALL_BY.iter().map(|by| format!("{by:?}")), &by));
         }
@@ -113,6 +123,24 @@ impl Tally {
         add_each(&mut self.by[method as usize], &pass.by.map(u64::from));
         add_each(&mut self.events, &pass.events.map(u64::from));
     }
+
+    fn add_other(&mut self, passes: &[Pass]) {
+        for pass in passes {
+            self.other += 1;
+            self.other_accepted += pass.accepted;
+            add_each(&mut self.events, &pass.events.map(u64::from));
+        }
+    }
+
+    /// What agreed, as the last line counts it.
+    pub fn agreed(&self) -> u64 {
+        self.passes + self.other + self.refusals.iter().sum::<u64>()
+    }
+}
+
+/// Whether natir/br reads a read as document 02 does: whether each byte has a code there.
+pub fn has_codes(read: &[u8]) -> bool {
+    read.iter().all(|byte| code(*byte).is_some())
 }
 
 /// Whether entries have more than one confirm. Graph has no use for its own.
@@ -187,13 +215,22 @@ pub fn check_open(library: &dyn Library, site: &Site, tally: &mut Tally) -> Resu
     Ok(())
 }
 
-/// A call on all sides: every byte and count of every pass, the answer, and every lent byte afterwards.
+/// A call on all sides: every byte and count of every pass, the answer, and every lent byte afterwards. natir/br has no part where a read holds
+/// other bytes than the ten letters.
 pub fn check_call(library: &dyn Library, site: &Site, job: &Job, buffers: &mut Buffers, tally: &mut Tally) -> Result<(), Disagreement> {
     let outcome = calls::call(&site.opened, job);
     if let Some(keys) = &site.keys {
         for (read, passes) in calls::reads(job).into_iter().zip(&outcome.passes) {
-            check_passes(keys, job, read, passes, tally)?;
+            if has_codes(read) {
+                check_passes(keys, job, read, passes, tally)?;
+            } else {
+                tally.add_other(passes);
+            }
         }
+    }
+    // Nothing in the job counts here, and most reads are corrected by One, too.
+    if job.call == Call::Read && job.entries.first() == Some(&Method::One.byte()) {
+        same("the count of solid k-mers", calls::count_solid(&site.opened, &job.input), library.count_solid(&site.bytes, &job.input))?;
     }
     buffers.output.clear();
     buffers.output.resize(job.output, LENT);

@@ -6,7 +6,8 @@
 //! - `library`: the corrector itself, linked through `boundary`, or the referee in its place.
 //!
 //! Bytes are compared on all three; turns, attempts and corrections too; lookups of the corrector with the referee's, and the Rust's
-//! with the referee's plus what the referee says the Rust asks again.
+//! with the referee's plus what the referee says the Rust asks again. Reads with other bytes than A, C, G, T, U and their lower case, which
+//! natir/br reads in a way of its own, are compared between the library and the referee alone.
 
 // But for bench/system.rs.
 #![deny(unsafe_code)]

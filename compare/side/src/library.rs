@@ -1,5 +1,5 @@
 //! The corrector as the comparison sees it: the linked library, or the referee in its place.
-use crate::referee::calls::{call, Answer, Call, Job};
+use crate::referee::calls::{call, count_solid, Answer, Call, Job};
 use crate::referee::make::make_set;
 use crate::referee::set::{open, Refusal};
 
@@ -15,10 +15,8 @@ pub trait Library: Sync {
     /// The set file made from k-mer counts as text: the length of the blocks in bytes, or a refusal.
     fn make_set(&self, text: &[u8], k: u64, least: u64, blocks: &mut [u8]) -> Result<u64, Refusal>;
 
-    /// How many of a read's k-mers are solid, asked one after the other: the plain loop of the benchmark, where there is an entry for it.
-    fn count_solid(&self, _set: &[u8], _read: &[u8]) -> Option<u64> {
-        None
-    }
+    /// The k-mers of a read and the solid ones among them, or refusal 1 or 7 to 10: the plain loop of the benchmark.
+    fn count_solid(&self, set: &[u8], read: &[u8]) -> Result<(u64, u64), Refusal>;
 }
 
 /// The referee in the library's place.
@@ -51,6 +49,10 @@ impl Library for StandIn {
         blocks.fill(0);
         blocks[..made.len()].copy_from_slice(&made);
         Ok(made.len() as u64)
+    }
+
+    fn count_solid(&self, set: &[u8], read: &[u8]) -> Result<(u64, u64), Refusal> {
+        count_solid(&open(set), read)
     }
 }
 

@@ -3,9 +3,11 @@ use crate::cases::{any_entries, batch_of, damage, job, reads, sets};
 use crate::check::{check_call, tells_confirms_apart, Buffers, Site, Tally, LENT};
 use crate::library::{Library, StandIn};
 use crate::referee::calls::{call, entries, Answer, Call, Job, Report};
-use crate::referee::correctors::{Method, METHODS};
+use crate::referee::correctors::{Event, Method, METHODS};
+use crate::referee::driver::Pass;
 use crate::referee::set::Refusal;
 use crate::rng::Rng;
+use crate::samples::SAMPLES;
 
 /// The seed of the list that is kept.
 pub const SEED: u64 = 1;
@@ -32,6 +34,11 @@ const QUOTA: u64 = 24;
 
 /// So many calls give other bytes if one confirm of the job is taken for all.
 const APART: u64 = 300;
+
+/// For each of these k, so many calls meet an unknown letter in each of these places, with a mend and as many without one.
+const UNKNOWN_K: [u8; 4] = [1, 3, 21, 31];
+const UNKNOWN_AT: [Event; 4] = [Event::UnknownFirst, Event::UnknownBase, Event::UnknownConfirm, Event::UnknownEnd];
+const UNKNOWN: u32 = 10;
 
 #[derive(Default)]
 struct List {
@@ -81,7 +88,7 @@ impl List {
         self.cases += 1;
     }
 
-    /// A call, after natir/br and the referee have agreed on it.
+    /// A call, after natir/br and the referee have agreed on it; on reads with other bytes than the ten letters it is the referee's alone.
     fn call(&mut self, site: &Site, job: &Job) {
         assert!(site.bytes.len() <= MOST_SET && job.entries.len() <= MOST_ENTRIES);
         assert!(job.input.len() <= MOST_INPUT && job.output <= MOST_OUTPUT && job.work <= MOST_WORK);
@@ -127,13 +134,16 @@ impl List {
     }
 }
 
-/// Document 01's sample reads, at their set.
+/// The sample reads, at their set.
 fn samples(list: &mut List) {
     let site = Site::new(crate::samples::set());
     list.open(&site);
+    let mut reads = SAMPLES.map(|sample| sample.2).to_vec();
+    reads.sort();
+    reads.dedup();
     for method in METHODS {
         for confirm in [1, 2] {
-            for read in ["AACGC", "AACC", "AACGTC", "AACG", "AACGCCG", "AACCG", "AAC", "AA", ""] {
+            for read in &reads {
                 list.call(&site, &job(Call::Read, &[method.byte(), confirm], read.as_bytes()));
             }
         }
@@ -152,7 +162,7 @@ fn samples(list: &mut List) {
     list.call(&site, &Job { output: 0, work: 2, ..job(Call::Batch, &[], b"\n") });
 }
 
-/// For every k: sets of genomes, of cycles, dense ones; reads with errors, of arbitrary bytes, at every limit.
+/// For every k: sets of genomes, of cycles, dense ones; reads with errors, in all ten letters, with other bytes, at every limit.
 fn correct(list: &mut List, rng: &mut Rng) {
     for round in 0..6 {
         for k in (1..=31).step_by(2) {
@@ -168,7 +178,11 @@ fn correct(list: &mut List, rng: &mut Rng) {
             for _ in 0..40 {
                 let read = match (round, rng.below(6)) {
                     (5, _) => reads::in_set(rng, &site),
-                    (_, 0) => reads::bytes(rng, &genome),
+                    (_, 0) => {
+                        let read = reads::noisy(rng, &genome, 160);
+                        let written = *rng.pick(&[reads::in_ten_letters, reads::with_unknown]);
+                        written(rng, read)
+                    }
                     (_, 1) => {
                         let length = (k as usize + rng.below(8)).saturating_sub(2);
                         reads::noisy_of_length(rng, &genome, length)
@@ -183,7 +197,10 @@ fn correct(list: &mut List, rng: &mut Rng) {
             for _ in 0..4 {
                 let count = rng.below(9);
                 let entries = any_entries(rng, count, 6);
-                let lines: Vec<_> = (0..rng.below(5)).map(|_| reads::noisy(rng, &genome, 60)).collect();
+                let mut lines: Vec<_> = (0..rng.below(5)).map(|_| reads::noisy(rng, &genome, 60)).collect();
+                if let Some(last) = lines.pop() {
+                    lines.push(if rng.percent(20) { reads::with_unknown(rng, last) } else { last });
+                }
                 let mut batch = job(Call::Batch, &entries, &batch_of(&lines));
                 if rng.percent(40) {
                     batch.output = rng.within(batch.input.len().saturating_sub(6), batch.input.len() + 4);
@@ -192,6 +209,38 @@ fn correct(list: &mut List, rng: &mut Rng) {
             }
         }
     }
+}
+
+/// Reads with bytes that have no code: in the first k-mer, as the bad base, among the bases that confirm a mend, in T.
+fn unknown(list: &mut List, rng: &mut Rng) {
+    for k in UNKNOWN_K {
+        let mut met = [[0; 2]; UNKNOWN_AT.len()];
+        for _ in 0..100 {
+            let (site, genome) = if k < 5 { (sets::dense(rng, k), Vec::new()) } else { small_genome(rng, k) };
+            for _ in 0..40 {
+                let read = if genome.is_empty() { reads::in_set(rng, &site) } else { reads::noisy(rng, &genome, 100) };
+                let read = reads::with_unknown(rng, read);
+                let job = job(Call::Read, &[rng.pick(&METHODS).byte(), rng.within(1, 4) as u8], &read);
+                if meets_unknown(&call(&site.opened, &job).passes[0][0], &mut met) {
+                    list.call(&site, &job);
+                }
+            }
+        }
+        println!("k = {k}: calls with {UNKNOWN_AT:?}, without and with a mend: {met:?}");
+    }
+}
+
+/// Whether a pass meets an unknown letter in a place where not enough have, counting passes with a mend and without one apart.
+fn meets_unknown(pass: &Pass, met: &mut [[u32; 2]; UNKNOWN_AT.len()]) -> bool {
+    let mut wanted = false;
+    for (met, event) in met.iter_mut().zip(UNKNOWN_AT) {
+        let met = &mut met[(pass.accepted > 0) as usize];
+        if pass.events[event as usize] > 0 && *met < UNKNOWN {
+            *met += 1;
+            wanted = true;
+        }
+    }
+    wanted
 }
 
 fn small_genome(rng: &mut Rng, k: u8) -> (Site, Vec<u8>) {
@@ -220,7 +269,7 @@ fn confirms(list: &mut List, rng: &mut Rng) {
 
 /// Scenarios that are rare, sought in small sets until each is met often enough.
 fn rare(list: &mut List, rng: &mut Rng) {
-    for _ in 0..40_000 {
+    for _ in 0..80_000 {
         let k = *rng.pick(&[3, 5, 7, 9, 11]);
         let (site, genome) = match rng.below(3) {
             0 if k < 7 => (sets::dense(rng, k), Vec::new()),
@@ -283,6 +332,7 @@ pub fn write(file: &str, seed: u64) -> Result<(), String> {
     let rng = &mut Rng::of_unit(seed, u64::MAX);
     samples(&mut list);
     correct(&mut list, rng);
+    unknown(&mut list, rng);
     confirms(&mut list, rng);
     rare(&mut list, rng);
     own_confirms(&mut list, rng);

@@ -1,6 +1,7 @@
-//! Document 01, "Sample reads": what it prints, held against a library.
+//! Document 01, "Sample reads", and reads for document 02: what it prints, held against a library.
 use crate::cases::job;
 use crate::library::Library;
+use crate::oracle::{self, Keys};
 use crate::referee::calls::{Call, Job};
 use crate::referee::correctors::Method::{self, GapSize, Graph, One, Two};
 use crate::set_file;
@@ -8,7 +9,7 @@ use crate::set_file;
 /// Method, confirm, read, result; turns and lookups where the document gives them.
 type Sample = (Method, u8, &'static str, &'static str, Option<u64>, Option<u64>);
 
-const SAMPLES: [Sample; 13] = [
+pub const SAMPLES: [Sample; 31] = [
     (One, 1, "AACGC", "AACTC", Some(2), Some(12)),
     (One, 1, "AACC", "AACTC", Some(2), Some(11)),
     (One, 1, "AACGTC", "AACTC", None, None),
@@ -22,11 +23,39 @@ const SAMPLES: [Sample; 13] = [
     (One, 1, "AA", "AA", None, None),
     (One, 1, "", "", None, None),
     (One, 1, "AAC", "AAC", Some(0), Some(1)),
+    // Document 02, W5: an unknown letter as the bad base, behind a mend, in the first k-mer.
+    (One, 1, "AACNC", "AACTC", Some(2), Some(10)),
+    (One, 1, "AACGN", "AACGN", Some(2), Some(10)),
+    (One, 1, "NAACGC", "NAACTC", Some(3), Some(12)),
+    (One, 1, "AAN", "AAN", Some(0), Some(0)),
+    (Two, 2, "AACNCCG", "AACNCCG", Some(4), Some(40)),
+    (Two, 1, "AACCN", "AACTCCN", Some(3), Some(46)),
+    (Graph, 1, "AACNCCG", "AACTCCG", Some(1), Some(21)),
+    (GapSize, 1, "AACNCCG", "AACTCCG", Some(4), Some(15)),
+    (GapSize, 1, "AACNNNNN", "AACTCCNN", Some(3), Some(47)),
+    // In T, which then equals no k-mer: the walk moves and pays. In the last two T would be x if the letter stood for A, as I does in 01.
+    (Graph, 1, "CGGN", "CGGN", Some(1), Some(25)),
+    (Graph, 1, "CCGTGGN", "CCGTGGN", None, Some(35)),
+    (Graph, 1, "AACGNCT", "AACGNCT", None, Some(51)),
+    (Graph, 1, "AACGICT", "AACGICT", None, Some(51)),
+    // What natir/br reads otherwise.
+    (One, 1, "CTCN", "CTCN", Some(1), Some(8)),
+    (One, 1, "CCGNA", "CCGGA", Some(2), Some(10)),
+    // Lower case and U have codes; kept bases keep their byte.
+    (One, 1, "aacgc", "aacTc", Some(2), Some(12)),
+    (One, 1, "AACGUC", "AACTC", Some(2), Some(13)),
+    (Graph, 1, "aacguccg", "aacTCCg", Some(2), Some(20)),
 ];
 
-/// The set of the samples: k = 3, keys 6, 23, 51, 58, 60.
+/// Two of those reads, and what natir/br makes of them, which reads N as G (docs/DIFFERENCES.md).
+const N_AS_G: [(&str, &str); 2] = [("CTCN", "CTCCN"), ("CCGNA", "CCGNA")];
+
+/// The set of the samples.
+const K: u8 = 3;
+const KEYS: [u64; 5] = [6, 23, 51, 58, 60];
+
 pub fn set() -> Vec<u8> {
-    set_file::make(3, &[6, 23, 51, 58, 60])
+    set_file::make(K as u64, &KEYS)
 }
 
 /// The samples that a library gives otherwise than the document prints. Document 02 has the printed job as bytes 3, 1.
@@ -41,6 +70,12 @@ pub fn wrong(library: &dyn Library) -> Vec<String> {
     let batch = job(Call::Batch, &[3, 1], b"AACGCCG\nAA\n");
     if !gives(library, &batch, b"AACTCCG\nAA\n", Some(1), Some(24)) {
         wrong.push("the printed batch differs".to_string());
+    }
+    let keys = Keys::new(K, &KEYS);
+    for (read, result) in N_AS_G {
+        if oracle::pass(&keys, One, 1, read.as_bytes()).bytes != result.as_bytes() {
+            wrong.push(format!("natir/br, One, confirm 1, {read:?} does not give {result:?}"));
+        }
     }
     wrong
 }

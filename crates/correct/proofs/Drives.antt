@@ -8,6 +8,7 @@ use borrow.Author.Tests.{le-ltb, lt-ltb}
 use native.Mathlib.Decide.{decLe}
 use lib.ListN.{length, drop, length-drop}
 use lib.Seq.{length-take-le}
+use Rattle.rules.specs.Letters.{Kmer}
 use Rattle.rules.specs.Counted.{Try}
 use Rattle.turn.proofs.Ends.{turnsOf-keeps, turnsOf-within}
 use Rattle.correct.specs.Pass.{returned}
@@ -20,7 +21,7 @@ pub record Fewer (a : Pass) : Type 0 where
   pub attempts : a .attempts ≤ a .turns
   pub accepted : a .accepted ≤ a .turns
 
-module _ (k : ℕ) (sol : ℕ → Bool) (ce : List ℕ → ℕ → Try Mend) where
+module _ (k : ℕ) (sol : ℕ → Bool) (ce : List ℕ → Kmer → Try Mend) where
   pub turnsOf-fewer : (f : ℕ) (st : State) → Fewer (st .done) → Fewer (turnsOf k sol ce f st .done)
   unfolding keepBase mendBase
   turnsOf-fewer =

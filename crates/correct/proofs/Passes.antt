@@ -6,15 +6,19 @@ use mathlib.Core.Path.{_≡_, sym, ap, _∙_}
 use mathlib.Core.Bool.{Bool}
 use mathlib.Core.List.{List}
 use lib.ListN.{length, take, drop}
+use Rattle.rules.specs.Letters as letters
 use Rattle.rules.specs.Letters.{kmer}
+use Rattle.rules.specs.Scan.{ask}
 use Rattle.rules.specs.Set.{setOf, solid}
 use Rattle.rules.specs.Driver as Rules
 use Rattle.rules.specs.Driver.{begin, drive}
 use Rattle.rules.specs.Job.{entry, pass}
 use Rattle.kmer.specs.declared.Header.{Header}
 use Rattle.kmer.specs.declared.Kmer.{Kmer}
-use Rattle.kmer.specs.Kmer.{HasCode}
+use Rattle.kmer.specs.Kmer.{kmerOf, HasLetters}
 use Rattle.set.specs.Ready.{Ready}
+use Rattle.set.specs.declared.Asked.{Asked}
+use Rattle.set.specs.Asked.{AskedIs}
 use Rattle.turn.specs.declared.Place.{Place}
 use Rattle.rules.specs.Calls.{maxRead}
 use Rattle.correct.specs.Pass.{returned, maxF}
@@ -33,9 +37,9 @@ countable w p h l =
       accepted = omega (arith, l .accepted);
     }
 
--- The first k-mer, copied: 1 lookup.
-abbrev pub firstPlace : ℕ → Kmer → Bool → Place
-firstPlace k y v = record { kmer = y; previous = v; at = k; written = k; turns = 0; lookups = 1; attempts = 0; accepted = 0 }
+-- The first k-mer, asked and copied.
+abbrev pub firstPlace : ℕ → Kmer → Asked → Place
+firstPlace k y a = record { kmer = y; previous = a .solid; at = k; written = k; turns = 0; lookups = a .lookups; attempts = 0; accepted = 0 }
 
 module _ (bytes starts : List ℕ) (head : Header) (ready : Ready bytes starts head) (method c : ℕ) (read : List ℕ) where
   pass-is : pass (setOf bytes) (entry method c) read ≡ drive (head .k) (solid (setOf bytes)) (attemptOf bytes method c) read
@@ -48,20 +52,21 @@ module _ (bytes starts : List ℕ) (head : Header) (ready : Ready bytes starts h
   pub pass-long : head .k ≤ length read → head .k ≤ length (pass (setOf bytes) (entry method c) read .bytes)
   pass-long le = rw pass-is (drive-long (head .k) (solid (setOf bytes)) (attemptOf bytes method c) read le)
 
-  pub pass-begun : (y : Kmer) (v : Bool) (out : List ℕ) → head .k ≤ length read → HasCode (head .k) (kmer (head .k) (take (head .k) read)) y
-      → v ≡ solid (setOf bytes) (y .code) → take (head .k) out ≡ take (head .k) read
-      → endOf bytes head method c (stateOf (firstPlace (head .k) y v) read out) ≡ pass (setOf bytes) (entry method c) read
+  pub pass-begun : (y : Kmer) (a : Asked) (out : List ℕ) → head .k ≤ length read → HasLetters (head .k) (kmer (head .k) (take (head .k) read)) y
+      → AskedIs (ask (solid (setOf bytes)) (kmerOf y)) a → take (head .k) out ≡ take (head .k) read
+      → endOf bytes head method c (stateOf (firstPlace (head .k) y a) read out) ≡ pass (setOf bytes) (entry method c) read
   unfolding stateOf begin
-  pass-begun y v out le h e same =
+  pass-begun y a out le h e same =
       let k = head .k in
       let sol = solid (setOf bytes) in
       let ce = attemptOf bytes method c in
-      let v-is : v ≡ sol (kmer k (take k read)) = e ∙ ap sol (h .is) in
-      let begun : stateOf (firstPlace k y v) read out ≡ begin k sol ce read =
+      let v-is : a .solid ≡ ask sol (kmer k (take k read)) .answer = e .solid ∙ ap (λ (z : letters.Kmer). ask sol z .answer) (h .is) in
+      let l-is : a .lookups ≡ ask sol (kmer k (take k read)) .lookups = e .lookups ∙ ap (λ (z : letters.Kmer). ask sol z .lookups) (h .is) in
+      let begun : stateOf (firstPlace k y a) read out ≡ begin k sol ce read =
       λ i. record {
         kmer = h .is i;
         previous = v-is i;
         rest = drop k read;
-        done = record { bytes = same i; turns = 0; lookups = 1; attempts = 0; accepted = 0 };
+        done = record { bytes = same i; turns = 0; lookups = l-is i; attempts = 0; accepted = 0 };
       } in
       ap (endOf bytes head method c) begun ∙ sym (drive-is k sol ce read le) ∙ sym pass-is

@@ -66,6 +66,7 @@ fn turns_of(
             let kmer = Kmer {
                 code: p.kmer.code,
                 rev: p.kmer.rev,
+                unknown: p.kmer.unknown,
             };
             ahead = scan::read_ahead(set, starts, head, kmer, read, p.at);
         }
@@ -100,7 +101,7 @@ fn copied(read: &[u8], out: &mut [u8]) -> Pass
     })
 }
 
-// One pass. Shorter than k: unchanged. Else 1 lookup for the first k-mer, copied, and the turns.
+// One pass. Shorter than k: unchanged. Else the first k-mer is asked, and copied, and the turns come.
 pub fn correct(
     set: &[u8],
     starts: &[u32],
@@ -123,14 +124,14 @@ pub fn correct(
     }
     copy(&read[..k], out);
     let kmer = kmer::seq2bit(read, head);
-    let previous = set::get(set, starts, head, kmer);
+    let asked = set::ask(set, starts, head, kmer);
     let first = Place {
         kmer,
-        previous,
+        previous: asked.solid,
         at: k,
         written: k,
         turns: 0,
-        lookups: 1,
+        lookups: asked.lookups,
         attempts: 0,
         accepted: 0,
     };

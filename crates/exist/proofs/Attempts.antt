@@ -1,45 +1,42 @@
 -- An attempt from its parts: the alternative, the scenarios kept, the choice.
-use Prim.Native.Nat.{ℕ, _+_, _/_, _≤_, _<_}
+use Prim.Native.Nat.{ℕ, _+_, _≤_, _<_}
 use native.Mathlib.Omega.{arith}
 use mathlib.Core.Path.{_≡_, refl, sym, ap, _∙_}
 use mathlib.Core.Bool.{Bool}
-use mathlib.Core.Option.{Option, none, some, Option·some-injective, Option·none-ne-some}
+use mathlib.Core.Option.{none, some, Option·some-injective, Option·none-ne-some}
 use mathlib.Core.List.{List}
 use lib.ListN.{length, take}
-use Rattle.rules.specs.Letters.{last}
+use Rattle.rules.specs.Letters.{Kmer}
 use Rattle.rules.specs.Counted.{Try, after}
 use Rattle.rules.specs.Scan.{alternative}
 use Rattle.rules.specs.Exist.{Scenario, kept, choose, exist}
 use Rattle.rules.specs.Exist as rules
-use Rattle.scan.proofs.Laws.{alternative-is, sole-lookups}
 use Rattle.scan.specs.Attempt.{Attempted}
+use Rattle.scan.proofs.Laws.{alternative-four}
 use Rattle.scan.specs.declared.Attempt.the-variants.{Mend as Mended, Refused, Full}
 use Rattle.scenario.specs.declared.Mend.{Mend}
 use Rattle.scenario.specs.Scenario.{spelledOut}
 use Rattle.scenario.proofs.Trials.{refused-bind, given-bind}
 use Rattle.exist.specs.declared.Scenarii.{Scenarii}
 use Rattle.exist.specs.Exist.{mendsOf, KeptIs}
-use Rattle.exist.proofs.Letters.{last-length}
+use Rattle.exist.proofs.Letters.{spelled-length}
 
 -- made lookups before it
-module _ (k : ℕ) (sol : ℕ → Bool) (c : ℕ) (s : List ℕ) (scs : ℕ → List ℕ → List Scenario) (y made : ℕ) where
+module _ (k : ℕ) (sol : ℕ → Bool) (c : ℕ) (s : List ℕ) (scs : Kmer → List ℕ → List Scenario) (y : Kmer) (made : ℕ) where
   abbrev attempt : Try rules.Mend
   attempt = after made (exist k sol c s scs y)
 
-  -- the 4 lookups of the alternative, and its answer
-  with-answer : {o : Option ℕ} → alternative k sol y .answer ≡ o → alternative k sol y ≡ record { answer = o; lookups = 4 }
-  with-answer e =
-      let four = ap (λ (t : Try ℕ). t .lookups) (alternative-is k sol y) ∙ sole-lookups k sol (y / 4) in
-      λ i. record { answer = e i; lookups = four i }
-
-  pub exist-none : alternative k sol y .answer ≡ none → attempt ≡ record { answer = none; lookups = made + 4 }
+  -- no alternative, after l lookups
+  pub exist-none : {l : ℕ} → alternative k sol y .answer ≡ none → l ≡ alternative k sol y .lookups → attempt ≡ record { answer = none; lookups = made + l }
   unfolding exist after
-  exist-none e = ap (after made) (refused-bind _ (with-answer e))
+  exist-none e f = ap (after made) (refused-bind _ (λ i. record { answer = e i; lookups = sym f i }))
 
-  module _ {x : ℕ} (a : alternative k sol y .answer ≡ some x) (r : Scenarii) (q : KeptIs (kept k sol c s (scs x s)) r) where
+  module _ (low : 1 ≤ k) {x : Kmer} (a : alternative k sol y .answer ≡ some x) (r : Scenarii) (q : KeptIs (kept k sol c s (scs x s)) r) where
     chosen : attempt ≡ after made (after 4 (after (r .lookups) (choose k sol c s y (mendsOf r))))
     unfolding exist
-    chosen = ap (after made) (given-bind _ (with-answer a) ∙ rw (q .answer, q .lookups))
+    chosen =
+        let four = alternative-four k y low sol x a in
+        ap (after made) (given-bind _ (λ i. record { answer = a i; lookups = four i }) ∙ rw (q .answer, q .lookups))
 
     pub exist-answer : attempt .answer ≡ choose k sol c s y (mendsOf r) .answer
     unfolding after
@@ -62,13 +59,13 @@ module _ {index : ℕ} {out : List ℕ} {t : Try rules.Mend} where
           is = (
             λ d f.
                 let same = Option·some-injective (spelledOut m) d (sym e ∙ f) in
-                omega (arith, last-length (m .letters) (m .code), ap (λ (w : rules.Mend). length (w .letters)) same),
+                omega (arith, spelled-length m, ap (λ (w : rules.Mend). length (w .letters)) same),
             λ f. absurd (Option·none-ne-some (spelledOut m) (sym f ∙ e)),
           );
           room = refl;
         }
 
-    pub mended : {out′ : List ℕ} {l : ℕ} → t .lookups ≡ l → m .letters ≤ length out → take (m .letters) out′ ≡ last (m .letters) (m .code)
+    pub mended : {out′ : List ℕ} {l : ℕ} → t .lookups ≡ l → m .letters ≤ length out → take (m .letters) out′ ≡ spelledOut m .letters
         → length out′ ≡ length out → Attempted index out out′ t (Mended (m .letters) (m .resume) l)
     mended p h w n =
         record {

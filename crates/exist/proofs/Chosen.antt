@@ -4,44 +4,52 @@ use native.Mathlib.Omega.{arith}
 use native.Mathlib.Numerals.{add-one}
 use native.Mathlib.Nat.{eq-or-lt-of-le}
 use mathlib.Core.Logic.{_⊎_, inl, inr}
-use mathlib.Core.Path.{_≡_, refl, sym, ap, _∙_}
+use mathlib.Core.Path.{_≡_, refl, ap, _∙_, subst}
 use mathlib.Core.Bool.{Bool, true, false}
 use mathlib.Core.Option.{none, some}
 use mathlib.Core.List.{List, [], _∷_, _++_, map, map-append}
 use lib.ListN.{length, take, drop, getD, set, replicate, length-map, List·getD-map, drop-of-length-le}
 use lib.Seq.{length-take-le, getD-take, drop-cons, take-suc-set, getD-set-same, getD-set-other}
 use borrow.Author.Tests.{lt-ltb, le-ltb}
-use Rattle.rules.specs.Letters.{inPlace, addAll}
+use Rattle.rules.specs.Letters.{Kmer, inPlace, addAll}
 use Rattle.rules.specs.Counted.{Counted, refuse, give, after, _>>_}
-use Rattle.rules.specs.Scan.{only, isSolid}
+use Rattle.rules.specs.Scan.{only, ask, isSolid}
 use Rattle.rules.specs.Exist.{Mend, cons, oneMore, oneMoreOf, choose}
+use Rattle.set.specs.declared.Asked.{Asked as More}
+use Rattle.set.specs.Asked.{AskedIs}
 use Rattle.scenario.proofs.Trials.{solid-yes, solid-no, refused-then, given-then}
 use Rattle.scenario.specs.declared.Mend.{Mend as Kept}
 use Rattle.scenario.specs.Scenario.{spelledOut, Small}
-use Rattle.exist.specs.declared.More.{More}
 use Rattle.exist.specs.Exist.{blank, moreOf}
 
 -- ---- one base more
 
-module _ (k : ℕ) (sol : ℕ → Bool) (c : ℕ) (s : List ℕ) (y : ℕ) (m : Mend) where
+module _ (k : ℕ) (sol : ℕ → Bool) (c : ℕ) (s : List ℕ) (y : Kmer) (m : Mend) where
   pub more-short : length s ≤ c + m .resume + 1 → moreOf m (record { solid = false; lookups = 0 }) ≡ oneMore k sol c s y m
   unfolding oneMore refuse
   more-short h = rw (le-ltb (c + m .resume + 1) (length s) h, oneMore)
 
-  -- the answer p to the lookup of z
-  asked : (z : ℕ) (p : Bool) → p ≡ sol z → moreOf m (record { solid = p; lookups = 1 }) ≡ isSolid k sol z >> give m
+  -- z asked, and answered by r
+  asked : (z : Kmer) (r : More) → AskedIs (ask sol z) r → moreOf m r ≡ isSolid k sol z >> give m
   unfolding give after
-  asked z true e = sym (given-then (give m) (solid-yes k sol z (sym e)))
-  asked z false e = sym (refused-then (give m) (solid-no k sol z (sym e)))
+  asked z r a = go (r .solid) refl
+    where
+      same : r .lookups + 0 ≡ r .lookups
+      same = omega arith
 
-  pub more-long : {e z : ℕ} {p : Bool} → c + m .resume + 1 < length s → e ≡ c + m .resume + 1
-      → z ≡ addAll k (inPlace k y (m .letters)) (take (e - m .resume) (drop (m .resume) s)) → p ≡ sol z
-      → moreOf m (record { solid = p; lookups = 1 }) ≡ oneMore k sol c s y m
+      go : (t : Bool) → r .solid ≡ t → moreOf m r ≡ isSolid k sol z >> give m
+      go true e = rw (given-then (give m) (solid-yes sol z a k e), same, e)
+      go false e = rw (refused-then (give m) (solid-no sol z a k e), e)
+
+  pub more-long : {e : ℕ} {z : Kmer} {r : More} → c + m .resume + 1 < length s → e ≡ c + m .resume + 1
+      → z ≡ addAll k (inPlace k y (m .letters)) (take (e - m .resume) (drop (m .resume) s)) → AskedIs (ask sol z) r
+      → moreOf m r ≡ oneMore k sol c s y m
   unfolding oneMore
-  more-long {e} {z} {p} h f q r =
+  more-long {e} {z} {r} h f q a =
+      let end : ℕ → Kmer = λ i. addAll k (inPlace k y (m .letters)) (take i (drop (m .resume) s)) in
       let n : e - m .resume ≡ c + 1 = omega arith in
-      rw (lt-ltb (c + m .resume + 1) (length s) h, oneMore)
-      (asked _ p (r ∙ ap sol (q ∙ ap (λ (i : ℕ). addAll k (inPlace k y (m .letters)) (take i (drop (m .resume) s))) n)))
+      let z-is : z ≡ end (c + 1) = q ∙ ap end n in
+      rw (lt-ltb (c + m .resume + 1) (length s) h, oneMore) (asked (end (c + 1)) r (subst (λ (w : Kmer). AskedIs (ask sol w) r) z-is a))
 
 -- ---- the mends of the group
 
@@ -81,7 +89,7 @@ only-next (suc zero) m m′ l = refl
 only-next (suc (suc n)) m m′ l = refl
 
 -- n remain, of which m is the last, after l lookups, with those from i on still to be asked
-module _ (k : ℕ) (sol : ℕ → Bool) (c : ℕ) (s : List ℕ) (y : ℕ) (ms : List Mend) where
+module _ (k : ℕ) (sol : ℕ → Bool) (c : ℕ) (s : List ℕ) (y : Kmer) (ms : List Mend) where
   abbrev of : List Mend → Counted (List Mend)
   of = oneMoreOf k sol c s y
 
@@ -145,7 +153,7 @@ module _ (k : ℕ) (sol : ℕ → Bool) (c : ℕ) (s : List ℕ) (y : ℕ) (ms :
         not-one (suc zero) g = absurd (g refl)
         not-one (suc (suc a)) g = refl
 
-pub choose-one : (k : ℕ) (sol : ℕ → Bool) (c : ℕ) (s : List ℕ) (y : ℕ) (ms : List Mend) {m : Mend} → ms ≡ m ∷ []
+pub choose-one : (k : ℕ) (sol : ℕ → Bool) (c : ℕ) (s : List ℕ) (y : Kmer) (ms : List Mend) {m : Mend} → ms ≡ m ∷ []
     → choose k sol c s y ms ≡ record { answer = some m; lookups = 0 }
 unfolding choose give
 choose-one k sol c s y ms e = rw e

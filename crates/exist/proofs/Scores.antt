@@ -2,7 +2,7 @@
 use Prim.Native.Nat.{ℕ, suc, _+_, _-_, _≤_, _<_}
 use native.Mathlib.Omega.{arith}
 use native.Mathlib.Numerals.{add-one}
-use mathlib.Core.Path.{_≡_, refl, sym, ap, _∙_}
+use mathlib.Core.Path.{_≡_, refl, sym, ap, _∙_, subst}
 use mathlib.Core.Bool.{Bool, true, false}
 use mathlib.Core.Option.{Option, none, some}
 use mathlib.Core.List.{List, [], _∷_, _++_, append-assoc, append-nil}
@@ -10,11 +10,14 @@ use lib.Dec.{ltb, lit≤}
 use lib.ListN.{length, take, drop, getD, drop-of-length-le}
 use lib.Seq.{drop-cons, slice, slice-cons, slice-empty, take-add, drop-at, length-take-le}
 use borrow.Author.Tests.{lt-ltb, le-ltb, eq-eqb, ne-eqb}
-use Rattle.rules.specs.Letters.{addBase}
+use Rattle.rules.specs.Letters.{Kmer, addBase}
 use Rattle.rules.specs.Counted.{Counted, after, refuse, _>>=_}
+use Rattle.rules.specs.Scan.{ask}
 use Rattle.rules.specs.Exist.{Scenario, Mend, cons, one, two, solidRun, score, keep, tried, kept}
+use Rattle.set.specs.declared.Asked.{Asked}
+use Rattle.set.specs.Asked.{AskedIs}
 use Rattle.scenario.specs.Scenario.{numberOf, scenarios, nth, trialOf}
-use Rattle.scenario.proofs.Trials.{refused-bind, given-bind}
+use Rattle.scenario.proofs.Trials.{asked-is, solid-one, refused-bind, given-bind}
 use Rattle.exist.specs.Exist.{confirm}
 
 module _ (k : ℕ) (sol : ℕ → Bool) (c : ℕ) (s : List ℕ) (pos : 1 ≤ c) (sc : Scenario) where
@@ -28,7 +31,7 @@ module _ (k : ℕ) (sol : ℕ → Bool) (c : ℕ) (s : List ℕ) (pos : 1 ≤ c)
       go true e = rw (e, tried, trialOf) refl
       go false e = rw (e, tried, trialOf) refl
 
-  keep-none : {n : ℕ} (t : ℕ) → score k sol c s (sc .o) t ≡ record { answer = 0; lookups = n } → keep k sol c s sc t ≡ record { answer = none; lookups = n }
+  keep-none : {n : ℕ} (t : Kmer) → score k sol c s (sc .o) t ≡ record { answer = 0; lookups = n } → keep k sol c s sc t ≡ record { answer = none; lookups = n }
   unfolding keep
   keep-none t e = rw (e, keep, ne-eqb 0 c (λ z. omega arith))
 
@@ -36,62 +39,75 @@ module _ (k : ℕ) (sol : ℕ → Bool) (c : ℕ) (s : List ℕ) (pos : 1 ≤ c)
     pub eligible-none : trialOf s sc ≡ record { answer = none; lookups = l } → tried k sol c s sc ≡ record { answer = none; lookups = l }
     eligible-none e = tried-by ∙ refused-bind (keep k sol c s sc) e
 
-    module _ {t : ℕ} (e : trialOf s sc ≡ record { answer = some t; lookups = l }) where
-      pub eligible-weak : sol t ≡ false → tried k sol c s sc ≡ record { answer = none; lookups = l + 1 }
+    -- the tried k-mer t asked, and answered by r
+    module _ {t : Kmer} {r : Asked} (e : trialOf s sc ≡ record { answer = some t; lookups = l }) (asked : AskedIs (ask sol t) r) where
+      pub eligible-weak : r .solid ≡ false → tried k sol c s sc ≡ record { answer = none; lookups = l + r .lookups }
       unfolding score after
-      eligible-weak f = tried-by ∙ given-bind (keep k sol c s sc) e ∙ rw (keep-none {n = 1} t (rw (f, score)))
+      eligible-weak f =
+          tried-by
+          ∙ given-bind (keep k sol c s sc) e
+          ∙ rw (keep-none {n = r .lookups} t (rw (asked-is sol t asked f, score, asked .lookups)))
 
-      pub eligible-short : sol t ≡ true → length s < sc .o + c → tried k sol c s sc ≡ record { answer = none; lookups = l + 1 }
+      pub eligible-short : r .solid ≡ true → length s < sc .o + c → tried k sol c s sc ≡ record { answer = none; lookups = l + r .lookups }
       unfolding score after
-      eligible-short f h = tried-by ∙ given-bind (keep k sol c s sc) e ∙ rw (keep-none {n = 1} t (rw (f, score, lt-ltb (length s) (sc .o + c) h)))
+      eligible-short f h =
+          tried-by
+          ∙ given-bind (keep k sol c s sc) e
+          ∙ rw (keep-none {n = r .lookups} t (rw (asked-is sol t asked f, score, lt-ltb (length s) (sc .o + c) h, asked .lookups)))
 
-      pub eligible-on : sol t ≡ true → sc .o + c ≤ length s → tried k sol c s sc ≡ after (l + 1) (confirm k sol c s sc t)
+      pub eligible-on : r .solid ≡ true → sc .o + c ≤ length s → tried k sol c s sc ≡ after (l + r .lookups) (confirm k sol c s sc t)
       unfolding score after confirm keep
       eligible-on f h =
           tried-by
           ∙ given-bind (keep k sol c s sc) e
-          ∙ rw (f, keep, score, le-ltb (length s) (sc .o + c) h)
+          ∙ rw (asked-is sol t asked f, keep, score, le-ltb (length s) (sc .o + c) h, asked .lookups)
           (let n = solidRun k sol t (take c (drop (sc .o) s)) .lookups in
-          let z : l + (1 + n) ≡ l + 1 + n = omega arith in
+          let z : l + (ask sol t .lookups + n) ≡ l + ask sol t .lookups + n = omega arith in
           λ i. record { answer = confirm k sol c s sc t .answer; lookups = z i })
 
 -- ---- the bases added
 
 -- t at index o leads to z at index j, all solid between; e is the end
-module _ (k : ℕ) (sol : ℕ → Bool) (o e : ℕ) (s : List ℕ) (t : ℕ) where
-  abbrev from : ℕ → ℕ → Counted ℕ
+module _ (k : ℕ) (sol : ℕ → Bool) (o e : ℕ) (s : List ℕ) (t : Kmer) where
+  abbrev from : ℕ → Kmer → Counted ℕ
   from j z = solidRun k sol z (slice j e s)
 
-  pub record Run (j z : ℕ) : Type 0 where
+  pub record Run (j : ℕ) (z : Kmer) : Type 0 where
     pub answer : from o t .answer ≡ (j - o) + from j z .answer
     pub lookups : from o t .lookups ≡ (j - o) + from j z .lookups
 
   pub run-none : Run o t
   run-none = record { answer = omega arith; lookups = omega arith }
 
-  module _ {j z z′ : ℕ} {p : Bool} (r : Run j z) (l : o ≤ j) (h : j < e) (g : e ≤ length s) (z-is : z′ ≡ addBase k z (getD s j 0)) (p-is : p ≡ sol z′) where
-    asked : {q : Bool} → p ≡ q → sol (addBase k z (getD s j 0)) ≡ q
-    asked f = ap sol (sym z-is) ∙ sym p-is ∙ f
+  -- base j added gives z′, which is asked and answered by p
+  module _ {j : ℕ} {z z′ : Kmer} {p : Asked} (r : Run j z) (l : o ≤ j) (h : j < e) (g : e ≤ length s) (z-is : z′ ≡ addBase k z (getD s j 0)) (asked : AskedIs (ask sol z′) p) where
+    abbrev after-base : Kmer
+    after-base = addBase k z (getD s j 0)
 
-    pub run-on : p ≡ true → Run (j + 1) z′
+    here : AskedIs (ask sol after-base) p
+    here = subst (λ (w : Kmer). AskedIs (ask sol w) p) z-is asked
+
+    pub run-on : p .solid ≡ true → Run (j + 1) z′
     unfolding solidRun
     run-on f =
-        let n : from j z ≡ record { answer = suc (from (j + 1) z′ .answer); lookups = suc (from (j + 1) z′ .lookups) } =
-        rw (slice-cons j e s 0 h g, solidRun, asked f, ← z-is, add-one) in
+        let one : ask sol after-base .lookups ≡ 1 = sym (here .lookups) ∙ solid-one sol after-base here f in
+        let n : from j z ≡ record { answer = suc (from (j + 1) z′ .answer); lookups = 1 + from (j + 1) z′ .lookups } =
+        rw (slice-cons j e s 0 h g, solidRun, asked-is sol after-base here f, one, z-is, add-one) in
         record {
           answer = omega (arith, r .answer, ap (λ (m : Counted ℕ). m .answer) n);
           lookups = omega (arith, r .lookups, ap (λ (m : Counted ℕ). m .lookups) n);
         }
 
-    pub run-bad : p ≡ false → from o t ≡ record { answer = j - o; lookups = j - o + 1 }
+    pub run-bad : p .solid ≡ false → from o t ≡ record { answer = j - o; lookups = j - o + p .lookups }
     unfolding solidRun
     run-bad f =
-        let n : from j z ≡ record { answer = 0; lookups = 1 } = rw (slice-cons j e s 0 h g, solidRun, asked f) in
+        let n : from j z ≡ record { answer = 0; lookups = p .lookups } =
+        rw (slice-cons j e s 0 h g, solidRun, asked-is sol after-base here f, here .lookups) in
         let a : from o t .answer ≡ j - o = omega (arith, r .answer, ap (λ (m : Counted ℕ). m .answer) n) in
-        let b : from o t .lookups ≡ j - o + 1 = omega (arith, r .lookups, ap (λ (m : Counted ℕ). m .lookups) n) in
+        let b : from o t .lookups ≡ j - o + p .lookups = omega (arith, r .lookups, ap (λ (m : Counted ℕ). m .lookups) n) in
         λ i. record { answer = a i; lookups = b i }
 
-  pub run-all : {j z : ℕ} → Run j z → e ≤ j → j ≤ e → from o t ≡ record { answer = e - o; lookups = e - o }
+  pub run-all : {j : ℕ} {z : Kmer} → Run j z → e ≤ j → j ≤ e → from o t ≡ record { answer = e - o; lookups = e - o }
   unfolding solidRun
   run-all {j} {z} r h g =
       let q : j ≡ e = omega arith in
@@ -105,7 +121,7 @@ module _ (k : ℕ) (sol : ℕ → Bool) (o e : ℕ) (s : List ℕ) (t : ℕ) whe
 part : (o c : ℕ) (s : List ℕ) → o + c ≤ length s → slice o (o + c) s ≡ take c (drop o s)
 part o c s h = rw (take-add o c s) (drop-at (take o s) (take c (drop o s)) o (length-take-le o s (omega arith)))
 
-module _ (k : ℕ) (sol : ℕ → Bool) (c : ℕ) (s : List ℕ) (sc : Scenario) (o t : ℕ) (o-is : o ≡ sc .o)
+module _ (k : ℕ) (sol : ℕ → Bool) (c : ℕ) (s : List ℕ) (sc : Scenario) (o : ℕ) (t : Kmer) (o-is : o ≡ sc .o)
     (long : sc .o + c ≤ length s)
     {a n : ℕ}
     (run : solidRun k sol t (slice o (o + c) s) ≡ record { answer = a; lookups = n })
@@ -174,7 +190,7 @@ module _ (k : ℕ) (sol : ℕ → Bool) (c : ℕ) (s : List ℕ) (scs : List Sce
     pub done-lookups : of scs .lookups ≡ l
     done-lookups = omega (arith, d .lookups, ap (λ (t : Counted (List Mend)). t .lookups) ended)
 
-pub scenarios-length : (b : Bool) (k : ℕ) (sol : ℕ → Bool) (x : ℕ) (s : List ℕ) → length (scenarios b k sol x s) ≡ numberOf b
+pub scenarios-length : (b : Bool) (k : ℕ) (sol : ℕ → Bool) (x : Kmer) (s : List ℕ) → length (scenarios b k sol x s) ≡ numberOf b
 unfolding one two
 scenarios-length true k sol x s = refl
 scenarios-length false k sol x s = refl

@@ -6,24 +6,25 @@ use mathlib.Core.Option.{Option, none, some}
 use mathlib.Core.List.{List, map}
 use lib.ListN.{length, getD, take, drop}
 use lib.Dec.{eqb}
-use Rattle.rules.specs.Letters.{letter, last}
+use Rattle.rules.specs.Letters as letters
+use Rattle.rules.specs.Letters.{letter}
 use Rattle.rules.specs.Counted.{Counted, Try, after}
 use Rattle.rules.specs.Exist.{Scenario}
 use Rattle.rules.specs.Exist as rules
-use Rattle.kmer.specs.Kmer.{IsKmer}
+use Rattle.kmer.specs.Kmer.{kmerOf, IsKmer}
+use Rattle.set.specs.declared.Asked.{Asked}
 use Rattle.scan.specs.declared.Next.{Next}
 use Rattle.scan.specs.declared.Next.the-variants.{Kmer, Refused}
 use Rattle.scenario.specs.declared.Trial.{Trial}
 use Rattle.scenario.specs.declared.Mend.{Mend}
 use Rattle.scenario.specs.Scenario.{spelledOut, Small}
 use Rattle.exist.specs.declared.Scenarii.{Scenarii}
-use Rattle.exist.specs.declared.More.{More}
 use Rattle.exist.specs.declared.Pick.{Pick}
 use Rattle.exist.specs.declared.Pick.the-variants.{Mend as Use, Refused as NoUse}
 use Rattle.exist.specs.declared.Choice.{Choice}
 
 -- What is left of a scenario's score where its tried k-mer t is solid and s long enough: the c bases from o.
-unfoldable pub confirm : ℕ → (ℕ → Bool) → ℕ → List ℕ → Scenario → ℕ → Try rules.Mend
+unfoldable pub confirm : ℕ → (ℕ → Bool) → ℕ → List ℕ → Scenario → letters.Kmer → Try rules.Mend
 confirm k sol c s sc t =
     let m : Counted ℕ = rules.solidRun k sol t (take c (drop (sc .o) s)) in
     record {
@@ -34,7 +35,7 @@ confirm k sol c s sc t =
 -- After l lookups a scenario is refused, or a k-mer is left to confirm, for which s is long enough.
 abbrev pub EligibleIs : ℕ → (ℕ → Bool) → ℕ → List ℕ → Scenario → ℕ → Next → Type 0
 EligibleIs k sol c s sc l (Kmer y) =
-    (rules.tried k sol c s sc ≡ after l (confirm k sol c s sc (y .code))) × IsKmer k y × (sc .o + c ≤ length s)
+    (rules.tried k sol c s sc ≡ after l (confirm k sol c s sc (kmerOf y))) × IsKmer k y × (sc .o + c ≤ length s)
 EligibleIs k sol c s sc l Refused = rules.tried k sol c s sc ≡ record { answer = none; lookups = l }
 
 -- A trial as far as its first confirm base; at most 8 lookups, so that the counts fit.
@@ -44,7 +45,7 @@ pub record Eligible (k : ℕ) (sol : ℕ → Bool) (c : ℕ) (s : List ℕ) (sc 
 
 -- a is the code of letter i.
 pub record LetterIs (m : Mend) (i a : ℕ) : Type 0 where
-  pub is : getD (last (m .letters) (m .code)) i 0 ≡ letter a
+  pub is : getD (spelledOut m .letters) i 0 ≡ letter a
   pub small : a < 4
 
 -- ---- the choice
@@ -71,10 +72,10 @@ pub record KeptIs (k : Counted (List rules.Mend)) (r : Scenarii) : Type 0 where
   pub held : Held r
 
 -- One base more, as the rules answer it: the mend itself, or a refusal.
-abbrev pub moreOf : rules.Mend → More → Try rules.Mend
+abbrev pub moreOf : rules.Mend → Asked → Try rules.Mend
 moreOf m r = record { answer = elim (r .solid) [ true ↦ some m | false ↦ none ]; lookups = r .lookups }
 
-pub record MoreIs (m : rules.Mend) (t : Try rules.Mend) (r : More) : Type 0 where
+pub record MoreIs (m : rules.Mend) (t : Try rules.Mend) (r : Asked) : Type 0 where
   pub is : moreOf m r ≡ t
   pub few : r .lookups ≤ 1
 

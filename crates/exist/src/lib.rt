@@ -1,19 +1,21 @@
-// Document 01, "Correctors", One and Two: ports src/correct/exist/mod.rs. A scenario is its number in the source's order.
+// Document 01, "Correctors", One and Two: ports src/correct/exist/mod.rs. A scenario is its number in the source's order. A k-mer that holds an
+// unknown letter isn't solid, and no lookup is made or counted for it (document 02, W5).
 use kmer::Header;
 use kmer::Kmer;
 use scan::Attempt;
 use scan::Next;
 use scenario::Mend;
 use scenario::Trial;
+use set::Asked;
 ghost use mathlib.Core.Path.{_≡_};
 ghost use Prim.Native.Nat.{_≤_, _<_, _^_};
 ghost use lib.ListN.{length, take};
-ghost use Rattle.rules.specs.Letters.{last, inPlace};
+ghost use Rattle.rules.specs.Letters.{inPlace};
 ghost use Rattle.rules.specs.Set.{solid, setOf};
 ghost use Rattle.rules.specs.Counted.{after};
 ghost use Rattle.rules.specs.Scan.{errorLen};
 ghost use Rattle.rules.specs.Exist as rules;
-ghost use Rattle.kmer.specs.Kmer.{Shifts, IsKmer, HasCode};
+ghost use Rattle.kmer.specs.Kmer.{Shifts, kmerOf, IsKmer, HasLetters};
 ghost use Rattle.set.specs.Ready.{Ready};
 ghost use Rattle.scan.specs.Attempt.{Attempted};
 ghost use Rattle.scenario.specs.Scenario.{numberOf, scenarios, nth, spelledOut, Small};
@@ -23,12 +25,6 @@ ghost use Rattle.exist.specs.Exist.{Eligible, mendsOf, Held, KeptIs, Let
 struct Scenarii {
     kept: [Mend; 13],
     count: usize,
-    lookups: u64,
-}
-
-// One base more: whether its k-mer is solid, and the lookups made.
-struct More {
-    solid: bool,
     lookups: u64,
 }
 
@@ -56,16 +52,18 @@ fn eligible(
 ) -> Trial
     requires { ⌜ Ready (now set) (now starts) head × IsKmer (head .k) x × (number < numberOf two) × (1 ≤ c) × (c < 256) ⌝ }
     ensures { λ r. ⌜ Eligible (head .k) (solid (setOf (now (set .entry)))) c (now (s .entry))
-        (nth (scenarios two (head .k) (solid (setOf (now (set .entry)))) (x .code) (now (s .entry))) number) r ⌝ }
+        (nth (scenarios two (head .k) (solid (setOf (now (set .entry)))) (kmerOf x) (now (s .entry))) number) r ⌝ }
 {
     let trial = scenario::apply(set, starts, head, two, number, x, s);
     let tried = trial.tried;
     let Next::Kmer(kmer) = tried else {
         return trial;
     };
-    let lookups = trial.lookups + 1;
     let start = scenario::check_start(two, number);
-    if !set::get(set, starts, head, kmer) {
+    let asked = set::ask(set, starts, head, kmer);
+    let own = asked.lookups;
+    let lookups = trial.lookups + own;
+    if !asked.solid {
         return Trial {
             tried: Next::Refused,
             lookups,
@@ -92,7 +90,7 @@ fn get_scenarii(
 ) -> Scenarii
     requires { ⌜ Ready (now set) (now starts) head × IsKmer (head .k) x × (1 ≤ c) × (c < 256) ⌝ }
     ensures { λ r. ⌜ KeptIs (rules.kept (head .k) (solid (setOf (now (set .entry)))) c (now (s .entry))
-        (scenarios two (head .k) (solid (setOf (now (set .entry)))) (x .code) (now (s .entry)))) r ⌝ }
+        (scenarios two (head .k) (solid (setOf (now (set .entry)))) (kmerOf x) (now (s .entry)))) r ⌝ }
 {
     let mut kept = [Mend {
         code: 0,
@@ -114,12 +112,13 @@ fn get_scenarii(
         let mut kmer = first;
         for j in start..last {
             kmer = scan::add_base(kmer, s[j], head);
-            lookups += 1;
-            if !set::get(set, starts, head, kmer) {
+            let asked = set::ask(set, starts, head, kmer);
+            lookups += asked.lookups;
+            if !asked.solid {
                 continue 'scenarios;
             }
         }
-        kept[count] = scenario::correct(two, number, x.code, first.code);
+        kept[count] = scenario::correct(two, number, x, first);
         count += 1;
     }
     Scenarii {
@@ -139,7 +138,7 @@ fn letter_at(mend: Mend, i: usize) -> u64
 
 fn write(mend: Mend, out: &mut [u8])
     requires { ⌜ Small mend × (mend .letters ≤ length (now out)) ⌝ }
-    ensures { λ _. ⌜ (take (mend .letters) (now (out .exit)) ≡ last (mend .letters) (mend .code)) × (length (now (out .exit)) ≡ length (now (out .entry))) ⌝ }
+    ensures { λ _. ⌜ (take (mend .letters) (now (out .exit)) ≡ spelledOut mend .letters) × (length (now (out .exit)) ≡ length (now (out .entry))) ⌝ }
 {
     let letters = mend.letters;
     for i in 0..letters {
@@ -150,7 +149,7 @@ fn write(mend: Mend, out: &mut [u8])
 // The bad k-mer with the letters in place of its last one.
 fn in_place(kmer: Kmer, mend: Mend, head: Header) -> Kmer
     requires { ⌜ Shifts head × IsKmer (head .k) kmer × Small mend ⌝ }
-    ensures { λ r. ⌜ HasCode (head .k) (inPlace (head .k) (kmer .code) (last (mend .letters) (mend .code))) r ⌝ }
+    ensures { λ r. ⌜ HasLetters (head .k) (inPlace (head .k) (kmerOf kmer) (spelledOut mend .letters)) r ⌝ }
 {
     let letters = mend.letters;
     let mut placed = kmer::drop_last(kmer, head);
@@ -160,6 +159,7 @@ fn in_place(kmer: Kmer, mend: Mend, head: Header) -> Kmer
     placed
 }
 
+// One base more: its k-mer asked, where s is long enough.
 fn one_more(
     set: &[u8],
     starts: &[u32],
@@ -168,23 +168,20 @@ fn one_more(
     kmer: Kmer,
     s: &[u8],
     mend: Mend,
-) -> More
+) -> Asked
     requires { ⌜ Ready (now set) (now starts) head × IsKmer (head .k) kmer × (c < 256) × Small mend ⌝ }
-    ensures { λ r. ⌜ MoreIs (spelledOut mend) (rules.oneMore (head .k) (solid (setOf (now (set .entry)))) c (now (s .entry)) (kmer .code) (spelledOut mend)) r ⌝ }
+    ensures { λ r. ⌜ MoreIs (spelledOut mend) (rules.oneMore (head .k) (solid (setOf (now (set .entry)))) c (now (s .entry)) (kmerOf kmer) (spelledOut mend)) r ⌝ }
 {
     let resume = mend.resume;
     let end = c + resume + 1;
     if s.len() <= end {
-        return More {
+        return Asked {
             solid: false,
             lookups: 0,
         };
     }
     let after = scan::add_all(in_place(kmer, mend, head), &s[resume..end], head);
-    More {
-        solid: set::get(set, starts, head, after),
-        lookups: 1,
-    }
+    set::ask(set, starts, head, after)
 }
 
 // The only one kept, or the only one kept with one base more: all that are long enough are asked.
@@ -198,7 +195,7 @@ fn choose(
     scenarii: Scenarii,
 ) -> Choice
     requires { ⌜ Ready (now set) (now starts) head × IsKmer (head .k) kmer × (c < 256) × Held scenarii ⌝ }
-    ensures { λ r. ⌜ ChoiceIs (rules.choose (head .k) (solid (setOf (now (set .entry)))) c (now (s .entry)) (kmer .code) (mendsOf scenarii)) r ⌝ }
+    ensures { λ r. ⌜ ChoiceIs (rules.choose (head .k) (solid (setOf (now (set .entry)))) c (now (s .entry)) (kmerOf kmer) (mendsOf scenarii)) r ⌝ }
 {
     let kept = scenarii.kept;
     let count = scenarii.count;
@@ -250,11 +247,11 @@ pub fn correct_error(
     out: &mut [u8],
 ) -> Attempt
     requires { ⌜ Ready (now set) (now starts) head × IsKmer (head .k) kmer × (1 ≤ c) × (made < 2 ^ 63) ⌝ }
-    ensures { λ r. ⌜ Attempted (errorLen (head .k) (solid (setOf (now (set .entry)))) (kmer .code) (now (s .entry)) .index) (now (out .entry)) (now (out .exit))
-        (after made (rules.exist (head .k) (solid (setOf (now (set .entry)))) c (now (s .entry)) (scenarios two (head .k) (solid (setOf (now (set .entry))))) (kmer .code))) r ⌝ }
+    ensures { λ r. ⌜ Attempted (errorLen (head .k) (solid (setOf (now (set .entry)))) (kmerOf kmer) (now (s .entry)) .index) (now (out .entry)) (now (out .exit))
+        (after made (rules.exist (head .k) (solid (setOf (now (set .entry)))) c (now (s .entry)) (scenarios two (head .k) (solid (setOf (now (set .entry))))) (kmerOf kmer))) r ⌝ }
 {
     let Next::Kmer(x) = scan::sole_alt(set, starts, head, kmer) else {
-        return Attempt::Refused(made + 4);
+        return Attempt::Refused(made + scan::alt_cost(kmer, head));
     };
     let confirm = c as usize;
     let scenarii = get_scenarii(set, starts, head, two, confirm, x, s);

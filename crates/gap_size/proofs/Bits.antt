@@ -13,8 +13,8 @@ use lib.ListN.{length, getD, set, length-set}
 use lib.Seq.{getD-set-same, getD-set-other}
 use lib.Dec.{eqb}
 use lib.Bits.{bitAnd, bitOr, and-step, or-step, and-zero-r, and-self, and-mask, or-comm}
-use Rattle.rules.specs.Set.{among}
-use Rattle.rules.proofs.Kmer.{add-is, two-four}
+use Rattle.rules.specs.Letters.{Kmer, same, met}
+use Rattle.rules.proofs.Kmer.{same-true, add-is, two-four}
 use Rattle.rules.proofs.Scan.{sole-is}
 use Rattle.rules.specs.Scan.{sole}
 use Rattle.kmer.specs.declared.Header.{Header}
@@ -79,78 +79,78 @@ module _ {filter mid filter′ : List ℕ} {code h b b′ : ℕ} {r r′ q : Boo
         new = λ e i. ⊎-elim (λ n. v .new n (i .one)) (λ n. w .new n (v .kept _ _ (i .other))) (told e);
       }
 
-among-snoc : (z a : ℕ) (ys : List ℕ) → among z (ys ++ (a ∷ [])) ≡ true → (among z ys ≡ true) ⊎ (z ≡ a)
-unfolding among
-among-snoc z a [] h = go (eqb z a) refl h
+met-snoc : (z a : Kmer) (ys : List Kmer) → met z (ys ++ (a ∷ [])) ≡ true → (met z ys ≡ true) ⊎ (z ≡ a)
+unfolding met
+met-snoc z a [] h = go (same z a) refl h
   where
-    go : (t : Bool) → eqb z a ≡ t → t || false ≡ true → (false ≡ true) ⊎ (z ≡ a)
-    go true e g = inr (eqb-true z a e)
+    go : (t : Bool) → same z a ≡ t → t || false ≡ true → (false ≡ true) ⊎ (z ≡ a)
+    go true e g = inr (same-true z a e)
     go false e g = inl g
-among-snoc z a (y ∷ ys) h = go (among-snoc z a ys) (eqb z y) h
+met-snoc z a (y ∷ ys) h = go (met-snoc z a ys) (same z y) h
   where
-    go : (among z (ys ++ (a ∷ [])) ≡ true → (among z ys ≡ true) ⊎ (z ≡ a)) → (t : Bool) → t || among z (ys ++ (a ∷ [])) ≡ true
-        → (t || among z ys ≡ true) ⊎ (z ≡ a)
+    go : (met z (ys ++ (a ∷ [])) ≡ true → (met z ys ≡ true) ⊎ (z ≡ a)) → (t : Bool) → t || met z (ys ++ (a ∷ [])) ≡ true
+        → (t || met z ys ≡ true) ⊎ (z ≡ a)
     go i true g = inl refl
     go i false g = i g
 
-among-one : (z a : ℕ) → among z (a ∷ []) ≡ true → z ≡ a
-unfolding among
-among-one z a h = ⊎-elim (λ e. absurd (false≢true e)) (λ e. e) (among-snoc z a [] h)
+met-one : (z a : Kmer) → met z (a ∷ []) ≡ true → z ≡ a
+unfolding met
+met-one z a h = ⊎-elim (λ e. absurd (false≢true e)) (λ e. e) (met-snoc z a [] h)
 
 -- ---- the (k−1)-mers of a walk
 
 -- the last k − 1 letters, by a mask
-pub suffix-is : {head : Header} → Shifts head → (y : ℕ) → bitAnd y (head .top - 1) ≡ suffix (head .k) y
-suffix-is {head} s y = rw (s .top-is, ← two-four (head .k - 1)) (and-mask y (2 * (head .k - 1)))
+pub suffix-is : {head : Header} → Shifts head → (y : Kmer) → bitAnd (y .code) (head .top - 1) ≡ suffix (head .k) y
+suffix-is {head} s y = rw (s .top-is, ← two-four (head .k - 1)) (and-mask (y .code) (2 * (head .k - 1)))
 
 -- a successor begins as the k-mer before it ends
-pub move-begins : (k : ℕ) (sol : ℕ → Bool) (y z : ℕ) → 1 ≤ k → sole k sol y .answer ≡ some z → allButLast z ≡ suffix k y
+pub move-begins : (k : ℕ) (sol : ℕ → Bool) (y z : Kmer) → 1 ≤ k → sole k sol y .answer ≡ some z → allButLast z ≡ suffix k y
 move-begins zero sol y z l e = absurd (omega arith)
 move-begins (suc j) sol y z l e =
     let o = sole-is (suc j) sol y z e in
     let e′ : suc j - 1 ≡ j = omega arith in
     rw (o .is, add-is j y (o .by) (o .by-lt), e′) (omega (arith, o .by-lt))
 
-pub begun : (k x : ℕ) {filter mid filter′ : List ℕ} {r r′ : Bool} → Noted filter mid (allButLast x) r → Noted mid filter′ (suffix k x) r′
+pub begun : (k : ℕ) (x : Kmer) {filter mid filter′ : List ℕ} {r r′ : Bool} → Noted filter mid (allButLast x) r → Noted mid filter′ (suffix k x) r′
     → Begun k filter filter′ x r′
 begun k x {filter} {mid} {filter′} v w =
     record {
       same = w .same ∙ v .same;
       covers =
           record {
-            begins = λ z h. subst (λ (y : ℕ). In filter′ (allButLast y)) (sym (among-one z x h)) (w .kept (allButLast x) (v .now-in));
-            ends = λ z h. subst (λ (y : ℕ). In filter′ (suffix k y)) (sym (among-one z x h)) (w .now-in);
+            begins = λ z h. subst (λ (y : Kmer). In filter′ (allButLast y)) (sym (met-one z x h)) (w .kept (allButLast x) (v .now-in));
+            ends = λ z h. subst (λ (y : Kmer). In filter′ (suffix k y)) (sym (met-one z x h)) (w .now-in);
             latest = w .now-in;
-            new = λ e z h p. w .new e (subst (In mid) (sym (ap allButLast (among-one z x h)) ∙ p) (v .now-in));
+            new = λ e z h p. w .new e (subst (In mid) (sym (ap allButLast (met-one z x h)) ∙ p) (v .now-in));
           };
     }
 
-module _ (k y : ℕ) {filter filter′ ys : List ℕ} {before maybe : Bool} (h : Covers k filter ys (allButLast y) before)
+module _ (k : ℕ) (y : Kmer) {filter filter′ : List ℕ} {ys : List Kmer} {before maybe : Bool} (h : Covers k filter ys (allButLast y) before)
     (w : Noted filter filter′ (suffix k y) maybe) where
   -- the next k-mer is passed
-  pub asked : {q : Bool} → q ≡ among y ys → Asked k filter filter′ ys y (record { repeats = q; maybe = maybe })
+  pub asked : {q : Bool} → q ≡ met y ys → Asked k filter filter′ ys y (record { repeats = q; maybe = maybe })
   asked e =
       record {
         is = e;
         same = w .same;
         covers =
             record {
-              begins = λ z g. w .kept (allButLast z) (had z (among-snoc z y ys g));
+              begins = λ z g. w .kept (allButLast z) (had z (met-snoc z y ys g));
               ends =
-                  λ z g. ⊎-elim (λ a. w .kept (suffix k z) (h .ends z a)) (λ a. subst (λ (y′ : ℕ). In filter′ (suffix k y′)) (sym a) (w .now-in))
-                  (among-snoc z y ys g);
+                  λ z g. ⊎-elim (λ a. w .kept (suffix k z) (h .ends z a)) (λ a. subst (λ (y′ : Kmer). In filter′ (suffix k y′)) (sym a) (w .now-in))
+                  (met-snoc z y ys g);
               latest = w .now-in;
-              new = λ e′ z g p. w .new e′ (subst (In filter) p (had z (among-snoc z y ys g)));
+              new = λ e′ z g p. w .new e′ (subst (In filter) p (had z (met-snoc z y ys g)));
             };
       }
     where
-      had : (z : ℕ) → (among z ys ≡ true) ⊎ (z ≡ y) → In filter (allButLast z)
-      had z = ⊎-elim (h .begins z) (λ a. subst (λ (y′ : ℕ). In filter (allButLast y′)) (sym a) (h .latest))
+      had : (z : Kmer) → (met z ys ≡ true) ⊎ (z ≡ y) → In filter (allButLast z)
+      had z = ⊎-elim (h .begins z) (λ a. subst (λ (y′ : Kmer). In filter (allButLast y′)) (sym a) (h .latest))
 
   -- it is new where either answer was no
-  pub not-passed : (before ≡ false) ⊎ (maybe ≡ false) → false ≡ among y ys
-  not-passed e = go (among y ys) refl
+  pub not-passed : (before ≡ false) ⊎ (maybe ≡ false) → false ≡ met y ys
+  not-passed e = go (met y ys) refl
     where
-      go : (t : Bool) → among y ys ≡ t → false ≡ t
+      go : (t : Bool) → met y ys ≡ t → false ≡ t
       go true g = absurd (⊎-elim (λ n. h .new n y g refl) (λ n. w .new n (h .ends y g)) e)
       go false g = refl

@@ -4,6 +4,7 @@ use borrow.Author.Tests.{lt-ltb, le-ltb, eq-eqb, ne-eqb}
 use mathlib.Core.Path.{_≡_, sym, ap, _∙_, subst}
 use mathlib.Core.Bool.{Bool}
 use mathlib.Core.List.{List}
+use Rattle.rules.specs.Letters.{Kmer}
 use Rattle.rules.specs.Counted.{Try, after}
 use Rattle.rules.specs.Scan as rules
 use Rattle.rules.specs.Scan.{errorLen}
@@ -15,7 +16,7 @@ use Rattle.scan.specs.declared.Attempt.{Attempt}
 use Rattle.scan.specs.Scan.{scanOf}
 use Rattle.scan.specs.Attempt.{Attempted}
 
-module _ (k n : ℕ) (sol : ℕ → Bool) (c : ℕ) (s : List ℕ) (y : ℕ) {r : Scan} (e : scanOf r ≡ errorLen k sol y s) where
+module _ (k n : ℕ) (sol : ℕ → Bool) (c : ℕ) (s : List ℕ) (y : Kmer) (r : Scan) (e : scanOf r ≡ errorLen k sol y s) where
   abbrev sc : rules.Scan
   sc = errorLen k sol y s
 

@@ -3,21 +3,20 @@ use Prim.Native.Nat.{ℕ, zero, suc, _+_, _*_, _-_, _^_, _≤_, _<_}
 use native.Mathlib.Omega.{arith}
 use native.Mathlib.Nat.{sub-zero}
 use native.Mathlib.Numerals.{add-one}
-use borrow.Author.Tests.{eq-eqb, ne-eqb}
 use mathlib.Core.Path.{_≡_, refl, sym, ap, _∙_}
 use mathlib.Core.Bool.{Bool, true, false}
 use mathlib.Core.Option.{Option, none, some, Option·some-injective}
 use mathlib.Core.List.{List, [], _∷_, _++_}
 use lib.ListN.{length, take, set, getD}
 use lib.Seq.{slice, slice-empty, slice-cons, take-suc-set, drop-append-le, length-take-le}
-use Rattle.rules.specs.Letters.{addBase, addAll, last, lastLetter}
-use Rattle.rules.specs.Set.{among, maxKeys, headerK, setOf, solid}
+use Rattle.rules.specs.Letters.{Kmer, same, met, addBase, addAll, last, lastLetter}
+use Rattle.rules.specs.Set.{maxKeys, headerK, setOf, solid}
 use Rattle.rules.specs.Counted.{Try, after, refuse, give, next, _>>=_}
-use Rattle.rules.specs.Scan.{sole, alternative}
+use Rattle.rules.specs.Scan.{ask, sole, alternative}
 use Rattle.rules.specs.Exist.{Mend}
 use Rattle.rules.specs.Graph.{end, also, end-distinct, also-distinct, spell}
 use Rattle.rules.specs.GapSize.{gap, gapFrom}
-use Rattle.rules.proofs.Kmer.{last-one}
+use Rattle.rules.proofs.Kmer.{Known, last-one}
 use Rattle.rules.proofs.Counted.{bind-some as given-by}
 use Rattle.rules.proofs.Scan.{sole-is}
 use Rattle.rules.proofs.Few.{SolidKmer, few}
@@ -25,41 +24,42 @@ use Rattle.rules.proofs.Correctors.{gap-any, gap-cost}
 use Rattle.kmer.specs.declared.Header.{Header}
 use Rattle.set.specs.Ready.{Ready}
 use Rattle.set.proofs.Opened.{opened-n-le, set-count}
-use Rattle.graph.proofs.Laws.{bind-none, bind-some, alternative-lookups}
+use Rattle.scan.proofs.Laws.{known-four, alternative-four}
+use Rattle.graph.proofs.Laws.{bind-none, bind-some}
 use Rattle.gap_size.specs.Gap.{gapMend, onward, passed}
 
 -- ---- the k-mers that letters lead through
 
 -- whether z is among those that the bases from i up to end lead through; y′ is the first of them
-module _ (z k y i end : ℕ) (s : List ℕ) where
-  module _ {y′ : ℕ} (lt : i < end) (h : end ≤ length s) (is : y′ ≡ addBase k y (getD s i 0)) where
+module _ (z : Kmer) (k : ℕ) (y : Kmer) (i end : ℕ) (s : List ℕ) where
+  module _ {y′ : Kmer} (lt : i < end) (h : end ≤ length s) (is : y′ ≡ addBase k y (getD s i 0)) where
     first : onward k y (slice i end s) ≡ y′ ∷ onward k y′ (slice (i + 1) end s)
     unfolding onward
     first = rw (slice-cons i end s 0 lt h, add-one, is)
 
-    pub seen-here : z ≡ y′ → among z (onward k y (slice i end s)) ≡ true
-    unfolding among
-    seen-here e = rw (first, eq-eqb z y′ e)
+    pub seen-here : same z y′ ≡ true → met z (onward k y (slice i end s)) ≡ true
+    unfolding met
+    seen-here e = rw (first, e)
 
-    pub seen-on : (z ≡ y′ → ⊥) → among z (onward k y (slice i end s)) ≡ among z (onward k y′ (slice (i + 1) end s))
-    unfolding among
-    seen-on e = rw (first, ne-eqb z y′ e)
+    pub seen-on : same z y′ ≡ false → met z (onward k y (slice i end s)) ≡ met z (onward k y′ (slice (i + 1) end s))
+    unfolding met
+    seen-on e = rw (first, e)
 
-  pub seen-end : end ≤ i → i ≤ end → among z (onward k y (slice i end s)) ≡ false
-  unfolding among onward
+  pub seen-end : end ≤ i → i ≤ end → met z (onward k y (slice i end s)) ≡ false
+  unfolding met onward
   seen-end g h = let e : i ≡ end = omega arith in rw (e, slice-empty end s)
 
-onward-snoc : (k y : ℕ) (bs : List ℕ) (b : ℕ) → onward k y (bs ++ (b ∷ [])) ≡ onward k y bs ++ (addBase k (addAll k y bs) b ∷ [])
+onward-snoc : (k : ℕ) (y : Kmer) (bs : List ℕ) (b : ℕ) → onward k y (bs ++ (b ∷ [])) ≡ onward k y bs ++ (addBase k (addAll k y bs) b ∷ [])
 unfolding onward addAll
 onward-snoc k y [] b = refl
-onward-snoc k y (a ∷ bs) b = ap (λ (l : List ℕ). addBase k y a ∷ l) (onward-snoc k (addBase k y a) bs b)
+onward-snoc k y (a ∷ bs) b = ap (λ (l : List Kmer). addBase k y a ∷ l) (onward-snoc k (addBase k y a) bs b)
 
-addAll-snoc : (k y : ℕ) (bs : List ℕ) (b : ℕ) → addAll k y (bs ++ (b ∷ [])) ≡ addBase k (addAll k y bs) b
+addAll-snoc : (k : ℕ) (y : Kmer) (bs : List ℕ) (b : ℕ) → addAll k y (bs ++ (b ∷ [])) ≡ addBase k (addAll k y bs) b
 unfolding addAll
 addAll-snoc k y [] b = refl
 addAll-snoc k y (a ∷ bs) b = addAll-snoc k (addBase k y a) bs b
 
-spell-snoc : (ys : List ℕ) (z : ℕ) → spell (ys ++ (z ∷ [])) ≡ spell ys ++ (lastLetter z ∷ [])
+spell-snoc : (ys : List Kmer) (z : Kmer) → spell (ys ++ (z ∷ [])) ≡ spell ys ++ (lastLetter z ∷ [])
 unfolding spell
 spell-snoc [] z = refl
 spell-snoc (y ∷ ys) z = ap (λ (l : List ℕ). lastLetter y ∷ l) (spell-snoc ys z)
@@ -71,7 +71,7 @@ slice-more out i a l =
     (drop-append-le 1 (take (i + 1) out) (a ∷ []) (rw (length-take-le (i + 1) out (omega arith)) (omega arith)))
 
 -- a move's letter gives its k-mer back
-letter-back : (k : ℕ) (sol : ℕ → Bool) (y z : ℕ) → 1 ≤ k → sole k sol y .answer ≡ some z → addBase k y (lastLetter z) ≡ z
+letter-back : (k : ℕ) (sol : ℕ → Bool) (y z : Kmer) → 1 ≤ k → sole k sol y .answer ≡ some z → addBase k y (lastLetter z) ≡ z
 unfolding addAll last
 letter-back zero sol y z l e = absurd (omega arith)
 letter-back (suc j) sol y z l e =
@@ -81,16 +81,16 @@ letter-back (suc j) sol y z l e =
 -- ---- a gap
 
 -- what a gap of m moves from x still does after i of them, their letters in out
-pub record Filling (k : ℕ) (sol : ℕ → Bool) (m x at i : ℕ) (out : List ℕ) : Type 0 where
+pub record Filling (k : ℕ) (sol : ℕ → Bool) (m : ℕ) (x at : Kmer) (i : ℕ) (out : List ℕ) : Type 0 where
   pub rest : gap k sol m (x ∷ []) x 0 ≡ gap k sol (m - i) (passed k x i out) at (4 * i)
   pub spelled : spell (passed k x i out) ≡ take (i + 1) out
   pub ends : addAll k x (slice 1 (i + 1) out) ≡ at
 
-pub passed-none : (k x : ℕ) (out : List ℕ) → passed k x 0 out ≡ x ∷ []
+pub passed-none : (k : ℕ) (x : Kmer) (out : List ℕ) → passed k x 0 out ≡ x ∷ []
 unfolding onward
 passed-none k x out = rw (slice-empty 1 out)
 
-pub filling-start : (k : ℕ) (sol : ℕ → Bool) (m x : ℕ) (out : List ℕ) → 0 < length out → Filling k sol m x x 0 (set out 0 (lastLetter x))
+pub filling-start : (k : ℕ) (sol : ℕ → Bool) (m : ℕ) (x : Kmer) (out : List ℕ) → 0 < length out → Filling k sol m x x 0 (set out 0 (lastLetter x))
 unfolding onward addAll spell
 filling-start k sol m x out l =
     let e = slice-empty 1 (set out 0 (lastLetter x)) in
@@ -100,35 +100,40 @@ filling-start k sol m x out l =
       ends = rw e;
     }
 
-module _ {k : ℕ} {sol : ℕ → Bool} {m x at i : ℕ} {out : List ℕ} (f : Filling k sol m x at i out) (lt : i < m) where
+-- the k-mer at which it stands has no unknown letter
+module _ {k : ℕ} {sol : ℕ → Bool} {m : ℕ} {x at : Kmer} {i : ℕ} {out : List ℕ} (low : 1 ≤ k) (known : Known at)
+    (f : Filling k sol m x at i out) (lt : i < m) where
   one-move : m - i ≡ suc (m - (i + 1))
   one-move = omega arith
 
-  abbrev stopped : Try (List ℕ)
+  four : sole k sol at .lookups ≡ 4
+  four = known-four k at low sol known
+
+  abbrev stopped : Try (List Kmer)
   stopped = record { answer = none; lookups = 4 * i + 4 }
 
   pub gap-dead : sole k sol at .answer ≡ none → gap k sol m (x ∷ []) x 0 ≡ stopped
   unfolding gap
-  gap-dead e = f .rest ∙ rw (one-move, gap, e)
+  gap-dead e = f .rest ∙ rw (one-move, gap, e, four)
 
-  module _ (z : ℕ) (e : sole k sol at .answer ≡ some z) where
-    pub gap-repeats : among z (passed k x i out) ≡ true → gap k sol m (x ∷ []) x 0 ≡ stopped
+  module _ (z : Kmer) (e : sole k sol at .answer ≡ some z) where
+    pub gap-repeats : met z (passed k x i out) ≡ true → gap k sol m (x ∷ []) x 0 ≡ stopped
     unfolding gap
-    gap-repeats h = f .rest ∙ rw (one-move, gap, e, h)
+    gap-repeats h = f .rest ∙ rw (one-move, gap, e, h, four)
 
-    module _ (low : 1 ≤ k) (room : i + 1 < length out) where
+    module _ (room : i + 1 < length out) where
       back : addBase k (addAll k x (slice 1 (i + 1) out)) (lastLetter z) ≡ z
       back = rw (f .ends) (letter-back k sol at z low e)
 
       pub passed-more : passed k x (i + 1) (set out (i + 1) (lastLetter z)) ≡ passed k x i out ++ (z ∷ [])
       passed-more = rw (slice-more out i (lastLetter z) room, onward-snoc, back)
 
-      pub gap-goes : among z (passed k x i out) ≡ false → Filling k sol m x z (i + 1) (set out (i + 1) (lastLetter z))
+      pub gap-goes : met z (passed k x i out) ≡ false → Filling k sol m x z (i + 1) (set out (i + 1) (lastLetter z))
       unfolding gap
       gap-goes h =
           let l : 4 * (i + 1) ≡ 4 * i + 4 = omega arith in
           record {
-            rest = f .rest ∙ rw (one-move, gap, e, h, passed-more, l);
+            rest = f .rest ∙ rw (one-move, gap, e, h, four, passed-more, l);
             spelled = ap spell passed-more ∙ spell-snoc (passed k x i out) z ∙ rw (f .spelled, add-one (i + 1), take-suc-set out (i + 1) (lastLetter z) room);
             ends = rw (slice-more out i (lastLetter z) room) (addAll-snoc k x (slice 1 (i + 1) out) (lastLetter z) ∙ back);
           }
@@ -136,24 +141,28 @@ module _ {k : ℕ} {sol : ℕ → Bool} {m x at i : ℕ} {out : List ℕ} (f : F
 -- ---- what it costs
 
 module _ (k : ℕ) (sol : ℕ → Bool) where
-  gap-least : (m : ℕ) (seen : List ℕ) (y l : ℕ) → l ≤ gap k sol m seen y l .lookups
+  gap-least : (m : ℕ) (seen : List Kmer) (y : Kmer) (l : ℕ) → l ≤ gap k sol m seen y l .lookups
   unfolding gap
   gap-least zero seen y l = omega arith
-  gap-least (suc m) seen y l = go (λ z. gap-least m (seen ++ (z ∷ [])) z (l + 4)) (sole k sol y .answer) refl
+  gap-least (suc m) seen y l = go (λ z. gap-least m (seen ++ (z ∷ [])) z (l + sole k sol y .lookups)) (sole k sol y .answer) refl
     where
-      go : ((z : ℕ) → l + 4 ≤ gap k sol m (seen ++ (z ∷ [])) z (l + 4) .lookups) → (o : Option ℕ) → sole k sol y .answer ≡ o
+      cost : ℕ
+      cost = sole k sol y .lookups
+
+      go : ((z : Kmer) → l + cost ≤ gap k sol m (seen ++ (z ∷ [])) z (l + cost) .lookups) → (o : Option Kmer) → sole k sol y .answer ≡ o
           → l ≤ gap k sol (suc m) seen y l .lookups
       go i none e = rw (e, gap) (omega arith)
-      go i (some z) e = on (among z seen) refl
+      go i (some z) e = on (met z seen) refl
         where
-          on : (q : Bool) → among z seen ≡ q → l ≤ gap k sol (suc m) seen y l .lookups
+          on : (q : Bool) → met z seen ≡ q → l ≤ gap k sol (suc m) seen y l .lookups
           on true h = rw (e, gap, h) (omega arith)
           on false h = rw (e, gap, h) (omega (arith, i z))
 
 -- no k-mer comes twice, so a gap makes at most 2n moves
-pub gap-bound : {bytes starts : List ℕ} {head : Header} → Ready bytes starts head → (m x : ℕ) → x < 4 ^ head .k → solid (setOf bytes) x ≡ true
+pub gap-bound : {bytes starts : List ℕ} {head : Header} → Ready bytes starts head → (m : ℕ) (x : Kmer) → x .code < 4 ^ head .k
+    → ask (solid (setOf bytes)) x .answer ≡ true
     → gap (head .k) (solid (setOf bytes)) m (x ∷ []) x 0 .lookups ≤ 8 * maxKeys
-unfolding setOf among SolidKmer
+unfolding setOf met SolidKmer
 gap-bound {bytes} {starts} {head} r m x lt lit =
     let n = opened-n-le bytes (r .opens) in
     let c = set-count bytes in
@@ -165,14 +174,14 @@ gap-bound {bytes} {starts} {head} r m x lt lit =
           (also-distinct refl end-distinct) (also g end),
     ))
 
-pub gap-room : {k : ℕ} {sol : ℕ → Bool} {m x at i : ℕ} {out : List ℕ} → Filling k sol m x at i out
+pub gap-room : {k : ℕ} {sol : ℕ → Bool} {m : ℕ} {x at : Kmer} {i : ℕ} {out : List ℕ} → Filling k sol m x at i out
     → gap k sol m (x ∷ []) x 0 .lookups ≤ 8 * maxKeys → 4 * i ≤ 8 * maxKeys
 gap-room {k} {sol} {m} {x} {at} {i} {out} f h =
-    omega (arith, ap (λ (t : Try (List ℕ)). t .lookups) (f .rest), gap-least k sol (m - i) (passed k x i out) at (4 * i))
+    omega (arith, ap (λ (t : Try (List Kmer)). t .lookups) (f .rest), gap-least k sol (m - i) (passed k x i out) at (4 * i))
 
 -- ---- the attempt that a gap makes, l lookups having been made before it
 
-module _ (k : ℕ) (sol : ℕ → Bool) (m x l : ℕ) where
+module _ (k : ℕ) (sol : ℕ → Bool) (m : ℕ) (x : Kmer) (l : ℕ) where
   abbrev tried : Try Mend
   tried = after l (gapMend k sol m x)
 
@@ -181,7 +190,7 @@ module _ (k : ℕ) (sol : ℕ → Bool) (m x l : ℕ) where
   unfolding after gapMend _>>=_ next refuse
   gap-refused i l′ e q = (rw (e, gapMend), rw (e, gapMend) (omega arith))
 
-  pub gap-mends : {at i : ℕ} {out : List ℕ} → Filling k sol m x at i out → m ≤ i → i ≤ m → m < length out → (l′ : ℕ) → l′ ≡ l + 4 * i
+  pub gap-mends : {at : Kmer} {i : ℕ} {out : List ℕ} → Filling k sol m x at i out → m ≤ i → i ≤ m → m < length out → (l′ : ℕ) → l′ ≡ l + 4 * i
       → (tried .answer ≡ some (record { letters = take (m + 1) out; resume = m + 1 })) × (m + 1 ≤ length out) × (tried .lookups ≡ l′)
   unfolding after gapMend _>>=_ next give gap
   gap-mends {at} {i} {out} f le ge room l′ q =
@@ -189,7 +198,7 @@ module _ (k : ℕ) (sol : ℕ → Bool) (m x l : ℕ) where
       let all : i ≡ m = omega arith in
       let w : gap k sol m (x ∷ []) x 0 ≡ record { answer = some (passed k x i out); lookups = 4 * i } = f .rest ∙ rw none-left in
       let count : length (passed k x i out) ≡ m + 1 =
-      gap-any k sol m (x ∷ []) x 0 .1 (passed k x i out) (ap (λ (t : Try (List ℕ)). t .answer) w) ∙ omega arith in
+      gap-any k sol m (x ∷ []) x 0 .1 (passed k x i out) (ap (λ (t : Try (List Kmer)). t .answer) w) ∙ omega arith in
       let letters : spell (passed k x i out) ≡ take (m + 1) out = f .spelled ∙ ap (λ (n : ℕ). take (n + 1) out) all in (
         rw (w, gapMend) (λ j. some (record { letters = letters j; resume = count j })),
         omega arith,
@@ -198,18 +207,18 @@ module _ (k : ℕ) (sol : ℕ → Bool) (m x l : ℕ) where
 
 -- ---- from the bad k-mer to x
 
-length-spell : (ys : List ℕ) → length (spell ys) ≡ length ys
+length-spell : (ys : List Kmer) → length (spell ys) ≡ length ys
 unfolding spell
 length-spell [] = refl
 length-spell (y ∷ ys) = ap suc (length-spell ys)
 
-module _ (k : ℕ) (sol : ℕ → Bool) (m y l : ℕ) where
+module _ (k : ℕ) (sol : ℕ → Bool) (m : ℕ) (y : Kmer) (l : ℕ) where
   -- m + 1 letters
   gap-letters : (d : Mend) → gapFrom k sol m y .answer ≡ some d → length (d .letters) ≡ m + 1
   unfolding gapFrom give
   gap-letters d e =
       let w = given-by (alternative k sol y) _ d e in
-      let x : ℕ = w .0 in
+      let x : Kmer = w .0 in
       let v = given-by (gap k sol m (x ∷ []) x 0) _ d (w .2) in
       ap (λ (d′ : Mend). length (d′ .letters)) (sym (Option·some-injective _ d (v .2)))
       ∙ length-spell (v .0)
@@ -224,10 +233,10 @@ module _ (k : ℕ) (sol : ℕ → Bool) (m y l : ℕ) where
   unfolding after
   gap-full room index h g = (λ d e. omega (arith, gap-letters d e), λ e. omega arith)
 
-  pub no-alternative : alternative k sol y .answer ≡ none → (attempt .answer ≡ none) × (attempt .lookups ≡ l + 4)
+  pub no-alternative : alternative k sol y .answer ≡ none → (attempt .answer ≡ none) × (attempt .lookups ≡ l + alternative k sol y .lookups)
   unfolding gapFrom
-  no-alternative e = let w = bind-none (alternative k sol y) _ l e in (w .0, w .1 ∙ rw (alternative-lookups k sol y))
+  no-alternative e = bind-none (alternative k sol y) _ l e
 
-  pub from-alternative : (x : ℕ) → alternative k sol y .answer ≡ some x → attempt ≡ after (l + 4) (gapMend k sol m x)
+  pub from-alternative : (x : Kmer) → 1 ≤ k → alternative k sol y .answer ≡ some x → attempt ≡ after (l + 4) (gapMend k sol m x)
   unfolding gapFrom gapMend
-  from-alternative x e = bind-some (alternative k sol y) _ l x e ∙ rw (alternative-lookups k sol y)
+  from-alternative x low e = bind-some (alternative k sol y) _ l x e ∙ rw (alternative-four k y low sol x e)

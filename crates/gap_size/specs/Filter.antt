@@ -5,15 +5,15 @@ use mathlib.Core.Bool.{Bool, true, false}
 use mathlib.Core.List.{List, [], _∷_, _++_}
 use lib.ListN.{length, getD}
 use lib.Bits.{bitAnd, bitOr, bitXor}
-use Rattle.rules.specs.Set.{among}
+use Rattle.rules.specs.Letters.{Kmer, met}
 use Rattle.gap_size.specs.declared.Met.{Met}
 
 -- A k-mer's first k − 1 letters, and its last.
-abbrev pub allButLast : ℕ → ℕ
-allButLast y = y / 4
+abbrev pub allButLast : Kmer → ℕ
+allButLast y = y .code / 4
 
-abbrev pub suffix : ℕ → ℕ → ℕ
-suffix k y = y % 4 ^ (k - 1)
+abbrev pub suffix : ℕ → Kmer → ℕ
+suffix k y = y .code % 4 ^ (k - 1)
 
 -- A code, mixed and spread out.
 abbrev pub mixed : ℕ → ℕ
@@ -55,19 +55,19 @@ pub record Noted (filter filter′ : List ℕ) (code : ℕ) (r : Bool) : Type 0 
 
 -- The filter has the first and the last k − 1 letters of all k-mers passed, and w, the last of the latest; before is false only if none of
 -- them begins with w.
-pub record Covers (k : ℕ) (filter ys : List ℕ) (w : ℕ) (before : Bool) : Type 0 where
-  pub begins : (z : ℕ) → among z ys ≡ true → In filter (allButLast z)
-  pub ends : (z : ℕ) → among z ys ≡ true → In filter (suffix k z)
+pub record Covers (k : ℕ) (filter : List ℕ) (ys : List Kmer) (w : ℕ) (before : Bool) : Type 0 where
+  pub begins : (z : Kmer) → met z ys ≡ true → In filter (allButLast z)
+  pub ends : (z : Kmer) → met z ys ≡ true → In filter (suffix k z)
   pub latest : In filter w
-  pub new : before ≡ false → (z : ℕ) → among z ys ≡ true → allButLast z ≡ w → ⊥
+  pub new : before ≡ false → (z : Kmer) → met z ys ≡ true → allButLast z ≡ w → ⊥
 
 -- x is the only k-mer passed.
-pub record Begun (k : ℕ) (filter filter′ : List ℕ) (x : ℕ) (before : Bool) : Type 0 where
+pub record Begun (k : ℕ) (filter filter′ : List ℕ) (x : Kmer) (before : Bool) : Type 0 where
   pub same : length filter′ ≡ length filter
   pub covers : Covers k filter′ (x ∷ []) (suffix k x) before
 
 -- Whether the next k-mer is one of those passed, and it is passed too.
-pub record Asked (k : ℕ) (filter filter′ ys : List ℕ) (y : ℕ) (r : Met) : Type 0 where
-  pub is : r .repeats ≡ among y ys
+pub record Asked (k : ℕ) (filter filter′ : List ℕ) (ys : List Kmer) (y : Kmer) (r : Met) : Type 0 where
+  pub is : r .repeats ≡ met y ys
   pub same : length filter′ ≡ length filter
   pub covers : Covers k filter′ (ys ++ (y ∷ [])) (suffix k y) (r .maybe)

@@ -5,40 +5,42 @@ use mathlib.Core.Bool.{Bool, true}
 use mathlib.Core.List.{List, [], _∷_}
 use lib.ListN.{length}
 use lib.Seq.{slice}
+use Rattle.rules.specs.Letters as rules
 use Rattle.rules.specs.Letters.{addBase, add, code}
 use Rattle.rules.specs.Set.{solid, setOf}
 use Rattle.rules.specs.Counted.{Try, after, give, _>>=_}
+use Rattle.rules.specs.Scan.{ask}
 use Rattle.rules.specs.Exist.{Mend}
 use Rattle.rules.specs.Graph.{spell}
 use Rattle.rules.specs.GapSize.{gap}
 use Rattle.kmer.specs.declared.Header.{Header}
 use Rattle.kmer.specs.declared.Kmer.{Kmer}
-use Rattle.kmer.specs.Kmer.{IsKmer}
+use Rattle.kmer.specs.Kmer.{kmerOf, IsKmer}
 use Rattle.set.specs.Ready.{Ready}
 use Rattle.scan.specs.declared.Scan.{Scan}
 use Rattle.scan.specs.declared.Attempt.{Attempt}
 use Rattle.scan.specs.Attempt.{Attempted}
 
 -- That many moves from x; resume is the count of letters.
-unfoldable pub gapMend : ℕ → (ℕ → Bool) → ℕ → ℕ → Try Mend
+unfoldable pub gapMend : ℕ → (ℕ → Bool) → ℕ → rules.Kmer → Try Mend
 unfolding gap spell _>>=_ give
 gapMend k sol moves x = gap k sol moves (x ∷ []) x 0 >>= (λ seen. give (record { letters = spell seen; resume = length seen }))
 
 -- The k-mers after y that bases lead through.
-unfoldable pub onward : ℕ → ℕ → List ℕ → List ℕ
+unfoldable pub onward : ℕ → rules.Kmer → List ℕ → List rules.Kmer
 unfolding add code
 onward k y [] = []
 onward k y (b ∷ bs) = addBase k y b ∷ onward k (addBase k y b) bs
 
 -- x and the k-mers after it, the first letter in out being x's last.
-abbrev pub passed : ℕ → ℕ → ℕ → List ℕ → List ℕ
+abbrev pub passed : ℕ → rules.Kmer → ℕ → List ℕ → List rules.Kmer
 passed k x moves out = x ∷ onward k x (slice 1 (moves + 1) out)
 
 -- What the moves of a gap ask: x is solid, index is not below k, and there is room for all letters.
 pub record Fillable (bytes starts : List ℕ) (head : Header) (scan : Scan) (x : Kmer) (out : List ℕ) : Type 0 where
   pub ready : Ready bytes starts head
   pub kmer : IsKmer (head .k) x
-  pub lit : solid (setOf bytes) (x .code) ≡ true
+  pub lit : ask (solid (setOf bytes)) (kmerOf x) .answer ≡ true
   pub above : head .k ≤ scan .index
   pub room : scan .index - head .k < length out
   pub few : scan .lookups < 2 ^ 63
@@ -47,5 +49,5 @@ pub record Fillable (bytes starts : List ℕ) (head : Header) (scan : Scan) (x :
 abbrev pub GapIs : List ℕ → Header → Scan → Kmer → List ℕ → List ℕ → Attempt → Type 0
 GapIs bytes head scan x out out′ r =
     Attempted (scan .index) out out′
-    (after (scan .lookups + 4) (gapMend (head .k) (solid (setOf bytes)) (scan .index - head .k) (x .code)))
+    (after (scan .lookups + 4) (gapMend (head .k) (solid (setOf bytes)) (scan .index - head .k) (kmerOf x)))
     r

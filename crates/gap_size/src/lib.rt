@@ -11,29 +11,30 @@ ghost use mathlib.Core.Path.{_≡_};
 ghost use mathlib.Core.Bool.{true};
 ghost use Prim.Native.Nat.{_+_, _-_, _^_, _≤_, _<_};
 ghost use lib.ListN.{length};
-ghost use Rattle.rules.specs.Set.{among, solid, setOf};
+ghost use Rattle.rules.specs.Letters.{met};
+ghost use Rattle.rules.specs.Set.{solid, setOf};
 ghost use Rattle.rules.specs.Counted.{after};
 ghost use Rattle.rules.specs.Scan.{errorLen};
 ghost use Rattle.rules.specs.GapSize.{gapFrom, gapSize};
-ghost use Rattle.kmer.specs.Kmer.{Shifts, IsKmer};
+ghost use Rattle.kmer.specs.Kmer.{Shifts, kmerOf, IsKmer};
 ghost use Rattle.set.specs.Ready.{Ready};
 ghost use Rattle.scan.specs.Attempt.{Attempted};
 ghost use Rattle.gap_size.specs.Gap.{passed, Fillable, GapIs};
 ghost use Rattle.gap_size.specs.Filter.{allButLast, suffix, Covers, Begun, Asked};
 
 // Whether a k-mer is x or one of those that the letters of that many moves lead through.
-fn seen(head: Header, x: Kmer, letters: &[u8], moves: usize, code: u64) -> bool
+fn seen(head: Header, x: Kmer, letters: &[u8], moves: usize, kmer: Kmer) -> bool
     requires { ⌜ Shifts head × IsKmer (head .k) x × (moves < length (now letters)) ⌝ }
-    ensures { λ r. ⌜ r ≡ among code (passed (head .k) (x .code) moves (now (letters .entry))) ⌝ }
+    ensures { λ r. ⌜ r ≡ met (kmerOf kmer) (passed (head .k) (kmerOf x) moves (now (letters .entry))) ⌝ }
 {
-    if code == x.code {
+    if kmer::same(kmer, x) {
         return true;
     }
     let mut at = x;
     let end = moves + 1;
     for i in 1..end {
         at = scan::add_base(at, letters[i], head);
-        if code == at.code {
+        if kmer::same(kmer, at) {
             return true;
         }
     }
@@ -43,7 +44,7 @@ fn seen(head: Header, x: Kmer, letters: &[u8], moves: usize, code: u64) -> bool
 // The code of a k-mer's last k − 1 letters.
 fn suffix_of(head: Header, kmer: Kmer) -> u64
     requires { ⌜ Shifts head ⌝ }
-    ensures { λ r. ⌜ r ≡ suffix (head .k) (kmer .code) ⌝ }
+    ensures { λ r. ⌜ r ≡ suffix (head .k) (kmerOf kmer) ⌝ }
 {
     kmer.code & (head.top - 1)
 }
@@ -51,7 +52,7 @@ fn suffix_of(head: Header, kmer: Kmer) -> u64
 // Puts the first and the last k − 1 letters of x into the filter; whether it said maybe of the last.
 fn begin(head: Header, x: Kmer, filter: &mut [u64]) -> bool
     requires { ⌜ Shifts head × (0 < length (now filter)) ⌝ }
-    ensures { λ r. ⌜ Begun (head .k) (now (filter .entry)) (now (filter .exit)) (x .code) r ⌝ }
+    ensures { λ r. ⌜ Begun (head .k) (now (filter .entry)) (now (filter .exit)) (kmerOf x) r ⌝ }
 {
     filter::note(filter, x.code >> 2);
     filter::note(filter, suffix_of(head, x))
@@ -75,11 +76,11 @@ fn meet(
     filter: &mut [u64],
 ) -> Met
     requires { ⌜ Shifts head × IsKmer (head .k) x × (moves < length (now letters)) × (0 < length (now filter)) ⌝ }
-    requires { ⌜ Covers (head .k) (now filter) (passed (head .k) (x .code) moves (now letters)) (allButLast (next .code)) before ⌝ }
-    ensures { λ r. ⌜ Asked (head .k) (now (filter .entry)) (now (filter .exit)) (passed (head .k) (x .code) moves (now (letters .entry))) (next .code) r ⌝ }
+    requires { ⌜ Covers (head .k) (now filter) (passed (head .k) (kmerOf x) moves (now letters)) (allButLast (kmerOf next)) before ⌝ }
+    ensures { λ r. ⌜ Asked (head .k) (now (filter .entry)) (now (filter .exit)) (passed (head .k) (kmerOf x) moves (now (letters .entry))) (kmerOf next) r ⌝ }
 {
     let maybe = filter::note(filter, suffix_of(head, next));
-    let repeats = before && maybe && seen(head, x, letters, moves, next.code);
+    let repeats = before && maybe && seen(head, x, letters, moves, next);
     Met { repeats, maybe }
 }
 
@@ -198,14 +199,14 @@ fn ins_sub_correction(
     requires { ⌜ Ready (now set) (now starts) head × IsKmer (head .k) kmer × (head .k ≤ scan .index) × (scan .lookups < 2 ^ 63) ⌝ }
     ensures { λ r. ⌜
         Attempted (scan .index) (now (out .entry)) (now (out .exit))
-        (after (scan .lookups) (gapFrom (head .k) (solid (setOf (now (set .entry)))) (scan .index - head .k) (kmer .code)))
+        (after (scan .lookups) (gapFrom (head .k) (solid (setOf (now (set .entry)))) (scan .index - head .k) (kmerOf kmer)))
         r ⌝ }
 {
     if out.len() <= scan.index - head.k {
         return Attempt::Full;
     }
     let Next::Kmer(x) = scan::sole_alt(set, starts, head, kmer) else {
-        return Attempt::Refused(scan.lookups + 4);
+        return Attempt::Refused(scan.lookups + scan::alt_cost(kmer, head));
     };
     fill_by_length(set, starts, head, scan, x, out)
 }
@@ -222,8 +223,8 @@ pub fn correct_error(
 ) -> Attempt
     requires { ⌜ Ready (now set) (now starts) head × IsKmer (head .k) kmer × (1 ≤ length (now s)) × (1 ≤ c) ⌝ }
     ensures { λ r. ⌜
-        Attempted (errorLen (head .k) (solid (setOf (now (set .entry)))) (kmer .code) (now (s .entry)) .index) (now (out .entry)) (now (out .exit))
-        (gapSize (head .k) (head .n) (solid (setOf (now (set .entry)))) c (now (s .entry)) (kmer .code))
+        Attempted (errorLen (head .k) (solid (setOf (now (set .entry)))) (kmerOf kmer) (now (s .entry)) .index) (now (out .entry)) (now (out .exit))
+        (gapSize (head .k) (head .n) (solid (setOf (now (set .entry)))) c (now (s .entry)) (kmerOf kmer))
         r ⌝ }
 {
     let scan = scan::error_len(set, starts, head, kmer, s);

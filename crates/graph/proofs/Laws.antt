@@ -1,5 +1,5 @@
 -- A walk move by move, its letters in a lent output, and the attempt that it makes.
-use Prim.Native.Nat.{ℕ, suc, _+_, _*_, _-_, _/_, _^_, _≤_, _<_}
+use Prim.Native.Nat.{ℕ, suc, _+_, _*_, _-_, _^_, _≤_, _<_}
 use native.Mathlib.Omega.{arith}
 use native.Mathlib.Decide.{decLe}
 use native.Mathlib.Nat.{sub-zero}
@@ -11,18 +11,19 @@ use mathlib.Core.Option.{none, some, Option·some-injective, Option·none-ne-som
 use mathlib.Core.List.{List, [], _∷_, _++_}
 use lib.ListN.{length, take, drop, set, length-drop, length-append, length-set}
 use lib.Seq.{take-append-le, take-all, take-nil, take-suc-set, set-out}
-use Rattle.rules.specs.Letters.{lastLetter}
+use Rattle.rules.specs.Letters.{Kmer, same, lastLetter}
 use Rattle.rules.specs.Counted.{Try, after, refuse, give, next, _>>=_}
 use Rattle.rules.specs.Scan as rules
-use Rattle.rules.specs.Scan.{sole, alternative, errorLen}
+use Rattle.rules.specs.Scan.{ask, sole, alternative, errorLen}
 use Rattle.rules.specs.Exist.{Mend}
 use Rattle.rules.specs.Graph.{Walk, moveCost, start, moved, halt, walk, walkFrom, graphFrom, graph}
-use Rattle.rules.proofs.Scan.{scan-is}
+use Rattle.rules.proofs.Kmer.{Known}
+use Rattle.rules.proofs.Scan.{ask-one, scan-is}
 use Rattle.scan.specs.declared.Attempt.{Attempt}
 use Rattle.scan.specs.declared.Scan.{Scan}
 use Rattle.scan.specs.Scan.{scanOf}
 use Rattle.scan.specs.Attempt.{Attempted}
-use Rattle.scan.proofs.Laws.{sole-lookups, alternative-is}
+use Rattle.scan.proofs.Laws.{known-four, alternative-four}
 use Rattle.graph.specs.Walk.{Holds, walkMend}
 
 -- ---- letters in a lent output
@@ -54,49 +55,55 @@ abbrev pub halted : ℕ → Try (List ℕ)
 halted l = record { answer = none; lookups = l }
 
 -- a walk from x that arrived at t with that many letters, in out, after l lookups
-pub record Arrived (k n : ℕ) (sol : ℕ → Bool) (t x l many : ℕ) (out : List ℕ) : Type 0 where
+pub record Arrived (k n : ℕ) (sol : ℕ → Bool) (t x : Kmer) (l many : ℕ) (out : List ℕ) : Type 0 where
   pub letters : List ℕ
   pub count : length letters ≡ many
   pub holds : Holds letters out
   pub is : walkFrom k n sol t x ≡ record { answer = some letters; lookups = l }
 
 -- where a walk stands after i moves
-abbrev standing : ℕ → ℕ → ℕ → ℕ → List ℕ → Walk
+abbrev standing : Kmer → Kmer → ℕ → ℕ → List ℕ → Walk
 standing at mark i marks-at letters =
     record { at = at; mark = mark; moves = i; marks-at = marks-at; letters = letters; lookups = 5 * i }
 
 -- what a walk from x to t still does after i moves, its letters in out
-pub record Going (k n : ℕ) (sol : ℕ → Bool) (t x at mark i marks-at : ℕ) (out : List ℕ) : Type 0 where
+pub record Going (k n : ℕ) (sol : ℕ → Bool) (t x at mark : Kmer) (i marks-at : ℕ) (out : List ℕ) : Type 0 where
   pub letters : List ℕ
   pub count : length letters ≡ i + 1
   pub holds : Holds letters out
   pub rest : walkFrom k n sol t x ≡ walk k sol (6 * n - i) t (standing at mark i marks-at letters)
 
-pub going-start : (k n : ℕ) (sol : ℕ → Bool) (t x : ℕ) (out : List ℕ) → (x ≡ t → ⊥) → Going k n sol t x x x 0 1 (set out 0 (lastLetter x))
+pub going-start : (k n : ℕ) (sol : ℕ → Bool) (t x : Kmer) (out : List ℕ) → same x t ≡ false → Going k n sol t x x x 0 1 (set out 0 (lastLetter x))
 unfolding walkFrom start
-going-start k n sol t x out ne =
+going-start k n sol t x out e =
     record {
       letters = lastLetter x ∷ [];
       count = refl;
       holds = holds-more [] out (lastLetter x) 0 refl (take-nil (length out));
-      rest = rw (ne-eqb x t ne, walkFrom, sub-zero);
+      rest = rw (e, walkFrom, sub-zero);
     }
 
-module _ {k n : ℕ} {sol : ℕ → Bool} {t x at mark i marks-at : ℕ} {out : List ℕ} (g : Going k n sol t x at mark i marks-at out) (lt : i < 6 * n) where
+-- the k-mer that it stands at has no unknown letter
+module _ {k n : ℕ} {sol : ℕ → Bool} {t x at mark : Kmer} {i marks-at : ℕ} {out : List ℕ} (low : 1 ≤ k) (known : Known at)
+    (g : Going k n sol t x at mark i marks-at out) (lt : i < 6 * n) where
   one-move : 6 * n - i ≡ suc (6 * n - (i + 1))
   one-move = omega arith
 
-  -- the k-mer that it stands at is not solid
-  pub walk-dark : sol at ≡ false → walkFrom k n sol t x ≡ halted (5 * i + 1)
-  unfolding walk halt
-  walk-dark e = g .rest ∙ rw (one-move, walk, e)
+  five : moveCost k sol at ≡ 5
+  unfolding moveCost
+  five = omega (arith, ask-one sol at known, known-four k at low sol known)
 
-  module _ (lit : sol at ≡ true) where
+  -- it is not solid
+  pub walk-dark : ask sol at .answer ≡ false → walkFrom k n sol t x ≡ halted (5 * i + 1)
+  unfolding walk halt
+  walk-dark e = g .rest ∙ rw (one-move, walk, e, ask-one sol at known)
+
+  module _ (lit : ask sol at .answer ≡ true) where
     pub walk-dead : sole k sol at .answer ≡ none → walkFrom k n sol t x ≡ halted (5 * i + 5)
     unfolding walk halt
-    walk-dead e = g .rest ∙ rw (one-move, walk, lit, e)
+    walk-dead e = g .rest ∙ rw (one-move, walk, lit, e, five)
 
-    module _ (y : ℕ) (e : sole k sol at .answer ≡ some y) where
+    module _ (y : Kmer) (e : sole k sol at .answer ≡ some y) where
       letters′ : List ℕ
       letters′ = g .letters ++ (lastLetter y ∷ [])
 
@@ -108,22 +115,22 @@ module _ {k n : ℕ} {sol : ℕ → Bool} {t x at mark i marks-at : ℕ} {out : 
       unfolding letters′
       holds′ = holds-more (g .letters) out (lastLetter y) (i + 1) (g .count) (g .holds)
 
-      pub walk-arrives : y ≡ t → Arrived k n sol t x (5 * i + 5) (i + 2) (set out (i + 1) (lastLetter y))
+      pub walk-arrives : same y t ≡ true → Arrived k n sol t x (5 * i + 5) (i + 2) (set out (i + 1) (lastLetter y))
       unfolding walk letters′
       walk-arrives h =
-          record { letters = letters′; count = count′; holds = holds′; is = g .rest ∙ rw (one-move, walk, lit, e, eq-eqb y t h) }
+          record { letters = letters′; count = count′; holds = holds′; is = g .rest ∙ rw (one-move, walk, lit, e, h, five) }
 
-      module _ (ne : y ≡ t → ⊥) where
-        pub walk-meets : y ≡ mark → walkFrom k n sol t x ≡ halted (5 * i + 5)
+      module _ (ne : same y t ≡ false) where
+        pub walk-meets : same y mark ≡ true → walkFrom k n sol t x ≡ halted (5 * i + 5)
         unfolding walk halt
-        walk-meets h = g .rest ∙ rw (one-move, walk, lit, e, ne-eqb y t ne, eq-eqb y mark h)
+        walk-meets h = g .rest ∙ rw (one-move, walk, lit, e, ne, h, five)
 
-        module _ (new : y ≡ mark → ⊥) where
-          goes : walkFrom k n sol t x ≡ walk k sol (6 * n - (i + 1)) t (moved (standing at mark i marks-at (g .letters)) y)
+        module _ (new : same y mark ≡ false) where
+          goes : walkFrom k n sol t x ≡ walk k sol (6 * n - (i + 1)) t (moved (standing at mark i marks-at (g .letters)) y 5)
           unfolding walk
-          goes = g .rest ∙ rw (one-move, walk, lit, e, ne-eqb y t ne, ne-eqb y mark new)
+          goes = g .rest ∙ rw (one-move, walk, lit, e, ne, new, five)
 
-          cost : 5 * (i + 1) ≡ 5 * i + moveCost
+          cost : 5 * (i + 1) ≡ 5 * i + 5
           cost = omega arith
 
           pub walk-marks : i + 1 ≡ marks-at → Going k n sol t x y y (i + 1) (2 * marks-at) (set out (i + 1) (lastLetter y))
@@ -147,12 +154,12 @@ module _ {k n : ℕ} {sol : ℕ → Bool} {t x at mark i marks-at : ℕ} {out : 
               }
 
 -- T = x
-pub walk-stays : (k n : ℕ) (sol : ℕ → Bool) (t x : ℕ) → x ≡ t → walkFrom k n sol t x ≡ halted 0
+pub walk-stays : (k n : ℕ) (sol : ℕ → Bool) (t x : Kmer) → same x t ≡ true → walkFrom k n sol t x ≡ halted 0
 unfolding walkFrom refuse
-walk-stays k n sol t x e = rw (eq-eqb x t e, walkFrom)
+walk-stays k n sol t x e = rw (e, walkFrom)
 
 -- the fuel has run out
-pub walk-over : {k n : ℕ} {sol : ℕ → Bool} {t x at mark i marks-at : ℕ} {out : List ℕ} → Going k n sol t x at mark i marks-at out → 6 * n ≤ i
+pub walk-over : {k n : ℕ} {sol : ℕ → Bool} {t x at mark : Kmer} {i marks-at : ℕ} {out : List ℕ} → Going k n sol t x at mark i marks-at out → 6 * n ≤ i
     → walkFrom k n sol t x ≡ halted (5 * i)
 unfolding walk halt
 walk-over {n = n} {i = i} g e =
@@ -162,7 +169,7 @@ walk-over {n = n} {i = i} g e =
 
 -- ---- the attempt that a walk makes, m lookups having been made before it
 
-module _ (k n : ℕ) (sol : ℕ → Bool) (sc : rules.Scan) (x m : ℕ) where
+module _ (k n : ℕ) (sol : ℕ → Bool) (sc : rules.Scan) (x : Kmer) (m : ℕ) where
   abbrev tried : Try Mend
   tried = after m (walkMend k n sol sc x)
 
@@ -205,24 +212,22 @@ module _ {A B : Type 0} (t : Try A) (f : A → Try B) (s : ℕ) where
       (let l : s + (t .lookups + f a .lookups) ≡ s + t .lookups + f a .lookups = omega arith in
       λ i. record { answer = f a .answer; lookups = l i })
 
-pub alternative-lookups : (k : ℕ) (sol : ℕ → Bool) (y : ℕ) → alternative k sol y .lookups ≡ 4
-alternative-lookups k sol y = ap (λ (t : Try ℕ). t .lookups) (alternative-is k sol y) ∙ sole-lookups k sol (y / 4)
-
-module _ (k n : ℕ) (sol : ℕ → Bool) (sc : rules.Scan) (y : ℕ) where
+module _ (k n : ℕ) (sol : ℕ → Bool) (sc : rules.Scan) (y : Kmer) where
   pub no-alternative : alternative k sol y .answer ≡ none
-      → (after (sc .lookups) (graphFrom k n sol sc y) .answer ≡ none) × (after (sc .lookups) (graphFrom k n sol sc y) .lookups ≡ sc .lookups + 4)
+      → (after (sc .lookups) (graphFrom k n sol sc y) .answer ≡ none)
+      × (after (sc .lookups) (graphFrom k n sol sc y) .lookups ≡ sc .lookups + alternative k sol y .lookups)
   unfolding graphFrom
-  no-alternative e = let w = bind-none (alternative k sol y) _ (sc .lookups) e in (w .0, w .1 ∙ rw (alternative-lookups k sol y))
+  no-alternative e = bind-none (alternative k sol y) _ (sc .lookups) e
 
-  pub from-alternative : (x : ℕ) → alternative k sol y .answer ≡ some x
+  pub from-alternative : (x : Kmer) → 1 ≤ k → alternative k sol y .answer ≡ some x
       → after (sc .lookups) (graphFrom k n sol sc y) ≡ after (sc .lookups + 4) (walkMend k n sol sc x)
   unfolding graphFrom walkMend
-  from-alternative x e = bind-some (alternative k sol y) _ (sc .lookups) x e ∙ rw (alternative-lookups k sol y)
+  from-alternative x low e = bind-some (alternative k sol y) _ (sc .lookups) x e ∙ rw (alternative-four k y low sol x e)
 
 -- ---- the scan
 
 -- it ends within s
-pub scan-within : (k : ℕ) (sol : ℕ → Bool) (y : ℕ) (s : List ℕ) (r : Scan) → scanOf r ≡ errorLen k sol y s → 1 ≤ length s
+pub scan-within : (k : ℕ) (sol : ℕ → Bool) (y : Kmer) (s : List ℕ) (r : Scan) → scanOf r ≡ errorLen k sol y s → 1 ≤ length s
     → (r .index ≤ length s) × (r .lookups ≤ length s)
 unfolding errorLen
 scan-within k sol y s r e h =
@@ -230,12 +235,12 @@ scan-within k sol y s r e h =
     let l = length-drop 1 s in
     (omega (arith, i .high, ap (λ (sc : rules.Scan). sc .index) e), omega (arith, i .cost, i .short, ap (λ (sc : rules.Scan). sc .lookups) e))
 
-pub scan-fits : (k : ℕ) (sol : ℕ → Bool) (y : ℕ) (s : List ℕ) (r : Scan) → scanOf r ≡ errorLen k sol y s → 1 ≤ length s → length s < 2 ^ 63
+pub scan-fits : (k : ℕ) (sol : ℕ → Bool) (y : Kmer) (s : List ℕ) (r : Scan) → scanOf r ≡ errorLen k sol y s → 1 ≤ length s → length s < 2 ^ 63
     → (r .index < 2 ^ 63) × (r .lookups < 2 ^ 63)
 scan-fits k sol y s r e h l = let w = scan-within k sol y s r e h in (omega arith, omega arith)
 
 -- Graph is Graph from its scan
-pub graph-scanned : (k n : ℕ) (sol : ℕ → Bool) (s : List ℕ) (y : ℕ) {sc : rules.Scan} {out out′ : List ℕ} {r : Attempt} → sc ≡ errorLen k sol y s
+pub graph-scanned : (k n : ℕ) (sol : ℕ → Bool) (s : List ℕ) (y : Kmer) {sc : rules.Scan} {out out′ : List ℕ} {r : Attempt} → sc ≡ errorLen k sol y s
     → Attempted (sc .index) out out′ (after (sc .lookups) (graphFrom k n sol sc y)) r → Attempted (errorLen k sol y s .index) out out′ (graph k n sol s y) r
 unfolding graph
 graph-scanned k n sol s y {sc} {out} {out′} {r} e h =

@@ -4,13 +4,14 @@ use mathlib.Core.Path.{_≡_}
 use mathlib.Core.Bool.{Bool}
 use mathlib.Core.List.{List}
 use lib.ListN.{length, take}
+use Rattle.rules.specs.Letters.{Kmer}
 use Rattle.rules.specs.Counted.{Try, give, _>>=_}
 use Rattle.rules.specs.Scan.{Scan}
 use Rattle.rules.specs.Exist.{Mend}
 use Rattle.rules.specs.Graph.{walkFrom}
 
 -- Graph from x on: letters are x's last and each move's; resume scan index + 1.
-unfoldable pub walkMend : ℕ → ℕ → (ℕ → Bool) → Scan → ℕ → Try Mend
+unfoldable pub walkMend : ℕ → ℕ → (ℕ → Bool) → Scan → Kmer → Try Mend
 unfolding walkFrom _>>=_ give
 walkMend k n sol sc x = walkFrom k n sol (sc .end) x >>= (λ letters. give (record { letters = letters; resume = suc (sc .index) }))
 

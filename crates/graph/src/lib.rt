@@ -13,7 +13,7 @@ ghost use Rattle.rules.specs.Set.{solid, setOf};
 ghost use Rattle.rules.specs.Counted.{after};
 ghost use Rattle.rules.specs.Scan.{errorLen};
 ghost use Rattle.rules.specs.Graph.{graphFrom, graph};
-ghost use Rattle.kmer.specs.Kmer.{IsKmer};
+ghost use Rattle.kmer.specs.Kmer.{kmerOf, IsKmer};
 ghost use Rattle.set.specs.Ready.{Ready};
 ghost use Rattle.scan.specs.Scan.{scanOf};
 ghost use Rattle.scan.specs.Attempt.{Attempted};
@@ -21,7 +21,7 @@ ghost use Rattle.graph.specs.Walk.{walkMend};
 
 // The last letter of a k-mer, written where there is room.
 pub fn write_last(out: &mut [u8], at: usize, kmer: Kmer)
-    ensures { λ r. ⌜ now (out .exit) ≡ put (now (out .entry)) at (lastLetter (kmer .code)) ⌝ }
+    ensures { λ r. ⌜ now (out .exit) ≡ put (now (out .entry)) at (lastLetter (kmerOf kmer)) ⌝ }
 {
     if at < out.len() {
         out[at] = kmer::bit2nuc(kmer.code % 4);
@@ -31,20 +31,20 @@ pub fn write_last(out: &mut [u8], at: usize, kmer: Kmer)
 // The walk from x to the last k-mer of the scan, after all lookups up to x. Letters beyond the room are only counted, since the walk may
 // yet be refused.
 fn walk(set: &[u8], starts: &[u32], head: Header, scan: Scan, x: Kmer, out: &mut [u8]) -> Attempt
-    requires { ⌜ Ready (now set) (now starts) head × IsKmer (head .k) x × (scan .index < 2 ^ 63) × (scan .lookups < 2 ^ 63) ⌝ }
+    requires { ⌜ Ready (now set) (now starts) head × IsKmer (head .k) x × (x .unknown ≡ 0) × (scan .index < 2 ^ 63) × (scan .lookups < 2 ^ 63) ⌝ }
     ensures { λ r. ⌜
         Attempted (scan .index) (now (out .entry)) (now (out .exit))
-        (after (scan .lookups + 4) (walkMend (head .k) (head .n) (solid (setOf (now (set .entry)))) (scanOf scan) (x .code)))
+        (after (scan .lookups + 4) (walkMend (head .k) (head .n) (solid (setOf (now (set .entry)))) (scanOf scan) (kmerOf x)))
         r ⌝ }
 {
     let end = scan.end;
     let mut lookups = scan.lookups + 4;
-    if x.code == end {
+    if kmer::same(x, end) {
         return Attempt::Refused(lookups);
     }
     write_last(out, 0, x);
     let mut at = x;
-    let mut mark = x.code;
+    let mut mark = x;
     let mut marks_at = 1;
     // It never runs out (the rules' theorem walk-moves).
     let fuel = 6 * head.n;
@@ -59,18 +59,17 @@ fn walk(set: &[u8], starts: &[u32], head: Header, scan: Scan, x: Kmer, out: &mut
         };
         let next = kmer::add_nuc_to_end(at, nuc, head);
         write_last(out, moves + 1, next);
-        let code = next.code;
-        if code == end {
+        if kmer::same(next, end) {
             if moves + 2 <= out.len() {
                 return Attempt::Mend(moves + 2, scan.index + 1, lookups);
             }
             return Attempt::Full;
         }
-        if code == mark {
+        if kmer::same(next, mark) {
             return Attempt::Refused(lookups);
         }
         if moves + 1 == marks_at {
-            mark = code;
+            mark = next;
             marks_at = 2 * marks_at;
         }
         at = next;
@@ -90,11 +89,11 @@ pub fn from_scan(
     requires { ⌜ Ready (now set) (now starts) head × IsKmer (head .k) kmer × (scan .index < 2 ^ 63) × (scan .lookups < 2 ^ 63) ⌝ }
     ensures { λ r. ⌜
         Attempted (scan .index) (now (out .entry)) (now (out .exit))
-        (after (scan .lookups) (graphFrom (head .k) (head .n) (solid (setOf (now (set .entry)))) (scanOf scan) (kmer .code)))
+        (after (scan .lookups) (graphFrom (head .k) (head .n) (solid (setOf (now (set .entry)))) (scanOf scan) (kmerOf kmer)))
         r ⌝ }
 {
     let Next::Kmer(x) = scan::sole_alt(set, starts, head, kmer) else {
-        return Attempt::Refused(scan.lookups + 4);
+        return Attempt::Refused(scan.lookups + scan::alt_cost(kmer, head));
     };
     walk(set, starts, head, scan, x, out)
 }
@@ -110,8 +109,8 @@ pub fn correct_error(
 ) -> Attempt
     requires { ⌜ Ready (now set) (now starts) head × IsKmer (head .k) kmer × (1 ≤ length (now s)) ⌝ }
     ensures { λ r. ⌜
-        Attempted (errorLen (head .k) (solid (setOf (now (set .entry)))) (kmer .code) (now (s .entry)) .index) (now (out .entry)) (now (out .exit))
-        (graph (head .k) (head .n) (solid (setOf (now (set .entry)))) (now (s .entry)) (kmer .code))
+        Attempted (errorLen (head .k) (solid (setOf (now (set .entry)))) (kmerOf kmer) (now (s .entry)) .index) (now (out .entry)) (now (out .exit))
+        (graph (head .k) (head .n) (solid (setOf (now (set .entry)))) (now (s .entry)) (kmerOf kmer))
         r ⌝ }
 {
     from_scan(

@@ -1,7 +1,8 @@
 -- What the functions over k-mers ask and give.
 use Prim.Native.Nat.{ℕ, _+_, _*_, _-_, _^_, _≤_, _<_}
 use mathlib.Core.Path.{_≡_}
-use Rattle.rules.specs.Letters.{mask, add, complement, revcomp}
+use Rattle.rules.specs.Letters.{mask, complement, revcomp}
+use Rattle.rules.specs.Letters as rules
 use Rattle.kmer.specs.declared.Header.{Header}
 use Rattle.kmer.specs.declared.Kmer.{Kmer}
 
@@ -18,16 +19,17 @@ pub record Shifts (head : Header) : Type 0 where
   pub top-is : head .top ≡ 4 ^ (head .k - 1)
   pub pairs-are : head .pairs ≡ basePairs
 
--- The code of a k-mer, and beside it that of its reverse complement.
+-- The code of k letters, beside it that of its reverse complement, and a bit for each letter.
 pub record IsKmer (k : ℕ) (y : Kmer) : Type 0 where
   pub small : y .code < 4 ^ k
   pub turned : y .rev ≡ revcomp k (y .code)
+  pub unknown-lt : y .unknown < 2 ^ k
 
--- r is the k-mer of code y.
-pub record HasCode (k y : ℕ) (r : Kmer) : Type 0 where
-  pub is : r .code ≡ y
+-- A k-mer by the rules.
+unfoldable pub kmerOf : Kmer → rules.Kmer
+kmerOf y = record { code = y .code; unknown = y .unknown }
+
+-- r is the k-mer y of the rules.
+pub record HasLetters (k : ℕ) (y : rules.Kmer) (r : Kmer) : Type 0 where
+  pub is : kmerOf r ≡ y
   pub kmer : IsKmer k r
-
--- r is y+a.
-abbrev pub Added : ℕ → ℕ → ℕ → Kmer → Type 0
-Added k y a r = HasCode k (add k y a) r

@@ -1,10 +1,10 @@
-// Document 01, "Letters": codes of bases, and k-mers as numbers in base four. Ports `mask` and `add_nuc_to_end` of src/correct/mod.rs, and
+// Document 01, "Letters", and document 02, W5: codes of bases, and k-mers as numbers in base four. Ports `mask` and `add_nuc_to_end` of src/correct/mod.rs, and
 // `nuc2bit`, `bit2nuc`, `seq2bit` and `canonical` of the crate cocktail.
 ghost use mathlib.Core.Path.{_≡_};
-ghost use Prim.Native.Nat.{_/_, _<_, _≤_, _^_};
+ghost use Prim.Native.Nat.{_<_, _≤_, _^_};
 ghost use lib.ListN.{length, take};
 ghost use Rattle.rules.specs.Letters;
-ghost use Rattle.kmer.specs.Kmer.{basePairs, Shifts, IsKmer, HasCode, Added};
+ghost use Rattle.kmer.specs.Kmer.{basePairs, Shifts, kmerOf, IsKmer, HasLetters};
 
 // What a set's header says, k and n, with what lookups and shifts need beside it.
 pub struct Header {
@@ -16,10 +16,12 @@ pub struct Header {
     pub shift: u32,
 }
 
-// A k-mer's code, and beside it the code of its reverse complement, so that a lookup never has to turn the letters round.
+// A k-mer's code, and beside it the code of its reverse complement, so that a lookup never has to turn the letters round; and its unknown
+// letters, a bit for each.
 pub struct Kmer {
     pub code: u64,
     pub rev: u64,
+    pub unknown: u64,
 }
 
 // Entry k is 4^k − 1.
@@ -58,10 +60,22 @@ const MASK_LOOKUP: [u64; 32] = [
     4611686018427387903,
 ];
 
+// The letters that have a code, a bit for each: its number is the letter's last five bits, the same in upper and lower case.
+const LETTERS: u64 = 3145866;
+
+// Document 02, W5: only A, C, G, T, U and their lower case have a code; any other byte is an unknown letter, said by 4. No branch goes by
+// which letter it is.
 pub fn nuc2bit(nuc: u8) -> u64
     ensures { λ r. ⌜ r ≡ Letters.code nuc ⌝ }
 {
-    ((nuc as u64) >> 1) & 3
+    let byte = nuc as u64;
+    if byte / 64 != 1 {
+        return 4;
+    }
+    if (LETTERS >> (byte % 32)) % 2 == 0 {
+        return 4;
+    }
+    byte / 2 % 4
 }
 
 pub fn bit2nuc(bit: u64) -> u8
@@ -128,46 +142,72 @@ pub fn header_of(k: usize, n: usize, shift: u32) -> Header
 // The first letter out at the mask, another in at the end.
 fn shift_in(code: u64, nuc: u64, head: Header) -> u64
     requires { ⌜ Shifts head × (code < 4 ^ head .k) × (nuc < 4) ⌝ }
-    ensures { λ r. ⌜ r ≡ Letters.add (head .k) code nuc ⌝ }
+    ensures { λ r. ⌜ r ≡ Letters.push 4 (head .k) code nuc ⌝ }
 {
     ((code << 2) & head.mask) ^ nuc
 }
 
-pub fn add_nuc_to_end(kmer: Kmer, nuc: u64, head: Header) -> Kmer
-    requires { ⌜ Shifts head × IsKmer (head .k) kmer × (nuc < 4) ⌝ }
-    ensures { λ r. ⌜ Added (head .k) (kmer .code) nuc r ⌝ }
+// The same with the letters' bits: 1 for an unknown one. Half of the mask's bits are one for each letter.
+fn mark_in(unknown: u64, bit: u64, head: Header) -> u64
+    requires { ⌜ Shifts head × (unknown < 2 ^ head .k) × (bit < 2) ⌝ }
+    ensures { λ r. ⌜ r ≡ Letters.push 2 (head .k) unknown bit ⌝ }
 {
+    (2 * unknown + bit) & (head.mask >> head.k)
+}
+
+// An unknown letter, said by 4, has 0 in its place of the code.
+pub fn add_nuc_to_end(kmer: Kmer, nuc: u64, head: Header) -> Kmer
+    requires { ⌜ Shifts head × IsKmer (head .k) kmer × (nuc ≤ 4) ⌝ }
+    ensures { λ r. ⌜ HasLetters (head .k) (Letters.add (head .k) (kmerOf kmer) nuc) r ⌝ }
+{
+    let bits = nuc & 3;
     Kmer {
-        code: shift_in(kmer.code, nuc, head),
-        rev: kmer.rev / 4 + pair_of(nuc, head) * head.top,
+        code: shift_in(kmer.code, bits, head),
+        rev: kmer.rev / 4 + pair_of(bits, head) * head.top,
+        unknown: mark_in(kmer.unknown, nuc >> 2, head),
     }
 }
 
 // The source's `kmer >>= 2`: an A comes in front, so its complement comes last on the other side.
 pub fn drop_last(kmer: Kmer, head: Header) -> Kmer
     requires { ⌜ Shifts head × IsKmer (head .k) kmer ⌝ }
-    ensures { λ r. ⌜ HasCode (head .k) (kmer .code / 4) r ⌝ }
+    ensures { λ r. ⌜ HasLetters (head .k) (Letters.dropLast (kmerOf kmer)) r ⌝ }
 {
     Kmer {
         code: kmer.code >> 2,
         rev: shift_in(kmer.rev, complement(0), head),
+        unknown: kmer.unknown >> 1,
     }
 }
 
 pub fn seq2bit(seq: &[u8], head: Header) -> Kmer
     requires { ⌜ Shifts head × (head .k ≤ length (now seq)) ⌝ }
-    ensures { λ r. ⌜ HasCode (head .k) (Letters.kmer (head .k) (take (head .k) (now (seq .entry)))) r ⌝ }
+    ensures { λ r. ⌜ HasLetters (head .k) (Letters.kmer (head .k) (take (head .k) (now (seq .entry)))) r ⌝ }
 {
     let k = head.k;
     // k letters A, turned k letters T: a third of the mask has a 1 for each letter.
     let mut kmer = Kmer {
         code: 0,
         rev: head.mask / 3 * complement(0),
+        unknown: 0,
     };
     for i in 0..k {
         kmer = add_nuc_to_end(kmer, nuc2bit(seq[i]), head);
     }
     kmer
+}
+
+// A k-mer that holds an unknown letter is equal to none.
+pub fn same(a: Kmer, b: Kmer) -> bool
+    ensures { λ r. ⌜ r ≡ Letters.same (kmerOf a) (kmerOf b) ⌝ }
+{
+    if a.unknown != 0 {
+        return false;
+    }
+    if b.unknown != 0 {
+        return false;
+    }
+    a.code == b.code
 }
 
 // Over all 64 bits; a k-mer has none above its own 2k.

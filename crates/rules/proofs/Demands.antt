@@ -7,13 +7,13 @@ use mathlib.Core.Bool.{Bool, true, false}
 use mathlib.Core.Option.{none, some}
 use mathlib.Core.List.{List, [], _∷_, _++_}
 use lib.ListN.{length, take}
-use lib.Dec.{ltb, eqb}
-use Rattle.rules.specs.Letters.{addBase}
+use lib.Dec.{ltb}
+use Rattle.rules.specs.Letters.{Kmer, allKnown, same, addBase}
 use Rattle.rules.specs.Refusal.{accepted}
 use Rattle.rules.specs.Set.{KmerSet, solid, opened}
 use Rattle.rules.specs.Counted.{Try, refuse}
-use Rattle.rules.specs.Scan.{alternative, errorLen}
-use Rattle.rules.specs.Graph.{All, also, moveCost, start, walk, walkFrom, Exactly}
+use Rattle.rules.specs.Scan.{ask, alternative, errorLen}
+use Rattle.rules.specs.Graph.{All, also, start, walk, walkFrom, Exactly}
 use Rattle.rules.specs.Driver.{State, turn, turnsOf, begin}
 use Rattle.rules.specs.Job.{Method, One, Two, Graph, GapSize, Entry, Confirmed, correctError, pass}
 use Rattle.rules.specs.Counts.{Fed, sum, allPasses, turns, lookups, W, F, ceiling, Demand3}
@@ -24,7 +24,7 @@ use Rattle.rules.proofs.Driver.{Steady, drive-turns, turns-fuel, takes-
 use Rattle.rules.proofs.Lookups.{Fair, fair-steady, drive-lookups, drive-short}
 use Rattle.rules.proofs.Walk.{walk-cost, walk-fuel}
 use Rattle.rules.proofs.Correctors.{one-fair, two-fair, graph-fair, gap-fair}
-use Rattle.rules.proofs.Exactly.{x-good, graph-exactly, gapSize-exactly}
+use Rattle.rules.proofs.Exactly.{no-chain, x-good, graph-exactly, gapSize-exactly}
 
 -- ---- every method is fair to its F
 
@@ -96,7 +96,7 @@ module _ (bytes : List ℕ) (set : KmerSet) (o : opened bytes ≡ accepted set) 
       m : Method
       m = p .entry .method
 
-      ce : List ℕ → ℕ → Try Rattle.rules.specs.Exist.Mend
+      ce : List ℕ → Kmer → Try Rattle.rules.specs.Exist.Mend
       ce = correctError set c m
 
       go : (b : Bool) → ltb (length (p .bytes)) k ≡ b → lookups set p ≤ ceiling set p
@@ -117,35 +117,43 @@ module _ (bytes : List ℕ) (set : KmerSet) (o : opened bytes ≡ accepted set) 
 
   -- ---- the theorem `exactly`: demand 2, at each attempt, s the rest of the read and y the bad k-mer
 
-  pub graph-exactly-chain : (c : ℕ) (s : List ℕ) (y : ℕ) → Exactly k (solid set) s y (correctError set c Graph s y)
+  pub graph-exactly-chain : (c : ℕ) (s : List ℕ) (y : Kmer) → Exactly k (solid set) s y (correctError set c Graph s y)
   unfolding correctError
   graph-exactly-chain c s y = graph-exactly k n (solid set) (few set) s y
 
-  pub gapSize-exactly-chain : (c : ℕ) (s : List ℕ) (y : ℕ) → errorLen k (solid set) y s .index < k → Exactly k (solid set) s y (correctError set c GapSize s y)
+  pub gapSize-exactly-chain : (c : ℕ) (s : List ℕ) (y : Kmer) → errorLen k (solid set) y s .index < k → Exactly k (solid set) s y (correctError set c GapSize s y)
   unfolding correctError
   gapSize-exactly-chain c s y lt = gapSize-exactly k n (solid set) (few set) s y c lt
+
+  -- No chain leads to a T that holds an unknown letter: neither Graph nor GapSize with index below k then gives a mend.
+  pub graph-unknown-end : (c : ℕ) (s : List ℕ) (y : Kmer) → allKnown (errorLen k (solid set) y s .end) ≡ false → correctError set c Graph s y .answer ≡ none
+  graph-unknown-end c s y u = no-chain k (solid set) s y (correctError set c Graph s y) (graph-exactly-chain c s y) u
+
+  pub gapSize-unknown-end : (c : ℕ) (s : List ℕ) (y : Kmer) → errorLen k (solid set) y s .index < k
+      → allKnown (errorLen k (solid set) y s .end) ≡ false → correctError set c GapSize s y .answer ≡ none
+  gapSize-unknown-end c s y lt u = no-chain k (solid set) s y (correctError set c GapSize s y) (gapSize-exactly-chain c s y lt) u
 
   -- ---- the theorem `fuel`: no fuel of the rules ever runs out. Serves demand 1
 
   -- From x, the alternative at a bad k-mer: any larger fuel gives the same walk.
-  pub walk-fuel-enough : (y x : ℕ) → alternative k (solid set) y .answer ≡ some x → (t f : ℕ) → 6 * n ≤ f
+  pub walk-fuel-enough : (y x : Kmer) → alternative k (solid set) y .answer ≡ some x → (t : Kmer) (f : ℕ) → 6 * n ≤ f
       → walk k (solid set) f t (start x) ≡ walk k (solid set) (6 * n) t (start x)
   walk-fuel-enough y x a t f le = walk-fuel k n (solid set) (few set) x (x-good k (solid set) y x a) f t (omega arith)
 
   -- A walk makes fewer than 6n moves.
-  pub walk-moves : (y x : ℕ) → alternative k (solid set) y .answer ≡ some x → (t : ℕ)
-      → walkFrom k n (solid set) t x .lookups ≤ moveCost * (6 * n - 1)
+  pub walk-moves : (y x : Kmer) → alternative k (solid set) y .answer ≡ some x → (t : Kmer)
+      → walkFrom k n (solid set) t x .lookups ≤ 5 * (6 * n - 1)
   unfolding walkFrom refuse start
-  walk-moves y x a t = go (eqb x t) refl
+  walk-moves y x a t = go (same x t) refl
     where
-      go : (q : Bool) → eqb x t ≡ q → walkFrom k n (solid set) t x .lookups ≤ moveCost * (6 * n - 1)
+      go : (q : Bool) → same x t ≡ q → walkFrom k n (solid set) t x .lookups ≤ 5 * (6 * n - 1)
       go true e = rw (e, walkFrom) (omega arith)
       go false e =
           let same = walk-fuel k n (solid set) (few set) x (x-good k (solid set) y x a) (6 * n - 1) t (omega arith) in
           rw (e, walkFrom, ← same) (omega (arith, walk-cost k (solid set) (6 * n - 1) t (start x)))
 
   module _ (c : ℕ) (c-pos : 1 ≤ c) (m : Method) where
-    abbrev ce : List ℕ → ℕ → Try Rattle.rules.specs.Exist.Mend
+    abbrev ce : List ℕ → Kmer → Try Rattle.rules.specs.Exist.Mend
     ce = correctError set c m
 
     -- Any larger fuel gives the same pass.
@@ -166,7 +174,7 @@ module _ (bytes : List ℕ) (set : KmerSet) (o : opened bytes ≡ accepted set) 
 
     -- A refused attempt with scan index i is followed by i kept bytes, the bad base b among them. Serves refusal 11 under GapSize.
     pub driver-keeps : (st : State) (b : ℕ) (s : List ℕ) → st .rest ≡ b ∷ s
-        → solid set (addBase k (st .kmer) b) ≡ false → st .previous ≡ true → ce (b ∷ s) (addBase k (st .kmer) b) .answer ≡ none
+        → ask (solid set) (addBase k (st .kmer) b) .answer ≡ false → st .previous ≡ true → ce (b ∷ s) (addBase k (st .kmer) b) .answer ≡ none
         → (let i : ℕ = errorLen k (solid set) (addBase k (st .kmer) b) (b ∷ s) .index in
         turnsOf k (solid set) ce i st .done .bytes ≡ st .done .bytes ++ take i (b ∷ s))
     driver-keeps = refused-kept k (solid set) ce

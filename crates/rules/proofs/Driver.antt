@@ -8,49 +8,53 @@ use mathlib.Core.Bool.{Bool, true, false}
 use mathlib.Core.Option.{Option, none, some}
 use mathlib.Core.List.{List, [], _∷_, _++_, append-nil, append-assoc}
 use lib.ListN.{length, take, drop, length-drop}
-use Rattle.rules.specs.Letters.{add, code, kmer, inPlace}
+use Rattle.rules.specs.Letters.{Kmer, add, code, kmer, inPlace}
 use Rattle.rules.specs.Counted.{Try}
-use Rattle.rules.specs.Scan.{scanFrom, errorLen}
+use Rattle.rules.specs.Scan.{ask, scanFrom, errorLen}
 use Rattle.rules.specs.Exist.{Mend}
 use Rattle.rules.specs.Driver.{State, keepBase, mendBase, turn, turnsOf, begin, drive}
 use Rattle.rules.proofs.Scan.{scan-is}
 
-module _ (k : ℕ) (sol : ℕ → Bool) (ce : List ℕ → ℕ → Try Mend) where
+module _ (k : ℕ) (sol : ℕ → Bool) (ce : List ℕ → Kmer → Try Mend) where
   -- ---- a turn's four cases
 
   module _ (st : State) (b : ℕ) (s : List ℕ) where
-    abbrev y : ℕ
+    abbrev y : Kmer
     y = add k (st .kmer) (code b)
 
-    pub turn-solid : sol y ≡ true → turn k sol ce st b s ≡ keepBase st b s y true 0 0
+    -- the lookups of the turn itself
+    abbrev asked : ℕ
+    asked = ask sol y .lookups
+
+    pub turn-solid : ask sol y .answer ≡ true → turn k sol ce st b s ≡ keepBase st b s y true 0 asked
     unfolding turn
     turn-solid e = rw (e, turn)
 
-    pub turn-quiet : sol y ≡ false → st .previous ≡ false → turn k sol ce st b s ≡ keepBase st b s y false 0 0
+    pub turn-quiet : ask sol y .answer ≡ false → st .previous ≡ false → turn k sol ce st b s ≡ keepBase st b s y false 0 asked
     unfolding turn
     turn-quiet e p = rw (e, turn, p)
 
-    pub turn-refused : sol y ≡ false → st .previous ≡ true → ce (b ∷ s) y .answer ≡ none
-        → turn k sol ce st b s ≡ keepBase st b s y false 1 (ce (b ∷ s) y .lookups)
+    pub turn-refused : ask sol y .answer ≡ false → st .previous ≡ true → ce (b ∷ s) y .answer ≡ none
+        → turn k sol ce st b s ≡ keepBase st b s y false 1 (asked + ce (b ∷ s) y .lookups)
     unfolding turn
     turn-refused e p a = rw (e, turn, p, a)
 
-    pub turn-mended : (m : Mend) → sol y ≡ false → st .previous ≡ true → ce (b ∷ s) y .answer ≡ some m
-        → turn k sol ce st b s ≡ mendBase k st (b ∷ s) y m (ce (b ∷ s) y .lookups)
+    pub turn-mended : (m : Mend) → ask sol y .answer ≡ false → st .previous ≡ true → ce (b ∷ s) y .answer ≡ some m
+        → turn k sol ce st b s ≡ mendBase k st (b ∷ s) y m (asked + ce (b ∷ s) y .lookups)
     unfolding turn
     turn-mended m e p a = rw (e, turn, p, a)
 
     -- every turn is one of them
     pub data Case : Type 0 where
-      is-solid : sol y ≡ true → Case
-      is-quiet : sol y ≡ false → st .previous ≡ false → Case
-      is-refused : sol y ≡ false → st .previous ≡ true → ce (b ∷ s) y .answer ≡ none → Case
-      is-mended : (m : Mend) → sol y ≡ false → st .previous ≡ true → ce (b ∷ s) y .answer ≡ some m → Case
+      is-solid : ask sol y .answer ≡ true → Case
+      is-quiet : ask sol y .answer ≡ false → st .previous ≡ false → Case
+      is-refused : ask sol y .answer ≡ false → st .previous ≡ true → ce (b ∷ s) y .answer ≡ none → Case
+      is-mended : (m : Mend) → ask sol y .answer ≡ false → st .previous ≡ true → ce (b ∷ s) y .answer ≡ some m → Case
 
     pub case : Case
-    case = go (sol y) refl (st .previous) refl (ce (b ∷ s) y .answer) refl
+    case = go (ask sol y .answer) refl (st .previous) refl (ce (b ∷ s) y .answer) refl
       where
-        go : (t : Bool) → sol y ≡ t → (p : Bool) → st .previous ≡ p → (o : Option Mend) → ce (b ∷ s) y .answer ≡ o → Case
+        go : (t : Bool) → ask sol y .answer ≡ t → (p : Bool) → st .previous ≡ p → (o : Option Mend) → ce (b ∷ s) y .answer ≡ o → Case
         go true e p f o g = is-solid e
         go false e false f o g = is-quiet e f
         go false e true f none g = is-refused e f g
@@ -71,29 +75,29 @@ module _ (k : ℕ) (sol : ℕ → Bool) (ce : List ℕ → ℕ → Try Mend) whe
 
   -- After a mend that takes no base, the base is good in its place.
   unfoldable pub Steady : Type 0
-  Steady = (b : ℕ) (s : List ℕ) (y : ℕ) (m : Mend) → ce (b ∷ s) y .answer ≡ some m → m .resume ≡ 0
-      → sol (add k (inPlace k y (m .letters)) (code b)) ≡ true
+  Steady = (b : ℕ) (s : List ℕ) (y : Kmer) (m : Mend) → ce (b ∷ s) y .answer ≡ some m → m .resume ≡ 0
+      → ask sol (add k (inPlace k y (m .letters)) (code b)) .answer ≡ true
 
   -- Two for each base, and one where the next base gives a solid k-mer: it falls at each turn, so it bounds the turns and the fuel.
   unfoldable pub atNext : Bool → ℕ → ℕ
   atNext true n = 1 + 2 * n
   atNext false n = 2 + 2 * n
 
-  unfoldable pub left : ℕ → List ℕ → ℕ
+  unfoldable pub left : Kmer → List ℕ → ℕ
   unfolding atNext
   left y [] = 0
-  left y (b ∷ s) = atNext (sol (add k y (code b))) (length s)
+  left y (b ∷ s) = atNext (ask sol (add k y (code b)) .answer) (length s)
 
-  pub left≤ : (y : ℕ) (s : List ℕ) → left y s ≤ 2 * length s
+  pub left≤ : (y : Kmer) (s : List ℕ) → left y s ≤ 2 * length s
   unfolding left atNext
   left≤ y [] = omega arith
-  left≤ y (b ∷ s) = go (sol (add k y (code b)))
+  left≤ y (b ∷ s) = go (ask sol (add k y (code b)) .answer)
     where
       go : (t : Bool) → atNext t (length s) ≤ 2 * suc (length s)
       go true = omega arith
       go false = omega arith
 
-  drop-left : (b : ℕ) (s : List ℕ) (y : ℕ) (r : ℕ) → (r ≡ 0 → sol (add k y (code b)) ≡ true)
+  drop-left : (b : ℕ) (s : List ℕ) (y : Kmer) (r : ℕ) → (r ≡ 0 → ask sol (add k y (code b)) .answer ≡ true)
       → suc (left y (drop r (b ∷ s))) ≤ 2 + 2 * length s
   unfolding left atNext
   drop-left b s y zero h = rw (h refl) (omega arith)
@@ -112,10 +116,10 @@ module _ (k : ℕ) (sol : ℕ → Bool) (ce : List ℕ → ℕ → Try Mend) whe
           rw (turn-mended st b s m e p a, e)
           (drop-left b s (inPlace k (y st b s) (m .letters)) (m .resume) (h b s (y st b s) m a))
 
-  left-zero : (y : ℕ) (s : List ℕ) → left y s ≤ 0 → s ≡ []
+  left-zero : (y : Kmer) (s : List ℕ) → left y s ≤ 0 → s ≡ []
   unfolding left atNext
   left-zero y [] h = refl
-  left-zero y (b ∷ s) h = go (sol (add k y (code b))) h
+  left-zero y (b ∷ s) h = go (ask sol (add k y (code b)) .answer) h
     where
       go : (t : Bool) → atNext t (length s) ≤ 0 → b ∷ s ≡ []
       go true h = absurd (omega arith)
@@ -228,9 +232,9 @@ module _ (k : ℕ) (sol : ℕ → Bool) (ce : List ℕ → ℕ → Try Mend) whe
       go (is-quiet f p) = absurd (kept-all (t .rest) e (ap (λ (x : State). x .rest) (turn-quiet st b s f p)))
       go (is-refused f p a) = absurd (kept-all (t .rest) e (ap (λ (x : State). x .rest) (turn-refused st b s f p a)))
       go (is-mended m f p a) =
-          let is : t ≡ mendBase k st (b ∷ s) (y st b s) m (ce (b ∷ s) (y st b s) .lookups) = turn-mended st b s m f p a in
+          let is : t ≡ mendBase k st (b ∷ s) (y st b s) m (asked st b s + ce (b ∷ s) (y st b s) .lookups) = turn-mended st b s m f p a in
           let r0 = zero-resume (m .resume) (sym (ap (λ (x : State). x .rest) is) ∙ e) in
-          let good : sol (add k (t .kmer) (code b)) ≡ true = rw is (h b s (y st b s) m a r0) in
+          let good : ask sol (add k (t .kmer) (code b)) .answer ≡ true = rw is (h b s (y st b s) m a r0) in
           ap (λ (x : State). x .rest) (turn-solid t b s good)
 
   -- Bytes put out only grow: what has no room now has none at the end. Serves refusal 11.
@@ -267,30 +271,30 @@ module _ (k : ℕ) (sol : ℕ → Bool) (ce : List ℕ → ℕ → Try Mend) whe
   unfolding turnsOf scanFrom keepBase
   quiet-run zero l i st s p r e = sym (append-nil (st .done .bytes))
   quiet-run (suc n) l i st [] p r e = absurd (omega arith)
-  quiet-run (suc n) l i st (b ∷ s) p r e = go (quiet-run n (suc l) (suc i)) (sol (y st b s)) refl
+  quiet-run (suc n) l i st (b ∷ s) p r e = go (quiet-run n (l + asked st b s) (suc i)) (ask sol (y st b s) .answer) refl
     where
-      go : ((st′ : State) (s′ : List ℕ) → st′ .previous ≡ false → st′ .rest ≡ s′ → scanFrom k sol (suc l) (suc i) (st′ .kmer) s′ .index ≡ n + suc i
+      go : ((st′ : State) (s′ : List ℕ) → st′ .previous ≡ false → st′ .rest ≡ s′ → scanFrom k sol (l + asked st b s) (suc i) (st′ .kmer) s′ .index ≡ n + suc i
           → turnsOf k sol ce n st′ .done .bytes ≡ st′ .done .bytes ++ take n s′)
-          → (t : Bool) → sol (y st b s) ≡ t → turnsOf k sol ce (suc n) st .done .bytes ≡ st .done .bytes ++ (b ∷ take n s)
+          → (t : Bool) → ask sol (y st b s) .answer ≡ t → turnsOf k sol ce (suc n) st .done .bytes ≡ st .done .bytes ++ (b ∷ take n s)
       go ih true f = absurd (let z : i ≡ suc n + i = rw (f, scanFrom) at e in omega arith)
       go ih false f =
           let t = turn k sol ce st b s in
-          let is : t ≡ keepBase st b s (y st b s) false 0 0 = turn-quiet st b s f p in
-          let e′ : scanFrom k sol (suc l) (suc i) (y st b s) s .index ≡ n + suc i = (rw (f, scanFrom) at e) ∙ omega arith in
+          let is : t ≡ keepBase st b s (y st b s) false 0 (asked st b s) = turn-quiet st b s f p in
+          let e′ : scanFrom k sol (l + asked st b s) (suc i) (y st b s) s .index ≡ n + suc i = (rw (f, scanFrom) at e) ∙ omega arith in
           ap (λ (x : State). x .done .bytes) (turnsOf-step n st b s r)
           ∙ ap (λ (x : State). turnsOf k sol ce n x .done .bytes) is
-          ∙ ih (keepBase st b s (y st b s) false 0 0) s refl refl e′
+          ∙ ih (keepBase st b s (y st b s) false 0 (asked st b s)) s refl refl e′
           ∙ append-assoc (st .done .bytes) (b ∷ []) (take n s)
 
   -- A refused attempt with scan index i is followed by i kept bytes, the bad base the first of them. Serves refusal 11 under GapSize.
   pub refused-kept : (st : State) (b : ℕ) (s : List ℕ) → st .rest ≡ b ∷ s
-      → sol (add k (st .kmer) (code b)) ≡ false → st .previous ≡ true → ce (b ∷ s) (add k (st .kmer) (code b)) .answer ≡ none
+      → ask sol (add k (st .kmer) (code b)) .answer ≡ false → st .previous ≡ true → ce (b ∷ s) (add k (st .kmer) (code b)) .answer ≡ none
       → (let i : ℕ = errorLen k sol (add k (st .kmer) (code b)) (b ∷ s) .index in turnsOf k sol ce i st .done .bytes ≡ st .done .bytes ++ take i (b ∷ s))
   unfolding errorLen keepBase
   refused-kept st b s r f p a = go (scanFrom k sol 0 1 (y st b s) s .index) refl
     where
       l : ℕ
-      l = ce (b ∷ s) (y st b s) .lookups
+      l = asked st b s + ce (b ∷ s) (y st b s) .lookups
 
       go : (i : ℕ) → scanFrom k sol 0 1 (y st b s) s .index ≡ i → turnsOf k sol ce i st .done .bytes ≡ st .done .bytes ++ take i (b ∷ s)
       go zero e = absurd (omega (arith, scan-is k sol 0 1 (y st b s) s .from))

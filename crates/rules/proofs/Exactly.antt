@@ -1,26 +1,45 @@
 -- Demand 2's `Exactly`, shown of Graph and of GapSize.
-use Prim.Native.Nat.{ℕ, suc, _/_, _<_}
+use Prim.Native.Nat.{ℕ, suc, _<_}
 use borrow.Author.Tests.{lt-ltb}
-use mathlib.Core.Path.{_≡_, sym, ap, _∙_}
-use mathlib.Core.Bool.{Bool}
-use mathlib.Core.Option.{some, Option·some-injective}
+use mathlib.Core.Path.{_≡_, refl, sym, ap, _∙_}
+use mathlib.Core.Bool.{Bool, true, false, true≢false}
+use mathlib.Core.Option.{Option, none, some, Option·some-injective}
 use mathlib.Core.List.{List, _∷_}
+use Rattle.rules.specs.Letters.{Kmer, allKnown, dropLast}
 use Rattle.rules.specs.Counted.{Try, after, give}
-use Rattle.rules.specs.Scan.{Scan, alternative, errorLen}
+use Rattle.rules.specs.Scan.{Scan, ask, alternative, errorLen}
 use Rattle.rules.specs.Exist.{Mend}
-use Rattle.rules.specs.Graph.{spell, walkFrom, graphFrom, graph, chainMend, Exactly}
+use Rattle.rules.specs.Graph.{Moves, move, more, spell, walkFrom, graphFrom, graph, chainMend, Exactly}
 use Rattle.rules.specs.GapSize.{gapSize}
+use Rattle.rules.proofs.Kmer.{known-true}
 use Rattle.rules.proofs.Counted.{bind-some, bind-is}
-use Rattle.rules.proofs.Scan.{sole-is, sole-lt}
+use Rattle.rules.proofs.Scan.{ask-known, sole-is, sole-lt}
 use Rattle.rules.proofs.Few.{SolidKmer, Few}
 use Rattle.rules.proofs.Walk.{chain-found, found-chain}
 
--- the alternative is a solid k-mer
-pub x-good : (k : ℕ) (sol : ℕ → Bool) (y x : ℕ) → alternative k sol y .answer ≡ some x → SolidKmer k sol x
-unfolding alternative SolidKmer
-x-good k sol y x e = (sole-lt k sol (y / 4) x e, sole-is k sol (y / 4) x e .is-solid)
+module _ (k : ℕ) (sol : ℕ → Bool) where
+  -- the last k-mer of a chain is solid
+  moves-end : {y t : Kmer} {zs : List Kmer} → Moves k sol y zs t → ask sol t .answer ≡ true
+  moves-end (move o) = o .is-solid
+  moves-end (more o m) = moves-end m
 
-module _ (k n : ℕ) (sol : ℕ → Bool) (few : Few k n sol) (s : List ℕ) (y : ℕ) where
+  -- No chain leads to a T that holds an unknown letter, so an attempt then gives no mend.
+  pub no-chain : (s : List ℕ) (y : Kmer) (t : Try Mend) → Exactly k sol s y t → allKnown (errorLen k sol y s .end) ≡ false → t .answer ≡ none
+  no-chain s y t e u = go (t .answer) refl
+    where
+      go : (o : Option Mend) → t .answer ≡ o → o ≡ none
+      go none f = refl
+      go (some m) f =
+          let b = e .only-if m f .0 in
+          let z = ask-known sol (errorLen k sol y s .end) (moves-end (b .chain .moves)) in
+          absurd (true≢false (sym (known-true (errorLen k sol y s .end) z) ∙ u))
+
+-- the alternative is a solid k-mer
+pub x-good : (k : ℕ) (sol : ℕ → Bool) (y x : Kmer) → alternative k sol y .answer ≡ some x → SolidKmer k sol x
+unfolding alternative SolidKmer
+x-good k sol y x e = (sole-lt k sol (dropLast y) x e, sole-is k sol (dropLast y) x e .is-solid)
+
+module _ (k n : ℕ) (sol : ℕ → Bool) (few : Few k n sol) (s : List ℕ) (y : Kmer) where
   graphFrom-exactly : Exactly k sol s y (graphFrom k n sol (errorLen k sol y s) y)
   unfolding graphFrom chainMend give
   graphFrom-exactly =

@@ -7,10 +7,12 @@ use mathlib.Core.Bool.{Bool, true, false, _||_, true≢false, false≢true}
 use mathlib.Core.List.{List, [], _∷_, _++_, map}
 use lib.ListN.{length, length-append, length-map}
 use lib.Dec.{eqb}
-use Rattle.rules.specs.Letters.{revcomp, evenOnes, canonical}
-use Rattle.rules.specs.Set.{KmerSet, among, solid}
+use Rattle.rules.specs.Letters.{Kmer, among, same, met, revcomp, evenOnes, canonical}
+use Rattle.rules.specs.Set.{KmerSet, solid}
+use Rattle.rules.specs.Scan.{ask}
 use Rattle.rules.specs.Graph.{All, end, also, Distinct, also-distinct}
-use Rattle.rules.proofs.Kmer.{revcomp-twice}
+use Rattle.rules.proofs.Kmer.{Known, same-code, revcomp-twice}
+use Rattle.rules.proofs.Scan.{ask-known, ask-is}
 
 pub or-right : (t : Bool) {q : Bool} → q ≡ true → t || q ≡ true
 or-right true h = refl
@@ -47,21 +49,28 @@ without-among x z (y ∷ ys) n h = go (without-among x z ys n) (eqb x y) refl (e
     go i false e true f h = rw (e, without, f)
     go i false e false f h = rw (e, without, f) (i h)
 
-fewer : (x : ℕ) (xs ys : List ℕ) → among x xs ≡ false → All (λ z. among z ys ≡ true) xs → All (λ z. among z (without x ys) ≡ true) xs
-unfolding among
-fewer x [] ys n end = end
-fewer x (z ∷ xs) ys n (also h hs) = go (fewer x xs ys) (eqb x z) refl n
-  where
-    go : (among x xs ≡ false → All (λ z. among z ys ≡ true) xs → All (λ z. among z (without x ys) ≡ true) xs) → (t : Bool) → eqb x z ≡ t → t || among x xs ≡ false
-        → All (λ z. among z (without x ys) ≡ true) (z ∷ xs)
-    go i true e n = absurd (true≢false n)
-    go i false e n = also (without-among x z ys (λ q. eqb-false x z e (sym q)) h) (i n hs)
+-- a k-mer without unknown letters whose code stands in ys
+Stands : List ℕ → Kmer → Type 0
+Stands ys z = Known z × (among (z .code) ys ≡ true)
 
--- distinct numbers that all stand in ys are no more than ys has
-pigeonhole : (xs ys : List ℕ) → Distinct xs → All (λ z. among z ys ≡ true) xs → length xs ≤ length ys
+fewer : (x : Kmer) (xs : List Kmer) (ys : List ℕ) → Known x → met x xs ≡ false → All (Stands ys) xs → All (Stands (without (x .code) ys)) xs
+unfolding met Stands
+fewer x [] ys kx n end = end
+fewer x (z ∷ xs) ys kx n (also h hs) = go (fewer x xs ys kx) (same x z) refl n
+  where
+    go : (met x xs ≡ false → All (Stands ys) xs → All (Stands (without (x .code) ys)) xs) → (t : Bool) → same x z ≡ t → t || met x xs ≡ false
+        → All (Stands (without (x .code) ys)) (z ∷ xs)
+    go i true e n = absurd (true≢false n)
+    go i false e n =
+        let d : eqb (x .code) (z .code) ≡ false = sym (same-code x z kx (h .0)) ∙ e in
+        also (h .0, without-among (x .code) (z .code) ys (λ q. eqb-false (x .code) (z .code) d (sym q)) (h .1)) (i n hs)
+
+-- distinct k-mers whose codes all stand in ys are no more than ys has
+pigeonhole : (xs : List Kmer) (ys : List ℕ) → Distinct xs → All (Stands ys) xs → length xs ≤ length ys
+unfolding Stands
 pigeonhole [] ys d h = omega arith
 pigeonhole (x ∷ xs) ys (also-distinct n d) (also h hs) =
-    omega (arith, pigeonhole xs (without x ys) d (fewer x xs ys n hs), without-length x ys h)
+    omega (arith, pigeonhole xs (without (x .code) ys) d (fewer x xs ys (h .0) n hs), without-length (x .code) ys (h .1))
 
 -- ---- the keys and their reverse complements
 
@@ -89,12 +98,12 @@ among-map f y (a ∷ us) h = go (among-map f y us) (eqb y a) refl h
     go i false e h = or-right (eqb (f y) (f a)) (i h)
 
 -- a solid k-mer of k letters
-unfoldable pub SolidKmer : ℕ → (ℕ → Bool) → ℕ → Type 0
-SolidKmer k sol y = (y < 4 ^ k) × (sol y ≡ true)
+unfoldable pub SolidKmer : ℕ → (ℕ → Bool) → Kmer → Type 0
+SolidKmer k sol y = (y .code < 4 ^ k) × (ask sol y .answer ≡ true)
 
 -- n holds for what is solid: distinct solid k-mers are at most 2n
 unfoldable pub Few : ℕ → ℕ → (ℕ → Bool) → Type 0
-Few k n sol = (ys : List ℕ) → Distinct ys → All (SolidKmer k sol) ys → length ys ≤ 2 * n
+Few k n sol = (ys : List Kmer) → Distinct ys → All (SolidKmer k sol) ys → length ys ≤ 2 * n
 
 module _ (set : KmerSet) where
   -- the keys, and their reverse complements
@@ -115,10 +124,12 @@ module _ (set : KmerSet) where
           (subst (λ (z : ℕ). among z (map (revcomp (set .k)) (set .keys)) ≡ true) (revcomp-twice (set .k) y lt)
           (among-map (revcomp (set .k)) (revcomp (set .k) y) (set .keys) (rw (e, canonical) at key)))
 
-  cover-all : (ys : List ℕ) → All (SolidKmer (set .k) (solid set)) ys → All (λ z. among z both ≡ true) ys
-  unfolding SolidKmer
+  cover-all : (ys : List Kmer) → All (SolidKmer (set .k) (solid set)) ys → All (Stands both) ys
+  unfolding SolidKmer Stands
   cover-all [] end = end
-  cover-all (y ∷ ys) (also h hs) = also (covers y (h .0) (h .1)) (cover-all ys hs)
+  cover-all (y ∷ ys) (also h hs) =
+      let kn : Known y = ask-known (solid set) y (h .1) in
+      also (kn, covers (y .code) (h .0) (sym (ask-is (solid set) y kn) ∙ h .1)) (cover-all ys hs)
 
   -- A list of distinct solid k-mers is no longer than 2n.
   pub few : Few (set .k) (length (set .keys)) (solid set)

@@ -10,6 +10,7 @@ pub mod Lookups
 pub mod Walk
 pub mod Correctors
 pub mod Exactly
+pub mod Attempt
 pub mod Opened
 pub mod Report
 pub mod Job

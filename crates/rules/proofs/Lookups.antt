@@ -9,11 +9,12 @@ use mathlib.Core.Bool.{Bool, true, false}
 use mathlib.Core.Option.{none, some}
 use mathlib.Core.List.{List, [], _∷_}
 use lib.ListN.{length, take, drop, length-drop}
-use Rattle.rules.specs.Letters.{add, code, kmer, inPlace}
+use Rattle.rules.specs.Letters.{Kmer, add, code, kmer, inPlace}
 use Rattle.rules.specs.Counted.{Try}
+use Rattle.rules.specs.Scan.{ask}
 use Rattle.rules.specs.Exist.{Mend}
 use Rattle.rules.specs.Driver.{State, keepBase, mendBase, turn, turnsOf, begin, drive}
-use Rattle.rules.proofs.Scan.{scanIf, scanCost}
+use Rattle.rules.proofs.Scan.{ask-cost, scanIf, scanCost}
 use Rattle.rules.proofs.Driver.{Case, is-solid, is-quiet, is-refused, is-mended, case, turn-solid, turn-quiet, turn-refused, turn-mended, Steady, turnsOf-step, turnsOf-end}
 
 -- a mend that passes the scan's bases may cost the scan and a factor's worth
@@ -30,18 +31,18 @@ choice false a b = b
 module _ (k : ℕ) (sol : ℕ → Bool) (F : ℕ) where
   -- One attempt at the bad k-mer y at base b, s behind it: a refused one costs F and the scan, since the bases that the scan
   -- passed cost 1 each from now on; a mend that takes no base leaves 1 for it; one that takes r + 1 bases, or all, pays by them.
-  pub record FairAt (b : ℕ) (s : List ℕ) (y : ℕ) (t : Try Mend) : Type 0 where
+  pub record FairAt (b : ℕ) (s : List ℕ) (y : Kmer) (t : Try Mend) : Type 0 where
     pub refusal : t .answer ≡ none → t .lookups + 1 ≤ F + scanCost k sol y s
     pub staying : (m : Mend) → t .answer ≡ some m → m .resume ≡ 0
-        → (t .lookups + 2 ≤ F) × (sol (add k (inPlace k y (m .letters)) (code b)) ≡ true)
+        → (t .lookups + 2 ≤ F) × (ask sol (add k (inPlace k y (m .letters)) (code b)) .answer ≡ true)
     pub going : (m : Mend) (r : ℕ) → t .answer ≡ some m → m .resume ≡ suc r
         → (r ≤ length s → t .lookups + 1 ≤ F * suc r) × (length s ≤ r → t .lookups + 1 ≤ F * suc (length s))
 
-module _ (k : ℕ) (sol : ℕ → Bool) (ce : List ℕ → ℕ → Try Mend) (F : ℕ) where
+module _ (k : ℕ) (sol : ℕ → Bool) (ce : List ℕ → Kmer → Try Mend) (F : ℕ) where
   -- what a corrector may cost
   pub record Fair : Type 0 where
     pub least : 2 ≤ F
-    pub at : (b : ℕ) (s : List ℕ) (y : ℕ) → FairAt k sol F b s y (ce (b ∷ s) y)
+    pub at : (b : ℕ) (s : List ℕ) (y : Kmer) → FairAt k sol F b s y (ce (b ∷ s) y)
 
   pub fair-steady : Fair → Steady k sol ce
   unfolding Steady
@@ -50,42 +51,45 @@ module _ (k : ℕ) (sol : ℕ → Bool) (ce : List ℕ → ℕ → Try Mend) (F 
   -- ---- the lookups that can still come
 
   -- while no attempt is due
-  quiet : ℕ → List ℕ → ℕ
+  quiet : Kmer → List ℕ → ℕ
   unfolding choice
   quiet y [] = 0
-  quiet y (b ∷ s) = choice (sol (add k y (code b))) (1 + F * length s) (1 + quiet (add k y (code b)) s)
+  quiet y (b ∷ s) = choice (ask sol (add k y (code b)) .answer) (1 + F * length s) (1 + quiet (add k y (code b)) s)
 
   -- where the previous k-mer counts as solid
-  ready : ℕ → List ℕ → ℕ
+  ready : Kmer → List ℕ → ℕ
   unfolding choice
   ready y [] = 0
-  ready y (b ∷ s) = choice (sol (add k y (code b))) (1 + F * length s) (F + F * length s)
+  ready y (b ∷ s) = choice (ask sol (add k y (code b)) .answer) (1 + F * length s) (F + F * length s)
 
-  ahead : Bool → ℕ → List ℕ → ℕ
+  ahead : Bool → Kmer → List ℕ → ℕ
   unfolding quiet ready
   ahead true y s = ready y s
   ahead false y s = quiet y s
 
-  quiet-scan : 2 ≤ F → (y : ℕ) (s : List ℕ) → quiet y s + scanCost k sol y s ≤ F * length s
+  quiet-scan : 2 ≤ F → (y : Kmer) (s : List ℕ) → quiet y s + scanCost k sol y s ≤ F * length s
   unfolding quiet scanCost choice scanIf
   quiet-scan h y [] = omega arith
-  quiet-scan h y (b ∷ s) = go (quiet-scan h (add k y (code b)) s) (sol (add k y (code b)))
+  quiet-scan h y (b ∷ s) = go (quiet-scan h z s) (ask sol z .answer)
     where
-      go : quiet (add k y (code b)) s + scanCost k sol (add k y (code b)) s ≤ F * length s → (t : Bool)
-          → choice t (1 + F * length s) (1 + quiet (add k y (code b)) s) + scanIf t (scanCost k sol (add k y (code b)) s) ≤ F * suc (length s)
-      go i true = omega arith
-      go i false = omega arith
+      z : Kmer
+      z = add k y (code b)
 
-  ready≤ : 2 ≤ F → (y : ℕ) (s : List ℕ) → ready y s ≤ F * length s
+      go : quiet z s + scanCost k sol z s ≤ F * length s → (t : Bool)
+          → choice t (1 + F * length s) (1 + quiet z s) + scanIf t (ask sol z .lookups) (scanCost k sol z s) ≤ F * suc (length s)
+      go i true = omega (arith, ask-cost sol z)
+      go i false = omega (arith, ask-cost sol z)
+
+  ready≤ : 2 ≤ F → (y : Kmer) (s : List ℕ) → ready y s ≤ F * length s
   unfolding ready choice
   ready≤ h y [] = omega arith
-  ready≤ h y (b ∷ s) = go (sol (add k y (code b)))
+  ready≤ h y (b ∷ s) = go (ask sol (add k y (code b)) .answer)
     where
       go : (t : Bool) → choice t (1 + F * length s) (F + F * length s) ≤ F * suc (length s)
       go true = omega arith
       go false = omega arith
 
-  ahead≤ : 2 ≤ F → (p : Bool) (y : ℕ) (s : List ℕ) → ahead p y s ≤ F * length s
+  ahead≤ : 2 ≤ F → (p : Bool) (y : Kmer) (s : List ℕ) → ahead p y s ≤ F * length s
   unfolding ahead
   ahead≤ h true y s = ready≤ h y s
   ahead≤ h false y s = omega (arith, quiet-scan h y s)
@@ -93,7 +97,7 @@ module _ (k : ℕ) (sol : ℕ → Bool) (ce : List ℕ → ℕ → Try Mend) (F 
   split : (d e t : ℕ) → d + e ≡ t → F * d + F * e ≡ F * t
   split d e t h = rw (← h) (omega arith)
 
-  drop-ready : 2 ≤ F → (y b : ℕ) (s : List ℕ) (l r : ℕ) → (r ≡ 0 → (l + 2 ≤ F) × (sol (add k y (code b)) ≡ true))
+  drop-ready : 2 ≤ F → (y : Kmer) (b : ℕ) (s : List ℕ) (l r : ℕ) → (r ≡ 0 → (l + 2 ≤ F) × (ask sol (add k y (code b)) .answer ≡ true))
       → ((r′ : ℕ) → r ≡ suc r′ → (r′ ≤ length s → l + 1 ≤ F * suc r′) × (length s ≤ r′ → l + 1 ≤ F * suc (length s)))
       → 1 + l + ready y (drop r (b ∷ s)) ≤ F + F * length s
   unfolding ready choice
@@ -120,22 +124,25 @@ module _ (k : ℕ) (sol : ℕ → Bool) (ce : List ℕ → ℕ → Try Mend) (F 
       Goal = turn k sol ce st b s .done .lookups + ahead (turn k sol ce st b s .previous) (turn k sol ce st b s .kmer) (turn k sol ce st b s .rest)
           ≤ st .done .lookups + ahead (st .previous) (st .kmer) (b ∷ s)
 
-      z : ℕ
+      z : Kmer
       z = add k (st .kmer) (code b)
 
-      prev : (p : Bool) → sol z ≡ true → ahead p (st .kmer) (b ∷ s) ≡ 1 + F * length s
+      one : ask sol z .lookups ≤ 1
+      one = ask-cost sol z
+
+      prev : (p : Bool) → ask sol z .answer ≡ true → ahead p (st .kmer) (b ∷ s) ≡ 1 + F * length s
       prev true e = rw (e, ready)
       prev false e = rw (e, quiet)
 
       go : Case k sol ce st b s → Goal
-      go (is-solid e) = rw (turn-solid k sol ce st b s e, prev (st .previous) e) (omega (arith, ready≤ (h .least) z s))
-      go (is-quiet e p) = rw (turn-quiet k sol ce st b s e p, p, e) (omega arith)
+      go (is-solid e) = rw (turn-solid k sol ce st b s e, prev (st .previous) e) (omega (arith, one, ready≤ (h .least) z s))
+      go (is-quiet e p) = rw (turn-quiet k sol ce st b s e p, p, e) (omega (arith, one))
       go (is-refused e p a) =
-          rw (turn-refused k sol ce st b s e p a, p, e) (omega (arith, h .at b s z .refusal a, quiet-scan (h .least) z s))
+          rw (turn-refused k sol ce st b s e p a, p, e) (omega (arith, one, h .at b s z .refusal a, quiet-scan (h .least) z s))
       go (is-mended m e p a) =
           rw (turn-mended k sol ce st b s m e p a, p, e)
           (let d = drop-ready (h .least) (inPlace k z (m .letters)) b s (ce (b ∷ s) z .lookups) (m .resume)
-          (h .at b s z .staying m a) (λ r e′. h .at b s z .going m r a e′) in omega arith)
+          (h .at b s z .staying m a) (λ r e′. h .at b s z .going m r a e′) in omega (arith, one))
 
   lookups-le : Fair → (f : ℕ) (st : State)
       → turnsOf k sol ce f st .done .lookups ≤ st .done .lookups + ahead (st .previous) (st .kmer) (st .rest)
@@ -159,11 +166,12 @@ module _ (k : ℕ) (sol : ℕ → Bool) (ce : List ℕ → ℕ → Try Mend) (F 
   unfolding drive begin
   drive-lookups h read le =
       rw (drive, le-ltb (length read) k le)
-      (let y : ℕ = kmer k (take k read) in
+      (let y : Kmer = kmer k (take k read) in
       omega (
         arith,
         lookups-le h (2 * (length read - k)) (begin k sol ce read),
-        ahead≤ (h .least) (sol y) y (drop k read),
+        ask-cost sol y,
+        ahead≤ (h .least) (ask sol y .answer) y (drop k read),
         ap (λ (x : ℕ). F * x) (length-drop k read),
       ))
 

@@ -11,7 +11,7 @@ use mathlib.Core.List.{List, [], _∷_, _++_, append-nil}
 use lib.Dec.{eqb, ltb, leb, leb·zero, lit<, lit≤}
 use lib.ListN.{length, getD, take, drop, replicate, length-append, List·getD-append, List·getD-eq-default, drop-of-length-le}
 use lib.Seq.{getD-append-add, drop-cons, take-at}
-use Rattle.rules.specs.Letters.{add, addAll, kmer, canonical, evenOnes, revcomp, code}
+use Rattle.rules.specs.Letters.{Kmer, add, addAll, kmer, canonical, evenOnes, revcomp, code}
 use Rattle.rules.specs.Refusal.{Refusal, accepted, refused, Check, _orElse_, unless, atPlace, firstFailing}
 use Rattle.rules.specs.Set.{KmerSet, maxK, maxKeys, kRight, word, blockWord, blocks, headerK, headerN, keyWord, keysFrom, setOf, check, lengthRight, checkRight, isNone, headerRight, keyRight, setCheck, opened}
 use Rattle.rules.specs.Blocks.{blocksFrom, blocksFor, checkOf, unmade, fits, filled, laidInto}
@@ -203,12 +203,12 @@ module _ (k : ℕ) (keys : List ℕ) (h : Keys k keys) where
 
 -- ---- the keys that a text gives
 
--- A k-mer is below 4^k.
-kmer-lt : (k : ℕ) (bs : List ℕ) → kmer k bs < 4 ^ k
+-- The code of a k-mer is below 4^k.
+kmer-lt : (k : ℕ) (bs : List ℕ) → kmer k bs .code < 4 ^ k
 unfolding kmer addAll
-kmer-lt k bs = go 0 (four-pos k) bs
+kmer-lt k bs = go (record { code = 0; unknown = 0 }) (four-pos k) bs
   where
-    go : (y : ℕ) → y < 4 ^ k → (ls : List ℕ) → addAll k y ls < 4 ^ k
+    go : (y : Kmer) → y .code < 4 ^ k → (ls : List ℕ) → addAll k y ls .code < 4 ^ k
     go y l [] = l
     go y l (b ∷ ls) = go (add k y (code b)) (add-lt k y (code b)) ls
 
@@ -289,11 +289,11 @@ line-keys k (line ∷ ls) (suc i) h = line-keys k ls i (omega arith)
 
 pub line-key-lt : (k : ℕ) (line : List ℕ) → lineKey k line < 4 ^ k
 unfolding lineKey
-line-key-lt k line = canonical-lt k (kmer k (take k line)) (kmer-lt k (take k line))
+line-key-lt k line = canonical-lt k (kmer k (take k line) .code) (kmer-lt k (take k line))
 
 line-key-same : (k : ℕ) (line : List ℕ) → k % 2 ≡ 1 → canonical k (lineKey k line) ≡ lineKey k line
 unfolding lineKey
-line-key-same k line odd = canonical-twice k (kmer k (take k line)) odd (kmer-lt k (take k line))
+line-key-same k line odd = canonical-twice k (kmer k (take k line) .code) odd (kmer-lt k (take k line))
 
 k-odd-of : (k : ℕ) → kRight k ≡ true → (k % 2 ≡ 1) × (k ≤ maxK)
 k-odd-of k h = go (eqb (k % 2) 1) refl

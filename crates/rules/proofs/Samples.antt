@@ -4,14 +4,16 @@ use mathlib.Core.Path.{_≡_, refl}
 use mathlib.Core.Option.{Option, none, some}
 use mathlib.Core.List.{List, [], _∷_, _++_, map}
 use lib.ListN.{replicate, set}
-use Rattle.rules.specs.Letters.{code, letter, complement}
+use Rattle.rules.specs.Letters.{Kmer, code, letter, complement, kmer, inPlace}
 use Rattle.rules.specs.Refusal.{accepted, refused}
-use Rattle.rules.specs.Set.{KmerSet, check, opened}
+use Rattle.rules.specs.Set.{KmerSet, solid, check, opened}
+use Rattle.rules.specs.Scan.{fourCost}
+use Rattle.rules.specs.Solid.{solidsOf}
 use Rattle.rules.specs.Driver.{Pass}
 use Rattle.rules.specs.Job.{Entry, entriesOf, pass, result}
 use Rattle.rules.specs.Counts.{Fed, sum, allPasses, turns, lookups, ceiling}
 use Rattle.rules.specs.Calls.{Given, After, correctRead, correctBatch}
-use Rattle.rules.specs.Samples.{A, C, T, G, AACGTC, AACGCCG, sampleSet, sampleBytes, Sample, line, table, JobSample, jobLine, jobTable}
+use Rattle.rules.specs.Samples.{A, C, T, G, N, AACGTC, AACGCCG, AACTCCG, sampleSet, sampleBytes, Sample, line, table, unknownTable, JobSample, jobLine, jobTable}
 use Rattle.rules.specs.Scenarios.{OnSet, on, scenarioTable}
 
 -- A line as the rules have it: its bytes, turns and lookups computed.
@@ -23,6 +25,42 @@ byRules set s = (let p : Pass = pass set (record { method = s .method; confirm =
 pub samples : map (byRules sampleSet) table ≡ table
 unfolding byRules table sampleSet
 samples = refl
+
+-- And every line of the reads with unknown letters, document 02, W5.
+pub unknownSamples : map (byRules sampleSet) unknownTable ≡ unknownTable
+unfolding byRules unknownTable sampleSet
+unknownSamples = refl
+
+-- A k-mer's unknown letters: ACN, NAN, NAC and G, which is ACG; and ANC and ACN moved right, a known A in front.
+pub unknownLetters :
+    map (λ (y : Kmer). y .unknown)
+    (kmer 3 (A ∷ C ∷ N ∷ [])
+    ∷ kmer 3 (N ∷ A ∷ N ∷ [])
+    ∷ kmer 3 (N ∷ A ∷ C ∷ G ∷ [])
+    ∷ inPlace 3 (kmer 3 (A ∷ N ∷ C ∷ [])) []
+    ∷ inPlace 3 (kmer 3 (A ∷ C ∷ N ∷ [])) []
+    ∷ [])
+    ≡ 1 ∷ 5 ∷ 0 ∷ 1 ∷ 0 ∷ []
+unfolding kmer inPlace
+unknownLetters = refl
+
+-- Four successors cost 4 lookups if the last k − 1 letters are known, else none: NAC, ANC, ACN.
+pub unknownFour :
+    map (λ bs. fourCost 3 (solid sampleSet) (kmer 3 bs)) ((N ∷ A ∷ C ∷ []) ∷ (A ∷ N ∷ C ∷ []) ∷ (A ∷ C ∷ N ∷ []) ∷ []) ≡ 4 ∷ 0 ∷ 0 ∷ []
+unfolding fourCost kmer
+unknownFour = refl
+
+-- Such a k-mer counts as a k-mer of the read, and not as solid: AACTCCG, NACTCCG, AACNCCG, NNN, AA.
+pub unknownSolids :
+    map (solidsOf sampleSet) (AACTCCG ∷ (N ∷ A ∷ C ∷ T ∷ C ∷ C ∷ G ∷ []) ∷ (A ∷ A ∷ C ∷ N ∷ C ∷ C ∷ G ∷ []) ∷ (N ∷ N ∷ N ∷ []) ∷ (A ∷ A ∷ []) ∷ [])
+    ≡ record { kmers = 5; solid = 5 }
+    ∷ record { kmers = 5; solid = 4 }
+    ∷ record { kmers = 5; solid = 2 }
+    ∷ record { kmers = 1; solid = 0 }
+    ∷ record { kmers = 0; solid = 0 }
+    ∷ []
+unfolding solidsOf sampleSet
+unknownSolids = refl
 
 pub byRulesOn : OnSet → OnSet
 unfolding byRules

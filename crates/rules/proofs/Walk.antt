@@ -3,7 +3,7 @@ use Prim.Native.Nat.{ℕ, zero, suc, _+_, _*_, _-_, _≤_, _<_, max}
 use native.Mathlib.Omega.{arith}
 use native.Mathlib.Decide.{decLe}
 use native.Mathlib.Nat.{suc-add, zero-add}
-use borrow.Author.Tests.{eqb-true, eqb-false, eq-eqb, ne-eqb}
+use borrow.Author.Tests.{eqb-true, eqb-false}
 use mathlib.Core.Path.{_≡_, refl, sym, ap, _∙_, subst}
 use mathlib.Core.Logic.{_⊎_, inl, inr, ⊎-elim}
 use mathlib.Core.Bool.{Bool, true, false, _||_, true≢false, false≢true}
@@ -11,199 +11,213 @@ use mathlib.Core.Option.{Option, none, some, Option·some-injective, Option·non
 use mathlib.Core.List.{List, [], _∷_, _++_, append-assoc}
 use lib.ListN.{length}
 use lib.Dec.{eqb}
-use Rattle.rules.specs.Letters.{lastLetter}
-use Rattle.rules.specs.Set.{among}
+use Rattle.rules.specs.Letters.{Kmer, same, met, lastLetter}
 use Rattle.rules.specs.Counted.{refuse}
-use Rattle.rules.specs.Scan.{sole}
+use Rattle.rules.specs.Scan.{ask, sole}
 use Rattle.rules.specs.Graph.{All, end, also, Distinct, end-distinct, also-distinct, spell, OnlySuccessor, Moves, move, more, Chain, Walk, moveCost, start, moved, halt, walk, walkFrom}
-use Rattle.rules.proofs.Scan.{sole-is, sole-found, sole-lt}
+use Rattle.rules.proofs.Scan.{ask-known, ask-cost, sole-is, sole-found, sole-lt, sole-cost}
+use Rattle.rules.proofs.Kmer.{same-true, same-self, same-ne, same-false}
 use Rattle.rules.proofs.Few.{or-right, or-false, SolidKmer, Few}
 
 -- ---- the way to the first t
 
 -- t stands at the end of zs, and nowhere else
-data First (t : ℕ) : List ℕ → Type 0 where
+data First (t : Kmer) : List Kmer → Type 0 where
   first-one : First t (t ∷ [])
-  first-more : {z : ℕ} {zs : List ℕ} → (z ≡ t → ⊥) → First t zs → First t (z ∷ zs)
+  first-more : {z : Kmer} {zs : List Kmer} → (z ≡ t → ⊥) → First t zs → First t (z ∷ zs)
 
 module _ (k : ℕ) (sol : ℕ → Bool) where
-  moves-solid : {y t : ℕ} {zs : List ℕ} → Moves k sol y zs t → All (λ z. sol z ≡ true) zs
+  moves-solid : {y t : Kmer} {zs : List Kmer} → Moves k sol y zs t → All (λ z. ask sol z .answer ≡ true) zs
   moves-solid (move o) = also (o .is-solid) end
   moves-solid (more o m) = also (o .is-solid) (moves-solid m)
 
   -- two only successors are one
-  one-successor : {y z z′ : ℕ} → OnlySuccessor k sol y z → OnlySuccessor k sol y z′ → z ≡ z′
+  one-successor : {y z z′ : Kmer} → OnlySuccessor k sol y z → OnlySuccessor k sol y z′ → z ≡ z′
   one-successor {y} {z} {z′} o o′ = Option·some-injective z z′ (sym (sole-found k sol y z o) ∙ sole-found k sol y z′ o′)
 
   -- two ways from y to the first t are one way
-  same : {y t : ℕ} {zs vs : List ℕ} → Moves k sol y zs t → First t zs → Moves k sol y vs t → First t vs → length zs ≡ length vs
-  same (move o) f (move o′) g = refl
-  same (move o) f (more o′ m) (first-more n g) = absurd (n (one-successor o′ o))
-  same (more o m) (first-more n f) (move o′) g = absurd (n (one-successor o o′))
-  same (more {t = t} o m) (first-more n f) (more {zs = zs′} o′ m′) (first-more n′ g) =
-      ap suc (same m f (subst (λ (w : ℕ). Moves k sol w zs′ t) (one-successor o′ o) m′) g)
+  one-way : {y t : Kmer} {zs vs : List Kmer} → Moves k sol y zs t → First t zs → Moves k sol y vs t → First t vs → length zs ≡ length vs
+  one-way (move o) f (move o′) g = refl
+  one-way (move o) f (more o′ m) (first-more n g) = absurd (n (one-successor o′ o))
+  one-way (more o m) (first-more n f) (move o′) g = absurd (n (one-successor o o′))
+  one-way (more {t = t} o m) (first-more n f) (more {zs = zs′} o′ m′) (first-more n′ g) =
+      ap suc (one-way m f (subst (λ (w : Kmer). Moves k sol w zs′ t) (one-successor o′ o) m′) g)
 
-  record Suffix (z t l : ℕ) : Type 0 where
-    rest : List ℕ
+  record Suffix (z t : Kmer) (l : ℕ) : Type 0 where
+    rest : List Kmer
     moves : Moves k sol z rest t
     first : First t rest
     shorter : length rest < l
 
-  suffix : {y t : ℕ} {zs : List ℕ} → Moves k sol y zs t → First t zs → (z : ℕ) → among z zs ≡ true → (z ≡ t → ⊥) → Suffix z t (length zs)
-  unfolding among
-  suffix (move {t = t} o) f z a n = go (eqb z t) refl a
+  suffix : {y t : Kmer} {zs : List Kmer} → Moves k sol y zs t → First t zs → (z : Kmer) → met z zs ≡ true → (z ≡ t → ⊥) → Suffix z t (length zs)
+  unfolding met
+  suffix (move {t = t} o) f z a n = go (same z t) refl a
     where
-      go : (b : Bool) → eqb z t ≡ b → b || false ≡ true → Suffix z t 1
-      go true e h = absurd (n (eqb-true z t e))
+      go : (b : Bool) → same z t ≡ b → b || false ≡ true → Suffix z t 1
+      go true e h = absurd (n (same-true z t e))
       go false e h = absurd (false≢true h)
-  suffix (more {z = z′} {t = t} {zs = zs} o m) (first-more n′ f) z a n = go (λ h. suffix m f z h n) (eqb z z′) refl a
+  suffix (more {z = z′} {t = t} {zs = zs} o m) (first-more n′ f) z a n = go (λ h. suffix m f z h n) (same z z′) refl a
     where
-      go : (among z zs ≡ true → Suffix z t (length zs)) → (b : Bool) → eqb z z′ ≡ b → b || among z zs ≡ true → Suffix z t (suc (length zs))
-      go i true e h = record { rest = zs; moves = subst (λ (w : ℕ). Moves k sol w zs t) (sym (eqb-true z z′ e)) m; first = f; shorter = omega arith }
+      go : (met z zs ≡ true → Suffix z t (length zs)) → (b : Bool) → same z z′ ≡ b → b || met z zs ≡ true → Suffix z t (suc (length zs))
+      go i true e h = record { rest = zs; moves = subst (λ (w : Kmer). Moves k sol w zs t) (sym (same-true z z′ e)) m; first = f; shorter = omega arith }
       go i false e h = let w = i h in record { rest = w .rest; moves = w .moves; first = w .first; shorter = omega (arith, w .shorter) }
 
   -- the way to the first t meets nothing twice
-  distinct-first : {y t : ℕ} {zs : List ℕ} → (y ≡ t → ⊥) → Moves k sol y zs t → First t zs → Distinct (y ∷ zs)
-  unfolding among
-  distinct-first {y} {t} n (move o) f = also-distinct {y = y} {ys = t ∷ []} (rw (ne-eqb y t n)) (also-distinct refl end-distinct)
-  distinct-first {y} {t} n (more {z = z} {zs = zs} o m) (first-more n′ f) = go (distinct-first n′ m f) (among y (z ∷ zs)) refl
+  distinct-first : {y t : Kmer} {zs : List Kmer} → (y ≡ t → ⊥) → Moves k sol y zs t → First t zs → Distinct (y ∷ zs)
+  unfolding met
+  distinct-first {y} {t} n (move o) f = also-distinct {y = y} {ys = t ∷ []} (rw (same-ne y t n)) (also-distinct refl end-distinct)
+  distinct-first {y} {t} n (more {z = z} {zs = zs} o m) (first-more n′ f) = go (distinct-first n′ m f) (met y (z ∷ zs)) refl
     where
-      go : Distinct (z ∷ zs) → (b : Bool) → among y (z ∷ zs) ≡ b → Distinct (y ∷ z ∷ zs)
+      go : Distinct (z ∷ zs) → (b : Bool) → met y (z ∷ zs) ≡ b → Distinct (y ∷ z ∷ zs)
       go d true a =
           let w = suffix (more o m) (first-more n′ f) y a n in
-          absurd (omega (arith, w .shorter, same (more o m) (first-more n′ f) (w .moves) (w .first)))
+          absurd (omega (arith, w .shorter, one-way (more o m) (first-more n′ f) (w .moves) (w .first)))
       go d false a = also-distinct a d
 
-  last-among : {y t : ℕ} {zs : List ℕ} → Moves k sol y zs t → among t zs ≡ true
-  unfolding among
-  last-among (move {t = t} o) = rw (eq-eqb t t refl)
-  last-among (more {z = z} {t = t} o m) = or-right (eqb t z) (last-among m)
+  last-met : {y t : Kmer} {zs : List Kmer} → Moves k sol y zs t → met t zs ≡ true
+  unfolding met
+  last-met (move {t = t} o) = rw (same-self t (ask-known sol t (o .is-solid)))
+  last-met (more {z = z} {t = t} o m) = or-right (same t z) (last-met m)
 
   -- ---- the walk, case by case
 
-  module _ (f t : ℕ) (w : Walk) (lit : sol (w .at) ≡ true) where
-    walk-dead : sole k sol (w .at) .answer ≡ none → walk k sol (suc f) t w ≡ halt w moveCost
+  module _ (f : ℕ) (t : Kmer) (w : Walk) (lit : ask sol (w .at) .answer ≡ true) where
+    abbrev cost : ℕ
+    cost = moveCost k sol (w .at)
+
+    walk-dead : sole k sol (w .at) .answer ≡ none → walk k sol (suc f) t w ≡ halt w cost
     unfolding walk
     walk-dead e = rw (lit, walk, e)
 
-    module _ (y : ℕ) (e : sole k sol (w .at) .answer ≡ some y) where
-      walk-hit : eqb y t ≡ true
-          → walk k sol (suc f) t w ≡ record { answer = some (w .letters ++ (lastLetter y ∷ [])); lookups = w .lookups + moveCost }
+    module _ (y : Kmer) (e : sole k sol (w .at) .answer ≡ some y) where
+      walk-hit : same y t ≡ true
+          → walk k sol (suc f) t w ≡ record { answer = some (w .letters ++ (lastLetter y ∷ [])); lookups = w .lookups + cost }
       unfolding walk
       walk-hit h = rw (lit, walk, e, h)
 
-      walk-loop : eqb y t ≡ false → eqb y (w .mark) ≡ true → walk k sol (suc f) t w ≡ halt w moveCost
+      walk-loop : same y t ≡ false → same y (w .mark) ≡ true → walk k sol (suc f) t w ≡ halt w cost
       unfolding walk
       walk-loop h g = rw (lit, walk, e, h, g)
 
-      walk-goes : eqb y t ≡ false → eqb y (w .mark) ≡ false → walk k sol (suc f) t w ≡ walk k sol f t (moved w y)
+      walk-goes : same y t ≡ false → same y (w .mark) ≡ false → walk k sol (suc f) t w ≡ walk k sol f t (moved w y cost)
       unfolding walk
       walk-goes h g = rw (lit, walk, e, h, g)
 
-moved-moves : (w : Walk) (y : ℕ) → moved w y .moves ≡ suc (w .moves)
+moved-moves : (w : Walk) (y : Kmer) (l : ℕ) → moved w y l .moves ≡ suc (w .moves)
 unfolding moved
-moved-moves w y = refl
+moved-moves w y l = refl
 
 -- the mark after a move: set, or kept
-record MarkAfter (w : Walk) (y : ℕ) : Type 0 where
-  marks : ((suc (w .moves) ≡ w .marks-at) × (moved w y .mark ≡ y) × (moved w y .marks-at ≡ 2 * w .marks-at))
-      ⊎ ((suc (w .moves) ≡ w .marks-at → ⊥) × (moved w y .mark ≡ w .mark) × (moved w y .marks-at ≡ w .marks-at))
+record MarkAfter (w : Walk) (y : Kmer) (l : ℕ) : Type 0 where
+  marks : ((suc (w .moves) ≡ w .marks-at) × (moved w y l .mark ≡ y) × (moved w y l .marks-at ≡ 2 * w .marks-at))
+      ⊎ ((suc (w .moves) ≡ w .marks-at → ⊥) × (moved w y l .mark ≡ w .mark) × (moved w y l .marks-at ≡ w .marks-at))
 
-marked : (w : Walk) (y : ℕ) → MarkAfter w y
+marked : (w : Walk) (y : Kmer) (l : ℕ) → MarkAfter w y l
 unfolding moved
-marked w y = go (eqb (suc (w .moves)) (w .marks-at)) refl
+marked w y l = go (eqb (suc (w .moves)) (w .marks-at)) refl
   where
-    go : (b : Bool) → eqb (suc (w .moves)) (w .marks-at) ≡ b → MarkAfter w y
+    go : (b : Bool) → eqb (suc (w .moves)) (w .marks-at) ≡ b → MarkAfter w y l
     go true e = record { marks = inl (eqb-true _ _ e, rw (e, moved), rw (e, moved) (omega arith)) }
     go false e = record { marks = inr (eqb-false _ _ e, rw (e, moved), rw (e, moved)) }
 
 module _ (k : ℕ) (sol : ℕ → Bool) where
-  -- a walk costs 5 for each move
-  pub walk-cost : (f t : ℕ) (w : Walk) → walk k sol f t w .lookups ≤ w .lookups + moveCost * f
+  -- a move costs 5 at most
+  pub move-cost : (y : Kmer) → moveCost k sol y ≤ 5
+  unfolding moveCost
+  move-cost y = omega (arith, ask-cost sol y, sole-cost k sol y)
+
+  -- a walk costs 5 at most for each move
+  pub walk-cost : (f : ℕ) (t : Kmer) (w : Walk) → walk k sol f t w .lookups ≤ w .lookups + 5 * f
   unfolding walk halt moved
   walk-cost zero t w = omega arith
-  walk-cost (suc f) t w = go (λ y. walk-cost f t (moved w y)) (sol (w .at)) refl (sole k sol (w .at) .answer) refl
+  walk-cost (suc f) t w = go (λ y. walk-cost f t (moved w y l)) (ask sol (w .at) .answer) refl (sole k sol (w .at) .answer) refl
     where
-      go : ((y : ℕ) → walk k sol f t (moved w y) .lookups ≤ w .lookups + moveCost + moveCost * f)
-          → (p : Bool) → sol (w .at) ≡ p → (o : Option ℕ) → sole k sol (w .at) .answer ≡ o → walk k sol (suc f) t w .lookups ≤ w .lookups + moveCost * suc f
-      go i false e o g = rw (e, walk) (omega arith)
-      go i true e none g = rw (e, walk, g) (omega arith)
-      go i true e (some y) g = on (eqb y t) refl (eqb y (w .mark)) refl
+      l : ℕ
+      l = moveCost k sol (w .at)
+
+      five : l ≤ 5
+      five = move-cost (w .at)
+
+      go : ((y : Kmer) → walk k sol f t (moved w y l) .lookups ≤ w .lookups + l + 5 * f)
+          → (p : Bool) → ask sol (w .at) .answer ≡ p → (o : Option Kmer) → sole k sol (w .at) .answer ≡ o → walk k sol (suc f) t w .lookups ≤ w .lookups + 5 * suc f
+      go i false e o g = rw (e, walk) (omega (arith, ask-cost sol (w .at)))
+      go i true e none g = rw (e, walk, g) (omega (arith, five))
+      go i true e (some y) g = on (same y t) refl (same y (w .mark)) refl
         where
-          on : (q : Bool) → eqb y t ≡ q → (r : Bool) → eqb y (w .mark) ≡ r → walk k sol (suc f) t w .lookups ≤ w .lookups + moveCost * suc f
-          on true e2 r e3 = rw (e, walk, g, e2) (omega arith)
-          on false e2 true e3 = rw (e, walk, g, e2, e3) (omega arith)
-          on false e2 false e3 = rw (e, walk, g, e2, e3) (omega (arith, i y))
+          on : (q : Bool) → same y t ≡ q → (r : Bool) → same y (w .mark) ≡ r → walk k sol (suc f) t w .lookups ≤ w .lookups + 5 * suc f
+          on true e2 r e3 = rw (e, walk, g, e2) (omega (arith, five))
+          on false e2 true e3 = rw (e, walk, g, e2, e3) (omega (arith, five))
+          on false e2 false e3 = rw (e, walk, g, e2, e3) (omega (arith, five, i y))
 
   -- a chain is found: the mark is behind
-  complete : (f t : ℕ) (w : Walk) (y : ℕ) (zs : List ℕ) → w .at ≡ y → sol y ≡ true → Moves k sol y zs t → Distinct zs → among (w .mark) zs ≡ false
+  complete : (f : ℕ) (t : Kmer) (w : Walk) (y : Kmer) (zs : List Kmer) → w .at ≡ y → ask sol y .answer ≡ true → Moves k sol y zs t → Distinct zs → met (w .mark) zs ≡ false
       → length zs ≤ f → walk k sol f t w .answer ≡ some (w .letters ++ spell zs)
-  unfolding spell among moved
+  unfolding spell met moved
   complete zero t w y (z ∷ zs) e l m d a h = absurd (omega arith)
   complete (suc f) t w y (z ∷ []) e l (move o) d a h =
-      rw (walk-hit k sol f z w (rw e l) z (rw e (sole-found k sol y z o)) (eq-eqb z z refl))
+      rw (walk-hit k sol f z w (rw e l) z (rw e (sole-found k sol y z o)) (same-self z (ask-known sol z (o .is-solid))))
   complete (suc f) t w y (z ∷ zs) e l (more o m) (also-distinct nz d) a h =
-      let v = moved w z in
-      let q = marked w z in
-      let r = or-false (eqb (w .mark) z) (among (w .mark) zs) a in
-      let nt : z ≡ t → ⊥ = λ c. true≢false (sym (last-among k sol m) ∙ ap (λ (c′ : ℕ). among c′ zs) (sym c) ∙ nz) in
-      let nm : z ≡ w .mark → ⊥ = λ c. eqb-false (w .mark) z (r .0) (sym c) in
-      let behind : among (v .mark) zs ≡ false =
-      ⊎-elim (λ c. ap (λ (u : ℕ). among u zs) (c .1) ∙ nz) (λ c. ap (λ (u : ℕ). among u zs) (c .1) ∙ r .1) (q .marks) in
+      let v = moved w z (moveCost k sol (w .at)) in
+      let q = marked w z (moveCost k sol (w .at)) in
+      let r = or-false (same (w .mark) z) (met (w .mark) zs) a in
+      let nt : z ≡ t → ⊥ = λ c. true≢false (sym (last-met k sol m) ∙ ap (λ (c′ : Kmer). met c′ zs) (sym c) ∙ nz) in
+      let nm : z ≡ w .mark → ⊥ = λ c. true≢false (sym (same-self z (ask-known sol z (o .is-solid))) ∙ ap (λ (c′ : Kmer). same c′ z) c ∙ r .0) in
+      let behind : met (v .mark) zs ≡ false =
+      ⊎-elim (λ c. ap (λ (u : Kmer). met u zs) (c .1) ∙ nz) (λ c. ap (λ (u : Kmer). met u zs) (c .1) ∙ r .1) (q .marks) in
       let i = complete f t v z zs refl (o .is-solid) m d behind (omega arith) in
-      rw (walk-goes k sol f t w (rw e l) z (rw e (sole-found k sol y z o)) (ne-eqb z t nt) (ne-eqb z (w .mark) nm))
+      rw (walk-goes k sol f t w (rw e l) z (rw e (sole-found k sol y z o)) (same-ne z t nt) (same-ne z (w .mark) nm))
       (i ∙ ap {B = Option (List ℕ)} some (append-assoc (w .letters) (lastLetter z ∷ []) (spell zs)))
 
   -- what is accepted is the way to the first t
-  record Found (t : ℕ) (w : Walk) (ls : List ℕ) : Type 0 where
-    via : List ℕ
+  record Found (t : Kmer) (w : Walk) (ls : List ℕ) : Type 0 where
+    via : List Kmer
     moves : Moves k sol (w .at) via t
     first : First t via
     spelled : ls ≡ w .letters ++ spell via
 
-  sound : (f t : ℕ) (w : Walk) (ls : List ℕ) → sol (w .at) ≡ true → walk k sol f t w .answer ≡ some ls → Found t w ls
+  sound : (f : ℕ) (t : Kmer) (w : Walk) (ls : List ℕ) → ask sol (w .at) .answer ≡ true → walk k sol f t w .answer ≡ some ls → Found t w ls
   unfolding walk halt spell moved
   sound zero t w ls l h = absurd (Option·none-ne-some ls h)
   sound (suc f) t w ls l h = go (λ v. sound f t v ls) (sole k sol (w .at) .answer) refl
     where
-      go : ((v : Walk) → sol (v .at) ≡ true → walk k sol f t v .answer ≡ some ls → Found t v ls)
-          → (o : Option ℕ) → sole k sol (w .at) .answer ≡ o → Found t w ls
+      go : ((v : Walk) → ask sol (v .at) .answer ≡ true → walk k sol f t v .answer ≡ some ls → Found t v ls)
+          → (o : Option Kmer) → sole k sol (w .at) .answer ≡ o → Found t w ls
       go ih none e = absurd (Option·none-ne-some ls (rw (walk-dead k sol f t w l e) at h))
-      go ih (some y) e = on (eqb y t) refl (eqb y (w .mark)) refl
+      go ih (some y) e = on (same y t) refl (same y (w .mark)) refl
         where
           o : OnlySuccessor k sol (w .at) y
           o = sole-is k sol (w .at) y e
 
-          on : (p : Bool) → eqb y t ≡ p → (q : Bool) → eqb y (w .mark) ≡ q → Found t w ls
+          on : (p : Bool) → same y t ≡ p → (q : Bool) → same y (w .mark) ≡ q → Found t w ls
           on true e1 q e2 =
-              let yt = eqb-true y t e1 in
+              let yt = same-true y t e1 in
               record {
                 via = t ∷ [];
-                moves = move (subst (λ (z : ℕ). OnlySuccessor k sol (w .at) z) yt o);
+                moves = move (subst (λ (z : Kmer). OnlySuccessor k sol (w .at) z) yt o);
                 first = first-one;
                 spelled = sym (Option·some-injective (w .letters ++ (lastLetter y ∷ [])) ls (rw (walk-hit k sol f t w l y e e1) at h))
-                    ∙ ap (λ (z : ℕ). w .letters ++ (lastLetter z ∷ [])) yt;
+                    ∙ ap (λ (z : Kmer). w .letters ++ (lastLetter z ∷ [])) yt;
               }
           on false e1 true e2 = absurd (Option·none-ne-some ls (rw (walk-loop k sol f t w l y e e1 e2) at h))
           on false e1 false e2 =
-              let i = ih (moved w y) (o .is-solid) (rw (walk-goes k sol f t w l y e e1 e2) at h) in
+              let i = ih (moved w y (moveCost k sol (w .at))) (o .is-solid) (rw (walk-goes k sol f t w l y e e1 e2) at h) in
               record {
                 via = y ∷ i .via;
                 moves = more o (i .moves);
-                first = first-more (eqb-false y t e1) (i .first);
+                first = first-more (same-false y t (ask-known sol y (o .is-solid)) e1) (i .first);
                 spelled = i .spelled ∙ append-assoc (w .letters) (lastLetter y ∷ []) (spell (i .via));
               }
 
 -- ---- from x on, by sole successors
 
 -- the sole successor, or the k-mer itself where there is none
-after : Option ℕ → ℕ → ℕ
+after : Option Kmer → Kmer → Kmer
 after none y = y
 after (some z) y = z
 
 -- at y, the i-th k-mer from x
-module _ (k n : ℕ) (sol : ℕ → Bool) (few : Few k n sol) (x : ℕ) (good : SolidKmer k sol x) where
-  it : ℕ → ℕ
+module _ (k n : ℕ) (sol : ℕ → Bool) (few : Few k n sol) (x : Kmer) (good : SolidKmer k sol x) where
+  it : ℕ → Kmer
   unfolding after
   it zero = x
   it (suc i) = after (sole k sol (it i) .answer) (it i)
@@ -218,12 +232,12 @@ module _ (k n : ℕ) (sol : ℕ → Bool) (few : Few k n sol) (x : ℕ) (good : 
   it-good zero = good
   it-good (suc i) = go (it-good i) (sole k sol (it i) .answer) refl
     where
-      go : SolidKmer k sol (it i) → (o : Option ℕ) → sole k sol (it i) .answer ≡ o → SolidKmer k sol (after o (it i))
+      go : SolidKmer k sol (it i) → (o : Option Kmer) → sole k sol (it i) .answer ≡ o → SolidKmer k sol (after o (it i))
       go g none e = g
       go g (some z) e = (sole-lt k sol (it i) z e, sole-is k sol (it i) z e .is-solid)
 
   -- it i, .., it 0
-  firsts : ℕ → List ℕ
+  firsts : ℕ → List Kmer
   firsts zero = x ∷ []
   firsts (suc i) = it (suc i) ∷ firsts i
 
@@ -237,29 +251,29 @@ module _ (k n : ℕ) (sol : ℕ → Bool) (few : Few k n sol) (x : ℕ) (good : 
   firsts-good zero = also good end
   firsts-good (suc i) = also (it-good (suc i)) (firsts-good i)
 
-  find : (z i : ℕ) → among z (firsts i) ≡ true → (a : ℕ) × (a ≤ i) × (it a ≡ z)
-  unfolding firsts among it
-  find z zero h = go (eqb z x) refl h
+  find : (z : Kmer) (i : ℕ) → met z (firsts i) ≡ true → (a : ℕ) × (a ≤ i) × (it a ≡ z)
+  unfolding firsts met it
+  find z zero h = go (same z x) refl h
     where
-      go : (t : Bool) → eqb z x ≡ t → t || false ≡ true → (a : ℕ) × (a ≤ 0) × (it a ≡ z)
-      go true e h = (0, omega arith, sym (eqb-true z x e))
+      go : (t : Bool) → same z x ≡ t → t || false ≡ true → (a : ℕ) × (a ≤ 0) × (it a ≡ z)
+      go true e h = (0, omega arith, sym (same-true z x e))
       go false e h = absurd (false≢true h)
-  find z (suc i) h = go (find z i) (eqb z (it (suc i))) refl h
+  find z (suc i) h = go (find z i) (same z (it (suc i))) refl h
     where
-      go : (among z (firsts i) ≡ true → (a : ℕ) × (a ≤ i) × (it a ≡ z)) → (t : Bool) → eqb z (it (suc i)) ≡ t → t || among z (firsts i) ≡ true
+      go : (met z (firsts i) ≡ true → (a : ℕ) × (a ≤ i) × (it a ≡ z)) → (t : Bool) → same z (it (suc i)) ≡ t → t || met z (firsts i) ≡ true
           → (a : ℕ) × (a ≤ suc i) × (it a ≡ z)
-      go f true e h = (suc i, omega arith, sym (eqb-true z (it (suc i)) e))
+      go f true e h = (suc i, omega arith, sym (same-true z (it (suc i)) e))
       go f false e h = let w = f h in (w .0, omega (arith, w .1), w .2)
 
   Repeat : ℕ → Type 0
   Repeat i = (a : ℕ) × (b : ℕ) × (a < b) × (b ≤ i) × (it a ≡ it b)
 
   distinct-or : (i : ℕ) → Distinct (firsts i) ⊎ Repeat i
-  unfolding firsts Repeat among
+  unfolding firsts Repeat met
   distinct-or zero = inl (also-distinct refl end-distinct)
-  distinct-or (suc i) = go (distinct-or i) (among (it (suc i)) (firsts i)) refl
+  distinct-or (suc i) = go (distinct-or i) (met (it (suc i)) (firsts i)) refl
     where
-      go : Distinct (firsts i) ⊎ Repeat i → (t : Bool) → among (it (suc i)) (firsts i) ≡ t → Distinct (firsts (suc i)) ⊎ Repeat (suc i)
+      go : Distinct (firsts i) ⊎ Repeat i → (t : Bool) → met (it (suc i)) (firsts i) ≡ t → Distinct (firsts (suc i)) ⊎ Repeat (suc i)
       go (inl d) true e = let w = find (it (suc i)) i e in inr (w .0, suc i, omega (arith, w .1), omega arith, w .2)
       go (inl d) false e = inl (also-distinct e d)
       go (inr r) t e = inr (r .0, r .1, r .2, omega (arith, r .3), r .4)
@@ -286,26 +300,26 @@ module _ (k n : ℕ) (sol : ℕ → Bool) (few : Few k n sol) (x : ℕ) (good : 
 
   -- ---- exactly when a chain exists
 
-  moves-good : {y t : ℕ} {zs : List ℕ} → Moves k sol y zs t → All (SolidKmer k sol) zs
+  moves-good : {y t : Kmer} {zs : List Kmer} → Moves k sol y zs t → All (SolidKmer k sol) zs
   unfolding SolidKmer
   moves-good (move {y = y} {t = t} o) = also (sole-lt k sol y t (sole-found k sol y t o), o .is-solid) end
   moves-good (more {y = y} {z = z} o m) = also (sole-lt k sol y z (sole-found k sol y z o), o .is-solid) (moves-good m)
 
-  pub chain-found : (t : ℕ) (c : Chain k sol x t) → walkFrom k n sol t x .answer ≡ some (spell (x ∷ c .via))
+  pub chain-found : (t : Kmer) (c : Chain k sol x t) → walkFrom k n sol t x .answer ≡ some (spell (x ∷ c .via))
   unfolding walkFrom start spell SolidKmer Few
   chain-found t c = go (c .distinct)
     where
       go : Distinct (x ∷ c .via) → walkFrom k n sol t x .answer ≡ some (spell (x ∷ c .via))
       go (also-distinct nx d) =
-          let xt : x ≡ t → ⊥ = λ e. true≢false (sym (last-among k sol (c .moves)) ∙ ap (λ (u : ℕ). among u (c .via)) (sym e) ∙ nx) in
+          let xt : x ≡ t → ⊥ = λ e. true≢false (sym (last-met k sol (c .moves)) ∙ ap (λ (u : Kmer). met u (c .via)) (sym e) ∙ nx) in
           let l = few (x ∷ c .via) (c .distinct) (also good (moves-good (c .moves))) in
-          rw (ne-eqb x t xt, walkFrom) (complete k sol (6 * n) t (start x) x (c .via) refl (good .1) (c .moves) d nx (omega arith))
+          rw (same-ne x t xt, walkFrom) (complete k sol (6 * n) t (start x) x (c .via) refl (good .1) (c .moves) d nx (omega arith))
 
-  pub found-chain : (t : ℕ) (ls : List ℕ) → walkFrom k n sol t x .answer ≡ some ls → (c : Chain k sol x t) × (ls ≡ spell (x ∷ c .via))
+  pub found-chain : (t : Kmer) (ls : List ℕ) → walkFrom k n sol t x .answer ≡ some ls → (c : Chain k sol x t) × (ls ≡ spell (x ∷ c .via))
   unfolding walkFrom refuse start spell SolidKmer
-  found-chain t ls h = go (eqb x t) refl
+  found-chain t ls h = go (same x t) refl
     where
-      go : (b : Bool) → eqb x t ≡ b → (c : Chain k sol x t) × (ls ≡ spell (x ∷ c .via))
+      go : (b : Bool) → same x t ≡ b → (c : Chain k sol x t) × (ls ≡ spell (x ∷ c .via))
       go true e = absurd (Option·none-ne-some ls (rw (e, walkFrom) at h))
       go false e =
           let w = sound k sol (6 * n) t (start x) ls (good .1) (rw (e, walkFrom) at h) in (
@@ -313,7 +327,7 @@ module _ (k n : ℕ) (sol : ℕ → Bool) (few : Few k n sol) (x : ℕ) (good : 
               via = w .via;
               moves = w .moves;
               all-solid = also (good .1) (moves-solid k sol (w .moves));
-              distinct = distinct-first k sol (eqb-false x t e) (w .moves) (w .first);
+              distinct = distinct-first k sol (same-false x t (ask-known sol x (good .1)) e) (w .moves) (w .first);
             },
             w .spelled,
           )
@@ -332,7 +346,7 @@ module _ (k n : ℕ) (sol : ℕ → Bool) (few : Few k n sol) (x : ℕ) (good : 
     fresh : (i : ℕ) → q < i → i ≤ w .moves → it i ≡ it q → ⊥
 
   n-pos : 0 < n
-  unfolding among Few
+  unfolding met Few
   n-pos = omega (arith, few (x ∷ []) (also-distinct refl end-distinct) (also good end))
 
   -- at most 6n − 2 moves
@@ -345,16 +359,16 @@ module _ (k n : ℕ) (sol : ℕ → Bool) (few : Few k n sol) (x : ℕ) (good : 
           elim (decLe (r .0 + i .q) (w .moves))
           [ yes g ↦ absurd (i .fresh (r .0 + i .q) (omega (arith, r .1)) g (r .3)) | no g ↦ omega (arith, r .2) ]
 
-  it-next : (w : Walk) (y : ℕ) → it (w .moves) ≡ w .at → sole k sol (w .at) .answer ≡ some y → it (suc (w .moves)) ≡ y
+  it-next : (w : Walk) (y : Kmer) → it (w .moves) ≡ w .at → sole k sol (w .at) .answer ≡ some y → it (suc (w .moves)) ≡ y
   unfolding it after
   it-next w y a e = rw (a, e)
 
-  going-step : (w : Walk) (y : ℕ) → Going w → sole k sol (w .at) .answer ≡ some y → (y ≡ w .mark → ⊥) → Going (moved w y)
+  going-step : (w : Walk) (y : Kmer) (l : ℕ) → Going w → sole k sol (w .at) .answer ≡ some y → (y ≡ w .mark → ⊥) → Going (moved w y l)
   unfolding moved
-  going-step w y i e ne = ⊎-elim set keep (marked w y .marks)
+  going-step w y l i e ne = ⊎-elim set keep (marked w y l .marks)
     where
       v : Walk
-      v = moved w y
+      v = moved w y l
 
       nx : it (suc (w .moves)) ≡ y
       nx = it-next w y (i .at-is) e
@@ -399,31 +413,32 @@ module _ (k n : ℕ) (sol : ℕ → Bool) (few : Few k n sol) (x : ℕ) (good : 
             fresh = λ a lt le e′. fresh′ a lt le e′;
           }
 
-  walk-enough : (f g t : ℕ) (w : Walk) → Going w → 6 * n ≤ w .moves + f + 1 → 6 * n ≤ w .moves + g + 1 → walk k sol f t w ≡ walk k sol g t w
+  walk-enough : (f g : ℕ) (t : Kmer) (w : Walk) → Going w → 6 * n ≤ w .moves + f + 1 → 6 * n ≤ w .moves + g + 1 → walk k sol f t w ≡ walk k sol g t w
   unfolding SolidKmer
   walk-enough zero g t w i p q = absurd (omega (arith, going-bound w i))
   walk-enough (suc f) zero t w i p q = absurd (omega (arith, going-bound w i))
   walk-enough (suc f) (suc g) t w i p q = go (walk-enough f g t) (sole k sol (w .at) .answer) refl
     where
-      lit : sol (w .at) ≡ true
-      lit = subst (λ (y : ℕ). sol y ≡ true) (i .at-is) (it-good (w .moves) .1)
+      lit : ask sol (w .at) .answer ≡ true
+      lit = subst (λ (y : Kmer). ask sol y .answer ≡ true) (i .at-is) (it-good (w .moves) .1)
 
       go : ((v : Walk) → Going v → 6 * n ≤ v .moves + f + 1 → 6 * n ≤ v .moves + g + 1 → walk k sol f t v ≡ walk k sol g t v)
-          → (o : Option ℕ) → sole k sol (w .at) .answer ≡ o → walk k sol (suc f) t w ≡ walk k sol (suc g) t w
+          → (o : Option Kmer) → sole k sol (w .at) .answer ≡ o → walk k sol (suc f) t w ≡ walk k sol (suc g) t w
       go ih none e = walk-dead k sol f t w lit e ∙ sym (walk-dead k sol g t w lit e)
-      go ih (some y) e = on (eqb y t) refl (eqb y (w .mark)) refl
+      go ih (some y) e = on (same y t) refl (same y (w .mark)) refl
         where
-          on : (a : Bool) → eqb y t ≡ a → (b : Bool) → eqb y (w .mark) ≡ b → walk k sol (suc f) t w ≡ walk k sol (suc g) t w
+          on : (a : Bool) → same y t ≡ a → (b : Bool) → same y (w .mark) ≡ b → walk k sol (suc f) t w ≡ walk k sol (suc g) t w
           on true e1 b e2 = walk-hit k sol f t w lit y e e1 ∙ sym (walk-hit k sol g t w lit y e e1)
           on false e1 true e2 = walk-loop k sol f t w lit y e e1 e2 ∙ sym (walk-loop k sol g t w lit y e e1 e2)
           on false e1 false e2 =
-              let m = moved-moves w y in
+              let m = moved-moves w y (moveCost k sol (w .at)) in
+              let ky = ask-known sol y (sole-is k sol (w .at) y e .is-solid) in
               walk-goes k sol f t w lit y e e1 e2
-              ∙ ih (moved w y) (going-step w y i e (eqb-false y (w .mark) e2)) (omega arith) (omega arith)
+              ∙ ih (moved w y (moveCost k sol (w .at))) (going-step w y (moveCost k sol (w .at)) i e (same-false y (w .mark) ky e2)) (omega arith) (omega arith)
               ∙ sym (walk-goes k sol g t w lit y e e1 e2)
 
   -- Any fuel from 6n − 1 on gives the same walk: it makes fewer than 6n moves.
-  pub walk-fuel : (f t : ℕ) → 6 * n ≤ f + 1 → walk k sol f t (start x) ≡ walk k sol (6 * n) t (start x)
+  pub walk-fuel : (f : ℕ) (t : Kmer) → 6 * n ≤ f + 1 → walk k sol f t (start x) ≡ walk k sol (6 * n) t (start x)
   unfolding start it
   walk-fuel f t h =
       walk-enough f (6 * n) t (start x)

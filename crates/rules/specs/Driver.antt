@@ -1,12 +1,13 @@
--- Document 01, "Driver".
+-- Document 01, "Driver"; document 02, W5: no lookup for an unknown letter.
 use Prim.Native.Nat.{ℕ, zero, suc, _+_, _*_, _-_}
 use mathlib.Core.Bool.{Bool, true, false}
 use mathlib.Core.Option.{none, some}
 use mathlib.Core.List.{List, [], _∷_, _++_}
 use lib.ListN.{length, take, drop}
 use lib.Dec.{ltb}
-use Rattle.rules.specs.Letters.{add, addBase, code, kmer, inPlace}
+use Rattle.rules.specs.Letters.{Kmer, add, addBase, code, kmer, inPlace}
 use Rattle.rules.specs.Counted.{Try}
+use Rattle.rules.specs.Scan.{ask}
 use Rattle.rules.specs.Exist.{Mend}
 
 -- What a pass gives: its bytes, and what it counts.
@@ -19,13 +20,13 @@ pub record Pass : Type 0 where
 
 -- Where a pass stands: the k-mer, whether the previous one counts as solid, the bases not taken yet, and what is done.
 pub record State : Type 0 where
-  pub kmer : ℕ
+  pub kmer : Kmer
   pub previous : Bool
   pub rest : List ℕ
   pub done : Pass
 
--- Base b kept, its k-mer y answered p; the turn made 1 + l lookups and a refused attempts.
-unfoldable pub keepBase : State → ℕ → List ℕ → ℕ → Bool → ℕ → ℕ → State
+-- Base b kept, its k-mer y answered p; the turn made l lookups and a refused attempts.
+unfoldable pub keepBase : State → ℕ → List ℕ → Kmer → Bool → ℕ → ℕ → State
 keepBase st b s y p a l =
     record {
       kmer = y;
@@ -34,14 +35,14 @@ keepBase st b s y p a l =
       done = record {
         bytes = st .done .bytes ++ (b ∷ []);
         turns = st .done .turns + 1;
-        lookups = st .done .lookups + (1 + l);
+        lookups = st .done .lookups + l;
         attempts = st .done .attempts + a;
         accepted = st .done .accepted;
       };
     }
 
 -- An accepted attempt at the bad k-mer y: the letters are written for the base; go on r bases further; previous counts as solid.
-unfoldable pub mendBase : ℕ → State → List ℕ → ℕ → Mend → ℕ → State
+unfoldable pub mendBase : ℕ → State → List ℕ → Kmer → Mend → ℕ → State
 unfolding inPlace
 mendBase k st s y m l =
     record {
@@ -51,27 +52,28 @@ mendBase k st s y m l =
       done = record {
         bytes = st .done .bytes ++ m .letters;
         turns = st .done .turns + 1;
-        lookups = st .done .lookups + (1 + l);
+        lookups = st .done .lookups + l;
         attempts = st .done .attempts + 1;
         accepted = st .done .accepted + 1;
       };
     }
 
 -- The driver over any corrector, given the rest of the read at the bad base and the bad k-mer.
-module _ (k : ℕ) (sol : ℕ → Bool) (correct-error : List ℕ → ℕ → Try Mend) where
-  -- A turn adds one base b, 1 lookup. Not solid while the previous was: attempt.
+module _ (k : ℕ) (sol : ℕ → Bool) (correct-error : List ℕ → Kmer → Try Mend) where
+  -- A turn adds one base b, and its k-mer is asked. Not solid while the previous was: attempt.
   unfoldable pub turn : State → ℕ → List ℕ → State
-  unfolding keepBase mendBase add code
+  unfolding keepBase mendBase add code ask
   turn st b s =
-      let y : ℕ = addBase k (st .kmer) b in
-      elim (sol y) [
-        | true ↦ keepBase st b s y true 0 0
+      let y : Kmer = addBase k (st .kmer) b in
+      let asked : ℕ = ask sol y .lookups in
+      elim (ask sol y .answer) [
+        | true ↦ keepBase st b s y true 0 asked
         | false ↦ elim (st .previous) [
-          | false ↦ keepBase st b s y false 0 0
+          | false ↦ keepBase st b s y false 0 asked
           | true ↦ (let t : Try Mend = correct-error (b ∷ s) y in
               elim (t .answer) [
-                | none ↦ keepBase st b s y false 1 (t .lookups)
-                | some m ↦ mendBase k st (b ∷ s) y m (t .lookups)
+                | none ↦ keepBase st b s y false 1 (asked + t .lookups)
+                | some m ↦ mendBase k st (b ∷ s) y m (asked + t .lookups)
               ])
         ]
       ]
@@ -82,16 +84,16 @@ module _ (k : ℕ) (sol : ℕ → Bool) (correct-error : List ℕ → ℕ → Tr
   turnsOf zero st = st
   turnsOf (suc fuel) st = elim (st .rest) [ [] ↦ st | b ∷ s ↦ turnsOf fuel (turn st b s) ]
 
-  -- 1 lookup for the first k-mer, copied.
+  -- The first k-mer is asked, and copied.
   unfoldable pub begin : List ℕ → State
-  unfolding kmer
+  unfolding kmer ask
   begin read =
-      let y : ℕ = kmer k (take k read) in
+      let y : Kmer = kmer k (take k read) in
       record {
         kmer = y;
-        previous = sol y;
+        previous = ask sol y .answer;
         rest = drop k read;
-        done = record { bytes = take k read; turns = 0; lookups = 1; attempts = 0; accepted = 0 };
+        done = record { bytes = take k read; turns = 0; lookups = ask sol y .lookups; attempts = 0; accepted = 0 };
       }
 
   -- Shorter than k: returned unchanged, counts zero.

@@ -5,28 +5,28 @@ use mathlib.Core.Option.{none, some}
 use mathlib.Core.List.{List, [], _∷_, _++_}
 use lib.ListN.{length}
 use lib.Dec.{eqb, ltb}
-use Rattle.rules.specs.Set.{among}
+use Rattle.rules.specs.Letters.{Kmer, met}
 use Rattle.rules.specs.Counted.{Try, after, give, _>>=_}
 use Rattle.rules.specs.Scan.{Scan, sole, alternative, errorLen}
 use Rattle.rules.specs.Exist.{Mend, exist, one}
 use Rattle.rules.specs.Graph.{spell, graphFrom}
 
 module _ (k : ℕ) (sol : ℕ → Bool) where
-  -- Moves by sole successors from y, the last of the k-mers seen: 4 lookups each after the l made, refused on a repeat.
-  unfoldable pub gap : ℕ → List ℕ → ℕ → ℕ → Try (List ℕ)
-  unfolding sole among
+  -- Moves by sole successors from y, the last of the k-mers seen, after l lookups, refused on a repeat.
+  unfoldable pub gap : ℕ → List Kmer → Kmer → ℕ → Try (List Kmer)
+  unfolding sole met
   gap zero seen y l = record { answer = some seen; lookups = l }
   gap (suc moves) seen y l =
       elim (sole k sol y .answer) [
-        | none ↦ record { answer = none; lookups = l + 4 }
-        | some z ↦ elim (among z seen) [
-          | true ↦ record { answer = none; lookups = l + 4 }
-          | false ↦ gap moves (seen ++ (z ∷ [])) z (l + 4)
+        | none ↦ record { answer = none; lookups = l + sole k sol y .lookups }
+        | some z ↦ elim (met z seen) [
+          | true ↦ record { answer = none; lookups = l + sole k sol y .lookups }
+          | false ↦ gap moves (seen ++ (z ∷ [])) z (l + sole k sol y .lookups)
         ]
       ]
 
   -- That many moves from x; resume is the count of letters.
-  unfoldable pub gapFrom : ℕ → ℕ → Try Mend
+  unfoldable pub gapFrom : ℕ → Kmer → Try Mend
   unfolding alternative gap spell _>>=_ give
   gapFrom moves y =
       alternative k sol y
@@ -34,7 +34,7 @@ module _ (k : ℕ) (sol : ℕ → Bool) where
 
 module _ (k n : ℕ) (sol : ℕ → Bool) where
   -- One scan, counted once. Index below k: Graph from that scan. Equal: One. Above: index − k moves.
-  unfoldable pub gapSize : ℕ → List ℕ → ℕ → Try Mend
+  unfoldable pub gapSize : ℕ → List ℕ → Kmer → Try Mend
   unfolding graphFrom errorLen after exist gapFrom one
   gapSize c s y =
       let sc : Scan = errorLen k sol y s in

@@ -5,10 +5,9 @@ use mathlib.Core.Bool.{Bool, true, false}
 use mathlib.Core.Option.{none, some}
 use mathlib.Core.List.{List, [], _∷_, _++_}
 use lib.Dec.{eqb}
-use Rattle.rules.specs.Letters.{add, lastLetter}
-use Rattle.rules.specs.Set.{among}
+use Rattle.rules.specs.Letters.{Kmer, same, met, add, lastLetter}
 use Rattle.rules.specs.Counted.{Try, after, refuse, give, _>>=_}
-use Rattle.rules.specs.Scan.{Scan, sole, alternative, errorLen}
+use Rattle.rules.specs.Scan.{Scan, ask, sole, alternative, errorLen}
 use Rattle.rules.specs.Exist.{Mend}
 
 -- ---- chains
@@ -19,61 +18,57 @@ pub data All {A : Type 0} (P : A → Type 0) : List A → Type 0 where
   also : {a : A} {l : List A} → P a → All P l → All P (a ∷ l)
 
 -- No k-mer stands twice.
-pub data Distinct : List ℕ → Type 0 where
+pub data Distinct : List Kmer → Type 0 where
   end-distinct : Distinct []
-  also-distinct : {y : ℕ} {ys : List ℕ} → among y ys ≡ false → Distinct ys → Distinct (y ∷ ys)
+  also-distinct : {y : Kmer} {ys : List Kmer} → met y ys ≡ false → Distinct ys → Distinct (y ∷ ys)
 
 -- The letters of k-mers in turn: the last of each.
-unfoldable pub spell : List ℕ → List ℕ
+unfoldable pub spell : List Kmer → List ℕ
 unfolding lastLetter
 spell [] = []
 spell (y ∷ ys) = lastLetter y ∷ spell ys
 
 module _ (k : ℕ) (sol : ℕ → Bool) where
   -- z is the only solid successor of y.
-  pub record OnlySuccessor (y z : ℕ) : Type 0 where
+  pub record OnlySuccessor (y z : Kmer) : Type 0 where
     pub by : ℕ
     pub by-lt : by < 4
     pub is : z ≡ add k y by
-    pub is-solid : sol z ≡ true
-    pub only-one : (b : ℕ) → b < 4 → sol (add k y b) ≡ true → b ≡ by
+    pub is-solid : ask sol z .answer ≡ true
+    pub only-one : (b : ℕ) → b < 4 → ask sol (add k y b) .answer ≡ true → b ≡ by
 
   -- At least one move, each to the only solid successor, the last to t.
-  pub data Moves : ℕ → List ℕ → ℕ → Type 0 where
-    move : {y t : ℕ} → OnlySuccessor y t → Moves y (t ∷ []) t
-    more : {y z t : ℕ} {zs : List ℕ} → OnlySuccessor y z → Moves z zs t → Moves y (z ∷ zs) t
+  pub data Moves : Kmer → List Kmer → Kmer → Type 0 where
+    move : {y t : Kmer} → OnlySuccessor y t → Moves y (t ∷ []) t
+    more : {y z t : Kmer} {zs : List Kmer} → OnlySuccessor y z → Moves z zs t → Moves y (z ∷ zs) t
 
   -- A chain: x first, at least one move, each k-mer the only solid successor of the one before, all solid and distinct, last is t.
-  pub record Chain (x t : ℕ) : Type 0 where
-    pub via : List ℕ
+  pub record Chain (x t : Kmer) : Type 0 where
+    pub via : List Kmer
     pub moves : Moves x via t
-    pub all-solid : All (λ y. sol y ≡ true) (x ∷ via)
+    pub all-solid : All (λ y. ask sol y .answer ≡ true) (x ∷ via)
     pub distinct : Distinct (x ∷ via)
 
 -- ---- the walk
 
 -- Where a walk stands: its k-mer, the mark, the moves made, the move that sets the mark next, the letters, the lookups made.
 pub record Walk : Type 0 where
-  pub at : ℕ
-  pub mark : ℕ
+  pub at : Kmer
+  pub mark : Kmer
   pub moves : ℕ
   pub marks-at : ℕ
   pub letters : List ℕ
   pub lookups : ℕ
 
--- 1 lookup that the current k-mer is solid, 4 for successors.
-abbrev pub moveCost : ℕ
-moveCost = 5
-
 -- The walk at x, which is the first mark.
-unfoldable pub start : ℕ → Walk
+unfoldable pub start : Kmer → Walk
 unfolding lastLetter
 start x = record { at = x; mark = x; moves = 0; marks-at = 1; letters = lastLetter x ∷ []; lookups = 0 }
 
--- After a move to y. The mark is the k-mer after moves 1, 2, 4, 8, ..
-unfoldable pub moved : Walk → ℕ → Walk
+-- After a move to y by l lookups. The mark is the k-mer after moves 1, 2, 4, 8, ..
+unfoldable pub moved : Walk → Kmer → ℕ → Walk
 unfolding lastLetter
-moved w y =
+moved w y l =
     let marks : Bool = eqb (suc (w .moves)) (w .marks-at) in
     record {
       at = y;
@@ -81,7 +76,7 @@ moved w y =
       moves = suc (w .moves);
       marks-at = elim marks [ true ↦ 2 * (w .marks-at) | false ↦ w .marks-at ];
       letters = w .letters ++ (lastLetter y ∷ []);
-      lookups = w .lookups + moveCost;
+      lookups = w .lookups + l;
     }
 
 -- The walk refuses after l lookups more.
@@ -89,58 +84,63 @@ unfoldable pub halt : Walk → ℕ → Try (List ℕ)
 halt w l = record { answer = none; lookups = w .lookups + l }
 
 module _ (k : ℕ) (sol : ℕ → Bool) where
+  -- What a move costs: the current k-mer is asked, and its successors are.
+  unfoldable pub moveCost : Kmer → ℕ
+  unfolding ask sole
+  moveCost y = ask sol y .lookups + sole k sol y .lookups
+
   -- Each move: the current k-mer is asked, then its successors. No sole successor refuses; T accepts; equal to the mark refuses.
   -- The fuel never runs out where it is 6n (the theorem `fuel`).
-  unfoldable pub walk : ℕ → ℕ → Walk → Try (List ℕ)
-  unfolding moved sole halt
+  unfoldable pub walk : ℕ → Kmer → Walk → Try (List ℕ)
+  unfolding moved sole halt ask moveCost same
   walk zero t w = halt w 0
   walk (suc fuel) t w =
-      elim (sol (w .at)) [
-        | false ↦ halt w 1
+      elim (ask sol (w .at) .answer) [
+        | false ↦ halt w (ask sol (w .at) .lookups)
         | true ↦ elim (sole k sol (w .at) .answer) [
-          | none ↦ halt w moveCost
-          | some y ↦ elim (eqb y t) [
-            | true ↦ record { answer = some (w .letters ++ (lastLetter y ∷ [])); lookups = w .lookups + moveCost }
-            | false ↦ elim (eqb y (w .mark)) [
-              | true ↦ halt w moveCost
-              | false ↦ walk fuel t (moved w y)
+          | none ↦ halt w (moveCost (w .at))
+          | some y ↦ elim (same y t) [
+            | true ↦ record { answer = some (w .letters ++ (lastLetter y ∷ [])); lookups = w .lookups + moveCost (w .at) }
+            | false ↦ elim (same y (w .mark)) [
+              | true ↦ halt w (moveCost (w .at))
+              | false ↦ walk fuel t (moved w y (moveCost (w .at)))
             ]
           ]
         ]
       ]
 
 module _ (k n : ℕ) (sol : ℕ → Bool) where
-  -- T = x refuses without moving.
-  unfoldable pub walkFrom : ℕ → ℕ → Try (List ℕ)
-  unfolding walk start refuse
-  walkFrom t x = elim (eqb x t) [ true ↦ refuse | false ↦ walk k sol (6 * n) t (start x) ]
+  -- T = x refuses without moving. A T that holds an unknown letter is equal to no k-mer of the walk, x included.
+  unfoldable pub walkFrom : Kmer → Kmer → Try (List ℕ)
+  unfolding walk start refuse same
+  walkFrom t x = elim (same x t) [ true ↦ refuse | false ↦ walk k sol (6 * n) t (start x) ]
 
   -- Graph from a scan: letters are x's last and each move's; resume scan index + 1.
-  unfoldable pub graphFrom : Scan → ℕ → Try Mend
+  unfoldable pub graphFrom : Scan → Kmer → Try Mend
   unfolding alternative walkFrom _>>=_ give
   graphFrom sc y =
       alternative k sol y
       >>= (λ x. walkFrom (sc .end) x >>= (λ letters. give (record { letters = letters; resume = suc (sc .index) })))
 
   -- The scan comes first.
-  unfoldable pub graph : List ℕ → ℕ → Try Mend
+  unfoldable pub graph : List ℕ → Kmer → Try Mend
   unfolding graphFrom errorLen after
   graph s y = (let sc : Scan = errorLen k sol y s in after (sc .lookups) (graphFrom sc y))
 
 -- ---- demand 2: a Graph correction is made exactly when a chain exists
 
 -- At an attempt, s the rest of the read and y the bad k-mer: x, and a chain from x to the scan's last k-mer T.
-pub record ChainAt (k : ℕ) (sol : ℕ → Bool) (s : List ℕ) (y : ℕ) : Type 0 where
-  pub x : ℕ
+pub record ChainAt (k : ℕ) (sol : ℕ → Bool) (s : List ℕ) (y : Kmer) : Type 0 where
+  pub x : Kmer
   pub starts : alternative k sol y .answer ≡ some x
   pub chain : Chain k sol x (errorLen k sol y s .end)
 
 -- Letters are x's last and each move's; resume scan index + 1.
-unfoldable pub chainMend : (k : ℕ) (sol : ℕ → Bool) (s : List ℕ) (y : ℕ) → ChainAt k sol s y → Mend
+unfoldable pub chainMend : (k : ℕ) (sol : ℕ → Bool) (s : List ℕ) (y : Kmer) → ChainAt k sol s y → Mend
 unfolding spell errorLen
 chainMend k sol s y at = record { letters = spell (at .x ∷ at .chain .via); resume = suc (errorLen k sol y s .index) }
 
 -- An attempt gives a mend if and only if there is such a chain, and then it is the chain's.
-pub record Exactly (k : ℕ) (sol : ℕ → Bool) (s : List ℕ) (y : ℕ) (t : Try Mend) : Type 0 where
+pub record Exactly (k : ℕ) (sol : ℕ → Bool) (s : List ℕ) (y : Kmer) (t : Try Mend) : Type 0 where
   pub if-chain : (at : ChainAt k sol s y) → t .answer ≡ some (chainMend k sol s y at)
   pub only-if : (m : Mend) → t .answer ≡ some m → (at : ChainAt k sol s y) × (m ≡ chainMend k sol s y at)

@@ -4,6 +4,7 @@ use mathlib.Core.Bool.{Bool, true, false, _&&_}
 use mathlib.Core.List.{List, [], _∷_, _++_}
 use lib.ListN.{length, getD}
 use lib.Dec.{eqb, leb}
+use Rattle.rules.specs.Letters.{Kmer}
 use Rattle.rules.specs.Set.{KmerSet, solid}
 use Rattle.rules.specs.Counted.{Try}
 use Rattle.rules.specs.Exist.{Mend, exist, one, two}
@@ -72,7 +73,7 @@ lines batch = linesFrom [] batch
 -- A set and a confirm c.
 module _ (set : KmerSet) (c : ℕ) where
   -- An attempt under a method.
-  unfoldable pub correctError : Method → List ℕ → ℕ → Try Mend
+  unfoldable pub correctError : Method → List ℕ → Kmer → Try Mend
   unfolding exist graph gapSize one two solid
   correctError One s y = exist (set .k) (solid set) c s (one (set .k) (solid set)) y
   correctError Two s y = exist (set .k) (solid set) c s (two (set .k) (solid set)) y

@@ -67,7 +67,7 @@ lineCount k line = number 0 (digits k line)
 -- The canonical code of a line's k letters.
 unfoldable pub lineKey : ℕ → List ℕ → ℕ
 unfolding canonical kmer
-lineKey k line = canonical k (kmer k (take k line))
+lineKey k line = canonical k (kmer k (take k line) .code)
 
 -- Lines whose count is below the least count are passed over.
 unfoldable pub kept : ℕ → ℕ → List ℕ → Bool

@@ -1,4 +1,4 @@
--- Document 01, "Sample reads": its set and its reads marked *; document 02, W1: jobs of several entries.
+-- Document 01, "Sample reads": its set and its reads marked *; document 02, W1: jobs of several entries; W5: reads with unknown letters.
 use Prim.Native.Nat.{ℕ}
 use mathlib.Core.List.{List, [], _∷_, _++_}
 use lib.ListN.{replicate}
@@ -17,6 +17,13 @@ T = 84
 
 abbrev pub G : ℕ
 G = 71
+
+-- Not a letter of 01, and T's other name.
+abbrev pub N : ℕ
+N = 78
+
+abbrev pub U : ℕ
+U = 85
 
 abbrev pub AACCG : List ℕ
 AACCG = A ∷ A ∷ C ∷ C ∷ G ∷ []
@@ -110,4 +117,41 @@ jobTable =
     ∷ jobLine (4 ∷ 1 ∷ 4 ∷ 4 ∷ []) AACGCCG AACTCCG 8 24 1422
     ∷ jobLine (1 ∷ 4 ∷ 3 ∷ 200 ∷ 1 ∷ 1 ∷ []) AACGCCG AACTCCG 9 42 783
     ∷ jobLine [] AACCG AACCG 0 0 0
+    ∷ []
+
+-- Document 02, W5: reads with an unknown letter, in lower case, and with a U. Kept bases keep their byte.
+unfoldable pub unknownTable : List Sample
+unfolding line
+unknownTable =
+    -- any byte but the ten letters is unknown: N, R, n
+    line One 1 (A ∷ A ∷ C ∷ N ∷ C ∷ []) (A ∷ A ∷ C ∷ T ∷ C ∷ []) 2 10
+    ∷ line One 1 (A ∷ A ∷ C ∷ 82 ∷ C ∷ []) (A ∷ A ∷ C ∷ T ∷ C ∷ []) 2 10
+    ∷ line One 1 (A ∷ A ∷ C ∷ 110 ∷ C ∷ []) (A ∷ A ∷ C ∷ T ∷ C ∷ []) 2 10
+    -- in the first k-mer, which then isn't solid
+    ∷ line One 1 (A ∷ A ∷ N ∷ []) (A ∷ A ∷ N ∷ []) 0 0
+    ∷ line One 1 (N ∷ A ∷ C ∷ G ∷ []) (N ∷ A ∷ C ∷ G ∷ []) 1 1
+    ∷ line One 1 (N ∷ N ∷ A ∷ C ∷ G ∷ []) (N ∷ N ∷ A ∷ C ∷ G ∷ []) 2 1
+    ∷ line One 1 (N ∷ A ∷ A ∷ C ∷ G ∷ C ∷ []) (N ∷ A ∷ A ∷ C ∷ T ∷ C ∷ []) 3 12
+    -- among the confirm bases, and behind them
+    ∷ line One 3 (A ∷ A ∷ C ∷ G ∷ C ∷ C ∷ N ∷ []) (A ∷ A ∷ C ∷ G ∷ C ∷ C ∷ N ∷ []) 4 14
+    ∷ line One 2 (A ∷ A ∷ C ∷ G ∷ C ∷ C ∷ N ∷ []) (A ∷ A ∷ C ∷ T ∷ C ∷ C ∷ N ∷ []) 4 22
+    -- in a trial: "not solid" holds without a lookup (SS, SCS), and a tried k-mer may hold it (ICI, SCI, DCI)
+    ∷ line Two 2 (A ∷ A ∷ C ∷ N ∷ C ∷ C ∷ G ∷ []) (A ∷ A ∷ C ∷ N ∷ C ∷ C ∷ G ∷ []) 4 40
+    ∷ line Two 1 (A ∷ A ∷ C ∷ C ∷ N ∷ []) (A ∷ A ∷ C ∷ T ∷ C ∷ C ∷ N ∷ []) 3 46
+    ∷ line Two 1 (A ∷ A ∷ C ∷ G ∷ C ∷ N ∷ []) (A ∷ A ∷ C ∷ T ∷ C ∷ C ∷ N ∷ []) 3 53
+    ∷ line Two 1 (A ∷ A ∷ C ∷ G ∷ C ∷ C ∷ N ∷ []) (A ∷ A ∷ C ∷ G ∷ C ∷ C ∷ N ∷ []) 4 43
+    -- in the one base more
+    ∷ line Two 1 (A ∷ A ∷ C ∷ C ∷ N ∷ C ∷ []) (A ∷ A ∷ C ∷ C ∷ N ∷ C ∷ []) 3 31
+    -- passed by the scan, and in T: the walk then moves and pays, also where T's code is that of x (AACGNCT)
+    ∷ line Graph 1 (A ∷ A ∷ C ∷ N ∷ C ∷ C ∷ G ∷ []) (A ∷ A ∷ C ∷ T ∷ C ∷ C ∷ G ∷ []) 1 21
+    ∷ line Graph 1 (C ∷ G ∷ G ∷ N ∷ []) (C ∷ G ∷ G ∷ N ∷ []) 1 25
+    ∷ line Graph 1 (C ∷ C ∷ G ∷ T ∷ G ∷ G ∷ N ∷ []) (C ∷ C ∷ G ∷ T ∷ G ∷ G ∷ N ∷ []) 4 35
+    ∷ line Graph 1 (A ∷ A ∷ C ∷ G ∷ N ∷ []) (A ∷ A ∷ C ∷ G ∷ N ∷ []) 2 51
+    ∷ line Graph 1 (A ∷ A ∷ C ∷ G ∷ N ∷ C ∷ T ∷ []) (A ∷ A ∷ C ∷ G ∷ N ∷ C ∷ T ∷ []) 4 51
+    ∷ line GapSize 1 (A ∷ A ∷ C ∷ N ∷ C ∷ C ∷ G ∷ []) (A ∷ A ∷ C ∷ T ∷ C ∷ C ∷ G ∷ []) 4 15
+    ∷ line GapSize 1 (A ∷ A ∷ C ∷ N ∷ N ∷ N ∷ N ∷ N ∷ []) (A ∷ A ∷ C ∷ T ∷ C ∷ C ∷ N ∷ N ∷ []) 3 47
+    -- lower case and U are read as their letters: aacgc, aacutg, AACUC
+    ∷ line One 1 (97 ∷ 97 ∷ 99 ∷ 103 ∷ 99 ∷ []) (97 ∷ 97 ∷ 99 ∷ T ∷ 99 ∷ []) 2 12
+    ∷ line One 1 (97 ∷ 97 ∷ 99 ∷ 117 ∷ 116 ∷ 103 ∷ []) (97 ∷ 97 ∷ 99 ∷ 117 ∷ 116 ∷ 103 ∷ []) 3 13
+    ∷ line One 1 (A ∷ A ∷ C ∷ U ∷ C ∷ []) (A ∷ A ∷ C ∷ U ∷ C ∷ []) 2 3
     ∷ []

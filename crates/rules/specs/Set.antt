@@ -5,7 +5,7 @@ use mathlib.Core.Option.{Option, none, some}
 use mathlib.Core.List.{List, [], _∷_}
 use lib.ListN.{length, getD, drop}
 use lib.Dec.{eqb, ltb, leb}
-use Rattle.rules.specs.Letters.{canonical}
+use Rattle.rules.specs.Letters.{among, canonical}
 use Rattle.rules.specs.Refusal.{Outcome, accepted, refused, Check, _orElse_, unless, atPlace, firstFailing}
 
 -- The largest k and the largest n.
@@ -20,12 +20,7 @@ pub record KmerSet : Type 0 where
   pub k : ℕ
   pub keys : List ℕ
 
--- y is one of the list.
-unfoldable pub among : ℕ → List ℕ → Bool
-among y [] = false
-among y (x ∷ xs) = eqb y x || among y xs
-
--- A k-mer is solid when its canonical code is a key; asking once is one lookup.
+-- A code is solid when its canonical code is a key; asking once is one lookup.
 unfoldable pub solid : KmerSet → ℕ → Bool
 unfolding canonical among
 solid s y = among (canonical (s .k) y) (s .keys)

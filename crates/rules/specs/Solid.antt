@@ -1,33 +1,35 @@
--- The k-mers of a read, and how many of them are solid: a call beside document 01's, with its refusals 1 and 7 to 10.
+-- The k-mers of a read, and how many of them are solid: a call beside document 01's, with its refusals 1 and 7 to 10. One that holds an
+-- unknown letter is a k-mer of the read, and not solid.
 use Prim.Native.Nat.{ℕ, suc}
 use mathlib.Core.Bool.{true, false}
 use mathlib.Core.Option.{none, some}
 use mathlib.Core.List.{List, [], _∷_}
 use lib.ListN.{length, take, drop}
 use lib.Dec.{ltb, leb}
-use Rattle.rules.specs.Letters.{add, addBase, code, kmer}
+use Rattle.rules.specs.Letters.{Kmer, add, addBase, code, kmer}
 use Rattle.rules.specs.Refusal.{Outcome, accepted, refused, unless}
 use Rattle.rules.specs.Set.{KmerSet, solid, opened}
+use Rattle.rules.specs.Scan.{ask}
 use Rattle.rules.specs.Calls.{maxRead}
 
 -- The k-mers behind y, one for each base.
-unfoldable pub kmersBehind : ℕ → ℕ → List ℕ → List ℕ
+unfoldable pub kmersBehind : ℕ → Kmer → List ℕ → List Kmer
 unfolding add code
 kmersBehind k y [] = []
 kmersBehind k y (b ∷ bs) = addBase k y b ∷ kmersBehind k (addBase k y b) bs
 
 -- The first k-mer, and those behind it; none where the read is shorter than k.
-unfoldable pub kmersOf : ℕ → List ℕ → List ℕ
+unfoldable pub kmersOf : ℕ → List ℕ → List Kmer
 unfolding kmersBehind kmer
 kmersOf k read =
-    let first : ℕ = kmer k (take k read) in
+    let first : Kmer = kmer k (take k read) in
     elim (ltb (length read) k) [ true ↦ [] | false ↦ first ∷ kmersBehind k first (drop k read) ]
 
 -- How many of a list are solid.
-unfoldable pub solids : KmerSet → List ℕ → ℕ
-unfolding solid
+unfoldable pub solids : KmerSet → List Kmer → ℕ
+unfolding solid ask
 solids set [] = 0
-solids set (y ∷ ys) = elim (solid set y) [ true ↦ suc (solids set ys) | false ↦ solids set ys ]
+solids set (y ∷ ys) = elim (ask (solid set) y .answer) [ true ↦ suc (solids set ys) | false ↦ solids set ys ]
 
 -- The k-mers of a read, and the solid ones among them.
 pub record Solids : Type 0 where

@@ -1,28 +1,36 @@
 -- Laws of bases added, the sole successor and the scan in the code's terms.
 use Prim.Native.Nat.{ℕ, zero, suc, _+_, _*_, _/_, _≤_, _<_}
 use native.Mathlib.Omega.{arith}
+use native.Mathlib.Decide.{ℕ-discrete}
+use native.Mathlib.Nat.{zero-mod}
 use native.Mathlib.Numerals.{add-one}
 use mathlib.Core.Path.{_≡_, refl, sym, ap, _∙_}
 use mathlib.Core.Bool.{Bool, true, false}
 use mathlib.Core.Option.{Option, none, some}
 use mathlib.Core.List.{List, [], _∷_}
 use lib.ListN.{length, drop, getD, drop-of-length-le}
+use lib.Dec.{lit<}
 use lib.Seq.{drop-cons}
 use mir.Val.{boolByte as bit}
-use Rattle.rules.specs.Letters.{add, addBase, addAll}
-use Rattle.rules.specs.Counted.{Try, give, _>>=_, next, after, refuse}
-use Rattle.rules.specs.Scan.{only, yesFrom, successors, u, sole, alternative, scanFrom}
-use Rattle.rules.proofs.Scan.{only-yes}
-use Rattle.kmer.specs.declared.Kmer.{Kmer}
-use Rattle.kmer.specs.Kmer.{IsKmer, Added}
+use Rattle.rules.specs.Letters.{Kmer, add, addBase, addAll, dropLast}
+use Rattle.rules.specs.Counted.{Counted, Try, give, _>>=_, next, after, refuse}
+use Rattle.rules.specs.Scan.{ask, only, yesFrom, successor, successors, fourCost, u, sole, alternative, scanFrom}
+use Rattle.rules.proofs.Kmer.{Known, add-unknown, ne-known}
+use Rattle.rules.proofs.Scan.{ask-known, ask-is, ask-none, only-yes, sole-lookups, sole-cost, four-cost, four-free, sole-four}
+use Rattle.rules.proofs.Scan.{sole-is as only-is}
+use Rattle.kmer.specs.declared.Kmer.{Kmer as KmerOf}
+use Rattle.kmer.specs.Kmer.{kmerOf, IsKmer, HasLetters}
+use Rattle.kmer.proofs.Laws.{code-is, unknown-is}
+use Rattle.set.specs.declared.Asked.{Asked}
+use Rattle.set.specs.Asked.{AskedIs}
 use Rattle.scan.specs.declared.Sole.{Sole}
 use Rattle.scan.specs.declared.Sole.the-variants.{Nuc, Refused}
 use Rattle.scan.specs.Scan.{nucOf}
 
 -- ---- bases added one by one
 
-module _ (k z : ℕ) (bs : List ℕ) (i : ℕ) where
-  pub add-next : {z′ : ℕ} → i < length bs → z′ ≡ addBase k z (getD bs i 0) → addAll k z (drop i bs) ≡ addAll k z′ (drop (i + 1) bs)
+module _ (k : ℕ) (z : Kmer) (bs : List ℕ) (i : ℕ) where
+  pub add-next : {z′ : Kmer} → i < length bs → z′ ≡ addBase k z (getD bs i 0) → addAll k z (drop i bs) ≡ addAll k z′ (drop (i + 1) bs)
   unfolding addAll
   add-next h e = rw (drop-cons bs i 0 h, add-one, e)
 
@@ -95,26 +103,34 @@ module _ (l : List Bool) where
       refused (suc zero) g = absurd (g refl)
       refused (suc (suc n)) g = refl
 
-module _ (k : ℕ) (sol : ℕ → Bool) (y : ℕ) where
-  abbrev soleBy : Option ℕ → Try ℕ
+module _ (k : ℕ) (sol : ℕ → Bool) (y : Kmer) where
+  abbrev soleBy : Option ℕ → Try Kmer
   unfolding after next give refuse add
-  soleBy o = after 4 (next o (λ a. give (add k y a)))
+  soleBy o = after (fourCost k sol y) (next o (λ a. give (add k y a)))
 
   sole-is : sole k sol y ≡ soleBy (only (yesFrom 0 (successors k sol y)))
   unfolding sole u give _>>=_ next after refuse
   sole-is = refl
 
-  pub alternative-is : alternative k sol y ≡ sole k sol (y / 4)
+  pub alternative-is : alternative k sol y ≡ sole k sol (dropLast y)
   unfolding alternative
   alternative-is = refl
 
-  pub sole-lookups : sole k sol y .lookups ≡ 4
-  unfolding soleBy next after refuse give
-  sole-lookups = ap (λ (t : Try ℕ). t .lookups) sole-is ∙ go (only (yesFrom 0 (successors k sol y)))
-    where
-      go : (o : Option ℕ) → soleBy o .lookups ≡ 4
-      go none = refl
-      go (some a) = refl
+  pub alternative-cost : alternative k sol y .lookups ≡ fourCost k sol (dropLast y)
+  unfolding alternative
+  alternative-cost = sole-lookups k sol (dropLast y)
+
+  pub alternative-at-most : alternative k sol y .lookups ≤ 4
+  unfolding alternative
+  alternative-at-most = sole-cost k sol (dropLast y)
+
+  -- a k-mer found solid has no unknown letter
+  pub sole-known : (z : Kmer) → sole k sol y .answer ≡ some z → Known z
+  sole-known z e = ask-known sol z (only-is k sol y z e .is-solid)
+
+  pub alternative-known : (z : Kmer) → alternative k sol y .answer ≡ some z → Known z
+  unfolding alternative
+  alternative-known z e = ask-known sol z (only-is k sol (dropLast y) z e .is-solid)
 
   -- the code's choice r among the answers f
   module _ {f : List Bool} (r : Sole) (found : f ≡ successors k sol y) (choice-is : nucOf r ≡ only (yesFrom 0 f)) where
@@ -123,35 +139,115 @@ module _ (k : ℕ) (sol : ℕ → Bool) (y : ℕ) where
 
     pub no-next : r ≡ Refused → sole k sol y .answer ≡ none
     unfolding soleBy next after refuse
-    no-next e = ap (λ (t : Try ℕ). t .answer) (sole-is ∙ ap soleBy (by ∙ ap nucOf e))
+    no-next e = ap (λ (t : Try Kmer). t .answer) (sole-is ∙ ap soleBy (by ∙ ap nucOf e))
 
     pub next-is : (a : ℕ) → r ≡ Nuc a → sole k sol y .answer ≡ some (add k y a)
     unfolding soleBy next after give
-    next-is a e = ap (λ (t : Try ℕ). t .answer) (sole-is ∙ ap soleBy (by ∙ ap nucOf e))
+    next-is a e = ap (λ (t : Try Kmer). t .answer) (sole-is ∙ ap soleBy (by ∙ ap nucOf e))
 
     -- y′ is y and that letter
-    pub next-kmer : (a : ℕ) {y′ : Kmer} → r ≡ Nuc a → Added k y a y′ → (sole k sol y .answer ≡ some (y′ .code)) × IsKmer k y′
-    next-kmer a e h = (next-is a e ∙ ap {B = Option ℕ} some (sym (h .is)), h .kmer)
+    pub next-kmer : (a : ℕ) {y′ : KmerOf} → r ≡ Nuc a → HasLetters k (add k y a) y′ → (sole k sol y .answer ≡ some (kmerOf y′)) × IsKmer k y′
+    next-kmer a e h = (next-is a e ∙ ap {B = Option Kmer} some (sym (h .is)), h .kmer)
 
     pub nuc-lt : (a : ℕ) → r ≡ Nuc a → a < 4
     unfolding successors
     nuc-lt a e = let w = only-yes 0 (successors k sol y) a (by ∙ ap nucOf e) in omega (arith, w .1, w .2 .inside)
 
+-- ---- unknown letters among the four
+
+-- The four have all letters but the last in common: what holds of y+A's unknown letters holds of the others'.
+module _ (k : ℕ) (y : Kmer) (low : 1 ≤ k) where
+  -- those of a k-mer without unknown letters hold none
+  pub known-asked : Known y → Known (add k y 0)
+  known-asked h = go k low
+    where
+      go : (n : ℕ) → 1 ≤ n → Known (add n y 0)
+      go zero n = absurd (omega arith)
+      go (suc j) n = add-unknown j y 0 (lit< tt) ∙ rw (h, zero-mod) (omega arith)
+
+  pub four-known : Known (add k y 0) → (a : ℕ) → a < 4 → Known (add k y a)
+  four-known h a l = go k low h
+    where
+      go : (n : ℕ) → 1 ≤ n → Known (add n y 0) → Known (add n y a)
+      go zero n h = absurd (omega arith)
+      go (suc j) n h = add-unknown j y a l ∙ sym (add-unknown j y 0 (lit< tt)) ∙ h
+
+  module _ (sol : ℕ → Bool) where
+    -- p answers the successor by a, which is the code's z
+    pub successor-is : (a : ℕ) {z : KmerOf} {p : Bool} → HasLetters k (add k y a) z → z .unknown ≡ 0 → p ≡ sol (z .code)
+        → p ≡ ask sol (add k y a) .answer
+    successor-is a h u e = e ∙ ap sol (code-is h) ∙ sym (ask-is sol (add k y a) (sym (unknown-is h) ∙ u))
+
+    -- the successors of a k-mer without unknown letters cost 4
+    pub known-four : Known y → sole k sol y .lookups ≡ 4
+    known-four h = go k low
+      where
+        go : (n : ℕ) → 1 ≤ n → sole n sol y .lookups ≡ 4
+        go zero n = absurd (omega arith)
+        go (suc j) n = sole-lookups (suc j) sol y ∙ four-cost j sol y (rw h (zero-mod _))
+
+    -- and so do the alternatives where there is a sole one
+    pub alternative-four : (z : Kmer) → alternative k sol y .answer ≡ some z → alternative k sol y .lookups ≡ 4
+    unfolding alternative
+    alternative-four z e = go k low e
+      where
+        go : (n : ℕ) → 1 ≤ n → sole n sol (dropLast y) .answer ≡ some z → sole n sol (dropLast y) .lookups ≡ 4
+        go zero n e = absurd (omega arith)
+        go (suc j) n e = sole-four j sol (dropLast y) z e
+
+    pub four-made : Known (add k y 0) → fourCost k sol y ≡ 4
+    four-made h = go k low h
+      where
+        go : (n : ℕ) → 1 ≤ n → Known (add n y 0) → fourCost n sol y ≡ 4
+        go zero n h = absurd (omega arith)
+        go (suc j) n h = four-cost j sol y (omega (arith, add-unknown j y 0 (lit< tt)))
+
+    pub none-made : (Known (add k y 0) → ⊥) → fourCost k sol y ≡ 0
+    none-made h = go k low h
+      where
+        go : (n : ℕ) → 1 ≤ n → (Known (add n y 0) → ⊥) → fourCost n sol y ≡ 0
+        go zero n h = absurd (omega arith)
+        go (suc j) n h = four-free j sol y (λ e. h (omega (arith, add-unknown j y 0 (lit< tt))))
+
+    pub four-no : (Known (add k y 0) → ⊥) → successors k sol y ≡ false ∷ false ∷ false ∷ false ∷ []
+    unfolding successors successor
+    four-no h = rw (no 0 (lit< tt), no 1 (lit< tt), no 2 (lit< tt), no 3 (lit< tt))
+      where
+        back : (n : ℕ) → 1 ≤ n → (a : ℕ) → a < 4 → Known (add n y a) → Known (add n y 0)
+        back zero n a l e = absurd (omega arith)
+        back (suc j) n a l e = add-unknown j y 0 (lit< tt) ∙ sym (add-unknown j y a l) ∙ e
+
+        no : (a : ℕ) → a < 4 → ask sol (add k y a) .answer ≡ false
+        no a l = ap (λ (t : Counted Bool). t .answer) (ask-none sol (add k y a) (ne-known (add k y a) (λ e. h (back k low a l e))))
+
+    -- what they cost tells whether they are asked
+    pub four-asked : (fourCost k sol y ≡ 0 → ⊥) → Known (add k y 0)
+    four-asked n = elim (ℕ-discrete (add k y 0 .unknown) 0) [ yes e ↦ e | no u ↦ absurd (n (none-made u)) ]
+
+    pub sole-none : fourCost k sol y ≡ 0 → sole k sol y .answer ≡ none
+    unfolding soleBy next after refuse only yesFrom
+    sole-none z =
+        let u : Known (add k y 0) → ⊥ = λ h. (let q = four-made h in omega arith) in
+        ap (λ (t : Try Kmer). t .answer) (sole-is k sol y ∙ ap (λ (l : List Bool). soleBy k sol y (only (yesFrom 0 l))) (four-no u))
+
 -- ---- the scan
 
--- at the base j of s: z′ is the next k-mer, p the lookup's answer
-module _ (k : ℕ) (sol : ℕ → Bool) (l j z : ℕ) (s : List ℕ) where
-  module _ {z′ : ℕ} {p : Bool} (h : j < length s) (z-is : z′ ≡ addBase k z (getD s j 0)) (p-is : p ≡ sol z′) where
-    asked : {t : Bool} → p ≡ t → sol (addBase k z (getD s j 0)) ≡ t
-    asked e = ap sol (sym z-is) ∙ sym p-is ∙ e
+-- at the base j of s: z′ is the next k-mer, r what it answered
+module _ (k : ℕ) (sol : ℕ → Bool) (l j : ℕ) (z : Kmer) (s : List ℕ) where
+  module _ {z′ : Kmer} {r : Asked} (h : j < length s) (z-is : z′ ≡ addBase k z (getD s j 0)) (asked : AskedIs (ask sol z′) r) where
+    answered : {t : Bool} → r .solid ≡ t → ask sol (addBase k z (getD s j 0)) .answer ≡ t
+    answered e = ap (λ (y : Kmer). ask sol y .answer) (sym z-is) ∙ sym (asked .solid) ∙ e
 
-    pub scan-found : p ≡ true → scanFrom k sol l j z (drop j s) ≡ record { index = j; end = z′; lookups = l + 1 }
-    unfolding scanFrom
-    scan-found e = rw (drop-cons s j 0 h, scanFrom, asked e, add-one, z-is)
+    cost : ask sol (addBase k z (getD s j 0)) .lookups ≡ r .lookups
+    cost = ap (λ (y : Kmer). ask sol y .lookups) (sym z-is) ∙ sym (asked .lookups)
 
-    pub scan-on : p ≡ false → scanFrom k sol l j z (drop j s) ≡ scanFrom k sol (l + 1) (j + 1) z′ (drop (j + 1) s)
+    pub scan-found : r .solid ≡ true → scanFrom k sol l j z (drop j s) ≡ record { index = j; end = z′; lookups = l + r .lookups }
     unfolding scanFrom
-    scan-on e = rw (drop-cons s j 0 h, scanFrom, asked e, add-one l, add-one j, z-is)
+    scan-found e = rw (drop-cons s j 0 h, scanFrom, answered e, cost, z-is)
+
+    pub scan-on : r .solid ≡ false → scanFrom k sol l j z (drop j s) ≡ scanFrom k sol (l + r .lookups) (j + 1) z′ (drop (j + 1) s)
+    unfolding scanFrom
+    scan-on e = rw (drop-cons s j 0 h, scanFrom, answered e, cost, add-one j, z-is)
 
   pub scan-end : length s ≤ j → scanFrom k sol l j z (drop j s) ≡ record { index = j; end = z; lookups = l }
   unfolding scanFrom

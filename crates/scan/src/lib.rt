@@ -1,14 +1,15 @@
-// Document 01, "Successors and scan": ports `next_nucs`, `alt_nucs` and `error_len` of src/correct/mod.rs, and declares what every
+// Document 01, "Successors and scan", and document 02, W5: ports `next_nucs`, `alt_nucs` and `error_len` of src/correct/mod.rs, and declares what every
 // corrector's `correct_error` answers.
 use kmer::Header;
 use kmer::Kmer;
 ghost use mathlib.Core.Path.{_≡_};
-ghost use Prim.Native.Nat.{_/_, _≤_};
+ghost use mathlib.Core.Bool.{Bool};
+ghost use Prim.Native.Nat.{ℕ, _≤_};
 ghost use lib.ListN.{length};
-ghost use Rattle.rules.specs.Letters.{addBase, addAll};
+ghost use Rattle.rules.specs.Letters.{add, addBase, addAll, dropLast};
 ghost use Rattle.rules.specs.Set.{solid, setOf};
 ghost use Rattle.rules.specs.Scan as rules;
-ghost use Rattle.kmer.specs.Kmer.{Shifts, IsKmer, HasCode};
+ghost use Rattle.kmer.specs.Kmer.{Shifts, kmerOf, IsKmer, HasLetters};
 ghost use Rattle.set.specs.Ready.{Ready};
 ghost use Rattle.scan.specs.Scan.{nucOf, NextIs, scanOf};
 
@@ -24,10 +25,10 @@ pub enum Next {
     Refused,
 }
 
-// Where a scan ends: the index reached, the code of the last k-mer T, and the lookups made.
+// Where a scan ends: the index reached, the last k-mer T, and the lookups made.
 pub struct Scan {
     pub index: usize,
-    pub end: u64,
+    pub end: Kmer,
     pub lookups: u64,
 }
 
@@ -41,14 +42,14 @@ pub enum Attempt {
 
 pub fn add_base(kmer: Kmer, base: u8, head: Header) -> Kmer
     requires { ⌜ Shifts head × IsKmer (head .k) kmer ⌝ }
-    ensures { λ r. ⌜ HasCode (head .k) (addBase (head .k) (kmer .code) base) r ⌝ }
+    ensures { λ r. ⌜ HasLetters (head .k) (addBase (head .k) (kmerOf kmer) base) r ⌝ }
 {
     kmer::add_nuc_to_end(kmer, kmer::nuc2bit(base), head)
 }
 
 pub fn add_all(kmer: Kmer, bases: &[u8], head: Header) -> Kmer
     requires { ⌜ Shifts head × IsKmer (head .k) kmer ⌝ }
-    ensures { λ r. ⌜ HasCode (head .k) (addAll (head .k) (kmer .code) (now (bases .entry))) r ⌝ }
+    ensures { λ r. ⌜ HasLetters (head .k) (addAll (head .k) (kmerOf kmer) (now (bases .entry))) r ⌝ }
 {
     let mut last = kmer;
     for i in 0..bases.len() {
@@ -57,9 +58,10 @@ pub fn add_all(kmer: Kmer, bases: &[u8], head: Header) -> Kmer
     last
 }
 
+// All letters of the k-mer but its first are known: the four have them in common.
 pub fn next_nucs(set: &[u8], starts: &[u32], head: Header, kmer: Kmer) -> [bool; 4]
-    requires { ⌜ Ready (now set) (now starts) head × IsKmer (head .k) kmer ⌝ }
-    ensures { λ r. ⌜ r ≡ rules.successors (head .k) (solid (setOf (now (set .entry)))) (kmer .code) ⌝ }
+    requires { ⌜ Ready (now set) (now starts) head × IsKmer (head .k) kmer × (add (head .k) (kmerOf kmer) 0 .unknown ≡ 0) ⌝ }
+    ensures { λ r. ⌜ r ≡ rules.successors (head .k) (solid (setOf (now (set .entry)))) (kmerOf kmer) ⌝ }
 {
     let a = set::get(set, starts, head, kmer::add_nuc_to_end(kmer, 0, head));
     let c = set::get(set, starts, head, kmer::add_nuc_to_end(kmer, 1, head));
@@ -68,9 +70,18 @@ pub fn next_nucs(set: &[u8], starts: &[u32], head: Header, kmer: Kmer) -> [bool;
     [a, c, t, g]
 }
 
+// What the four successors of a k-mer cost: 4 lookups if its last k − 1 letters are known, else none.
+pub fn next_cost(kmer: Kmer, head: Header) -> u64
+    requires { ⌜ Shifts head × IsKmer (head .k) kmer ⌝ }
+    ensures { λ r. ⌜ ((sol : ℕ → Bool) → r ≡ rules.fourCost (head .k) sol (kmerOf kmer)) ⌝ }
+{
+    let first = kmer::add_nuc_to_end(kmer, 0, head);
+    if first.unknown == 0 { 4 } else { 0 }
+}
+
 fn alt_nucs(set: &[u8], starts: &[u32], head: Header, kmer: Kmer) -> [bool; 4]
-    requires { ⌜ Ready (now set) (now starts) head × IsKmer (head .k) kmer ⌝ }
-    ensures { λ r. ⌜ r ≡ rules.successors (head .k) (solid (setOf (now (set .entry)))) (kmer .code / 4) ⌝ }
+    requires { ⌜ Ready (now set) (now starts) head × IsKmer (head .k) kmer × (add (head .k) (dropLast (kmerOf kmer)) 0 .unknown ≡ 0) ⌝ }
+    ensures { λ r. ⌜ r ≡ rules.successors (head .k) (solid (setOf (now (set .entry)))) (dropLast (kmerOf kmer)) ⌝ }
 {
     let shifted = kmer::drop_last(kmer, head);
     next_nucs(set, starts, head, shifted)
@@ -94,8 +105,12 @@ pub fn sole_nuc(nucs: [bool; 4]) -> Sole
 // y+u(y).
 pub fn sole_next(set: &[u8], starts: &[u32], head: Header, kmer: Kmer) -> Next
     requires { ⌜ Ready (now set) (now starts) head × IsKmer (head .k) kmer ⌝ }
-    ensures { λ r. ⌜ NextIs (head .k) (rules.sole (head .k) (solid (setOf (now (set .entry)))) (kmer .code) .answer) r ⌝ }
+    ensures { λ r. ⌜ NextIs (head .k) (rules.sole (head .k) (solid (setOf (now (set .entry)))) (kmerOf kmer) .answer) r ⌝ }
 {
+    // No lookup is made for k-mers that hold an unknown letter.
+    if next_cost(kmer, head) == 0 {
+        return Next::Refused;
+    }
     let Sole::Nuc(nuc) = sole_nuc(next_nucs(set, starts, head, kmer)) else {
         return Next::Refused;
     };
@@ -103,11 +118,23 @@ pub fn sole_next(set: &[u8], starts: &[u32], head: Header, kmer: Kmer) -> Next
     Next::Kmer(next)
 }
 
+// What the alternatives of the bad k-mer cost.
+pub fn alt_cost(kmer: Kmer, head: Header) -> u64
+    requires { ⌜ Shifts head × IsKmer (head .k) kmer ⌝ }
+    ensures { λ r. ⌜ ((sol : ℕ → Bool) → r ≡ rules.alternative (head .k) sol (kmerOf kmer) .lookups) ⌝ }
+{
+    let shifted = kmer::drop_last(kmer, head);
+    next_cost(shifted, head)
+}
+
 // The bad k-mer with its last letter replaced by the sole solid alternative.
 pub fn sole_alt(set: &[u8], starts: &[u32], head: Header, kmer: Kmer) -> Next
     requires { ⌜ Ready (now set) (now starts) head × IsKmer (head .k) kmer ⌝ }
-    ensures { λ r. ⌜ NextIs (head .k) (rules.alternative (head .k) (solid (setOf (now (set .entry)))) (kmer .code) .answer) r ⌝ }
+    ensures { λ r. ⌜ NextIs (head .k) (rules.alternative (head .k) (solid (setOf (now (set .entry)))) (kmerOf kmer) .answer) r ⌝ }
 {
+    if alt_cost(kmer, head) == 0 {
+        return Next::Refused;
+    }
     let Sole::Nuc(nuc) = sole_nuc(alt_nucs(set, starts, head, kmer)) else {
         return Next::Refused;
     };
@@ -118,18 +145,19 @@ pub fn sole_alt(set: &[u8], starts: &[u32], head: Header, kmer: Kmer) -> Next
 // s is the rest of the read at its bad base s0, kmer the bad k-mer: s1, s2, .. are added up to the first solid k-mer or the end.
 pub fn error_len(set: &[u8], starts: &[u32], head: Header, kmer: Kmer, s: &[u8]) -> Scan
     requires { ⌜ Ready (now set) (now starts) head × IsKmer (head .k) kmer × (1 ≤ length (now s)) ⌝ }
-    ensures { λ r. ⌜ scanOf r ≡ rules.errorLen (head .k) (solid (setOf (now (set .entry)))) (kmer .code) (now (s .entry)) ⌝ }
+    ensures { λ r. ⌜ scanOf r ≡ rules.errorLen (head .k) (solid (setOf (now (set .entry)))) (kmerOf kmer) (now (s .entry)) ⌝ }
 {
     let mut last = kmer;
     let mut lookups = 0;
     let mut j = 1;
     while j < s.len() {
         last = add_base(last, s[j], head);
-        lookups += 1;
-        if set::get(set, starts, head, last) {
+        let asked = set::ask(set, starts, head, last);
+        lookups += asked.lookups;
+        if asked.solid {
             return Scan {
                 index: j,
-                end: last.code,
+                end: last,
                 lookups,
             };
         }
@@ -137,7 +165,7 @@ pub fn error_len(set: &[u8], starts: &[u32], head: Header, kmer: Kmer, s: &[u8])
     }
     Scan {
         index: j,
-        end: last.code,
+        end: last,
         lookups,
     }
 }

@@ -1,16 +1,16 @@
 -- Scenarios by their numbers: a rule over a row, or over a range of numbers, is one test that antt computes.
-use Prim.Native.Nat.{ℕ, zero, suc, _+_, _≤_, _<_}
+use Prim.Native.Nat.{ℕ, zero, suc, _+_, _/_, _%_, _≤_, _<_}
 use native.Mathlib.Omega.{arith}
 use native.Mathlib.Nat.{eq-or-lt-of-le}
-use mathlib.Core.Path.{_≡_, refl, _∙_}
+use mathlib.Core.Path.{_≡_, refl, ap, _∙_}
 use mathlib.Core.Logic.{_⊎_, inl, inr}
 use mathlib.Core.Bool.{Bool, true, false, _&&_}
-use mathlib.Core.List.{List}
+use mathlib.Core.List.{List, [], _∷_, _++_}
 use lib.Dec.{T, eqb, leb, eqb→eq, leb→le}
-use Rattle.rules.specs.Letters.{last}
+use Rattle.rules.specs.Letters.{Kmer, letter, lastLetter, dropLast, last}
 use Rattle.rules.specs.Exist.{Scenario, two}
 use Rattle.scenario.specs.declared.Row.{Row}
-use Rattle.scenario.specs.Scenario.{nth, RowIs, lettersOf, LettersAre, Gives}
+use Rattle.scenario.specs.Scenario.{nth, RowIs, lettersOf, LettersAre, ofCode, Gives}
 
 left : (a b : Bool) → T (a && b) → T a
 left true b t = tt
@@ -37,17 +37,27 @@ row-right sc r t =
       resume-le = leb→le _ _ (right (leb (r .1) 4) _ t3);
     }
 
--- what a scenario gives, by its row
-pub gives : {sc : Scenario} {row : Row} (t code n : ℕ) → RowIs sc row → n ≤ 3 → last n code ≡ sc .letters t
-    → Gives sc t (record { code = code; letters = n; resume = row .2 })
-gives t code n q h e = record { is = λ i. record { letters = e i; resume = q .resume i }; small = record { letters-le = h; resume-le = q .resume-le } }
+-- the last letters of a k-mer depend on its code alone
+last-code : (n : ℕ) (y z : Kmer) → y .code ≡ z .code → last n y ≡ last n z
+unfolding last lastLetter dropLast
+last-code zero y z e = refl
+last-code (suc n) y z e =
+    ap (λ (ls : List ℕ). ls ++ (lastLetter y ∷ [])) (last-code n (dropLast y) (dropLast z) (ap (λ (c : ℕ). c / 4) e))
+    ∙ ap (λ (c : ℕ). last n (dropLast z) ++ (letter (c % 4) ∷ [])) e
 
-pub gives-one : {sc : Scenario} {row : Row} (x t n : ℕ) → RowIs sc row → LettersAre sc x t n → n ≡ 1
-    → Gives sc t (record { code = x; letters = n; resume = row .2 })
+-- what a scenario gives, by its row: the last n letters of y
+pub gives : {sc : Scenario} {row : Row} (t y : Kmer) (n : ℕ) → RowIs sc row → n ≤ 3 → last n y ≡ sc .letters t
+    → Gives sc t (record { code = y .code; letters = n; resume = row .2 })
+gives t y n q h e =
+    let l = last-code n (ofCode (y .code)) y refl ∙ e in
+    record { is = λ i. record { letters = l i; resume = q .resume i }; small = record { letters-le = h; resume-le = q .resume-le } }
+
+pub gives-one : {sc : Scenario} {row : Row} (x t : Kmer) (n : ℕ) → RowIs sc row → LettersAre sc x t n → n ≡ 1
+    → Gives sc t (record { code = x .code; letters = n; resume = row .2 })
 gives-one x t n q l e = gives t x n q (l .few) (rw e (rw e at (l .are)))
 
-pub gives-many : {sc : Scenario} {row : Row} (x t n : ℕ) → RowIs sc row → LettersAre sc x t n → (n ≡ 1 → ⊥)
-    → Gives sc t (record { code = t; letters = n; resume = row .2 })
+pub gives-many : {sc : Scenario} {row : Row} (x t : Kmer) (n : ℕ) → RowIs sc row → LettersAre sc x t n → (n ≡ 1 → ⊥)
+    → Gives sc t (record { code = t .code; letters = n; resume = row .2 })
 unfolding last
 gives-many x t n q l e = gives t t n q (l .few) (many n e ∙ l .are)
   where
@@ -80,8 +90,8 @@ range P lo (suc n) e i l h = go (range P (suc lo) n (e .1) i) (eq-or-lt-of-le l)
 
 -- the m scenarios of Two from lo on give n letters
 pub letters-in : (n lo m : ℕ) → n ≤ 3
-    → ((k : ℕ) (sol : ℕ → Bool) (x : ℕ) (s : List ℕ) (t : ℕ) → Each (λ i. lettersOf n x t ≡ nth (two k sol x s) i .letters t) lo m)
+    → ((k : ℕ) (sol : ℕ → Bool) (x : Kmer) (s : List ℕ) (t : Kmer) → Each (λ i. lettersOf n x t ≡ nth (two k sol x s) i .letters t) lo m)
     → (i : ℕ) → lo ≤ i → i < lo + m
-    → (k : ℕ) (sol : ℕ → Bool) (x : ℕ) (s : List ℕ) (t : ℕ) → LettersAre (nth (two k sol x s) i) x t n
+    → (k : ℕ) (sol : ℕ → Bool) (x : Kmer) (s : List ℕ) (t : Kmer) → LettersAre (nth (two k sol x s) i) x t n
 letters-in n lo m few each i l h k sol x s t =
     record { are = range (λ j. lettersOf n x t ≡ nth (two k sol x s) j .letters t) lo m (each k sol x s t) i l h; few = few }

@@ -1,22 +1,24 @@
 -- The trials of Two, and what their lookups answer.
 use Prim.Native.Nat.{ℕ, _+_, _≤_, _<_, zero-le}
 use native.Mathlib.Omega.{arith}
-use mathlib.Core.Path.{_≡_, refl, ap, _∙_, subst}
+use mathlib.Core.Path.{_≡_, refl, sym, ap, _∙_, subst}
 use mathlib.Core.Bool.{Bool, true, false}
 use mathlib.Core.Option.{Option, none, some}
 use mathlib.Core.List.{List}
 use lib.ListN.{length}
-use lib.Dec.{lit≤}
 use borrow.Author.Tests.{lt-ltb, le-ltb}
+use Rattle.rules.specs.Letters as letters
 use Rattle.rules.specs.Counted.{Try, refuse, give, after, next, _>>=_, _>>_}
-use Rattle.rules.specs.Scan.{isSolid, notSolid, sole}
+use Rattle.rules.specs.Scan.{ask, isSolid, notSolid, fourCost, sole}
 use Rattle.rules.specs.Exist.{Scenario, row, with, one, two}
+use Rattle.rules.proofs.Scan.{ask-known, ask-one, ask-cost, sole-lookups, sole-cost}
 use Rattle.kmer.specs.declared.Kmer.{Kmer as KmerOf}
-use Rattle.kmer.specs.Kmer.{IsKmer}
+use Rattle.kmer.specs.Kmer.{kmerOf, IsKmer}
+use Rattle.set.specs.declared.Asked.{Asked}
+use Rattle.set.specs.Asked.{AskedIs}
 use Rattle.scan.specs.declared.Next.{Next}
 use Rattle.scan.specs.declared.Next.the-variants.{Kmer, Refused}
 use Rattle.scan.specs.Scan.{NextIs}
-use Rattle.scan.proofs.Laws.{sole-lookups}
 use Rattle.scenario.specs.declared.Trial.{Trial}
 use Rattle.scenario.proofs.Numbers.{range}
 use Rattle.scenario.specs.Scenario.{nth, trialOf, plus, soleAfter, solidAfter, passingOf, insteadOf, insteadAfter, TrialIs}
@@ -29,26 +31,30 @@ pub trial-long : (s : List ℕ) (sc : Scenario) → sc .least ≤ length s → t
 unfolding trialOf
 trial-long s sc h = rw (le-ltb (length s) (sc .least) h, trialOf)
 
-pub trial-is : {k : ℕ} {t : Try ℕ} {o : Option ℕ} {l : ℕ} (n : Next) → t ≡ record { answer = o; lookups = l } → NextIs k o n → l ≤ 7
+pub trial-is : {k : ℕ} {t : Try letters.Kmer} {o : Option letters.Kmer} {l : ℕ} (n : Next) → t ≡ record { answer = o; lookups = l } → NextIs k o n → l ≤ 7
     → TrialIs k t (record { tried = n; lookups = l })
-trial-is {k} n e q h = record { tried = rw e q; lookups = ap (λ (t : Try ℕ). t .lookups) e; few = h }
+trial-is {k} n e q h = record { tried = rw e q; lookups = ap (λ (t : Try letters.Kmer). t .lookups) e; few = h }
 
 -- what a trial's result says of it
-pub trial-refused : (k : ℕ) (t : Try ℕ) (r : Trial) → TrialIs k t r → r .tried ≡ Refused → t ≡ record { answer = none; lookups = r .lookups }
+pub trial-refused : (k : ℕ) (t : Try letters.Kmer) (r : Trial) → TrialIs k t r → r .tried ≡ Refused → t ≡ record { answer = none; lookups = r .lookups }
 trial-refused k t r q e = let a = subst (NextIs k (t .answer)) e (q .tried) in λ i. record { answer = a i; lookups = q .lookups i }
 
-pub trial-given : (k : ℕ) (t : Try ℕ) (r : Trial) (y : KmerOf) → TrialIs k t r → r .tried ≡ Kmer y
-    → (t ≡ record { answer = some (y .code); lookups = r .lookups }) × IsKmer k y
+pub trial-given : (k : ℕ) (t : Try letters.Kmer) (r : Trial) (y : KmerOf) → TrialIs k t r → r .tried ≡ Kmer y
+    → (t ≡ record { answer = some (kmerOf y); lookups = r .lookups }) × IsKmer k y
 trial-given k t r y q e =
     let a = subst (NextIs k (t .answer)) e (q .tried) in
     (λ i. record { answer = a .0 i; lookups = q .lookups i }, a .1)
 
-pub sole-is : (k : ℕ) (sol : ℕ → Bool) (y : ℕ) (n : Next) → NextIs k (sole k sol y .answer) n
-    → TrialIs k (sole k sol y) (record { tried = n; lookups = 4 })
-sole-is k sol y n q = record { tried = q; lookups = sole-lookups k sol y; few = lit≤ tt }
+-- what a group of four costs
+pub four-le : (k : ℕ) (sol : ℕ → Bool) (y : letters.Kmer) {l : ℕ} → l ≡ fourCost k sol y → l ≤ 4
+four-le k sol y e = omega (arith, sole-lookups k sol y, sole-cost k sol y)
+
+pub sole-is : (k : ℕ) (sol : ℕ → Bool) (y : letters.Kmer) (n : Next) {l : ℕ} → NextIs k (sole k sol y .answer) n → l ≡ fourCost k sol y
+    → TrialIs k (sole k sol y) (record { tried = n; lookups = l })
+sole-is k sol y n q e = record { tried = q; lookups = sole-lookups k sol y ∙ sym e; few = omega (arith, four-le k sol y e) }
 
 -- One's trials all give x
-pub one-trial : (k : ℕ) (sol : ℕ → Bool) (x : ℕ) (s : List ℕ) (n : ℕ) → n < 3 → trialOf s (nth (one k sol x s) n) ≡ give x
+pub one-trial : (k : ℕ) (sol : ℕ → Bool) (x : letters.Kmer) (s : List ℕ) (n : ℕ) → n < 3 → trialOf s (nth (one k sol x s) n) ≡ give x
 unfolding nth one row
 one-trial k sol x s n h =
     let P : ℕ → Type 0 = λ i. trialOf s (nth (one k sol x s) i) ≡ give x in
@@ -56,22 +62,34 @@ one-trial k sol x s n h =
 
 -- ---- lookups, and what goes on after them
 
-module _ (k : ℕ) (sol : ℕ → Bool) where
-  pub solid-yes : (y : ℕ) → sol y ≡ true → isSolid k sol y ≡ record { answer = some y; lookups = 1 }
-  unfolding isSolid
-  solid-yes y e = rw (e, isSolid)
+-- y asked, and asked-is by r
+module _ (sol : ℕ → Bool) (y : letters.Kmer) {r : Asked} (asked : AskedIs (ask sol y) r) where
+  pub asked-is : {t : Bool} → r .solid ≡ t → ask sol y .answer ≡ t
+  asked-is e = sym (asked .solid) ∙ e
 
-  pub solid-no : (y : ℕ) → sol y ≡ false → isSolid k sol y ≡ record { answer = none; lookups = 1 }
-  unfolding isSolid
-  solid-no y e = rw (e, isSolid)
+  pub asked-le : r .lookups ≤ 1
+  asked-le = rw (asked .lookups) (ask-cost sol y)
 
-  not-yes : (y : ℕ) → sol y ≡ true → notSolid k sol y ≡ record { answer = none; lookups = 1 }
-  unfolding notSolid
-  not-yes y e = rw (e, notSolid)
+  -- a solid k-mer has no unknown letter, so it was looked up
+  pub solid-one : r .solid ≡ true → r .lookups ≡ 1
+  solid-one e = asked .lookups ∙ ask-one sol y (ask-known sol y (asked-is e))
 
-  not-no : (y : ℕ) → sol y ≡ false → notSolid k sol y ≡ record { answer = some y; lookups = 1 }
-  unfolding notSolid
-  not-no y e = rw (e, notSolid)
+  module _ (k : ℕ) where
+    pub solid-yes : r .solid ≡ true → isSolid k sol y ≡ record { answer = some y; lookups = r .lookups }
+    unfolding isSolid
+    solid-yes e = rw (asked-is e, isSolid, asked .lookups)
+
+    pub solid-no : r .solid ≡ false → isSolid k sol y ≡ record { answer = none; lookups = r .lookups }
+    unfolding isSolid
+    solid-no e = rw (asked-is e, isSolid, asked .lookups)
+
+    not-yes : r .solid ≡ true → notSolid k sol y ≡ record { answer = none; lookups = r .lookups }
+    unfolding notSolid
+    not-yes e = rw (asked-is e, notSolid, asked .lookups)
+
+    not-no : r .solid ≡ false → notSolid k sol y ≡ record { answer = some y; lookups = r .lookups }
+    unfolding notSolid
+    not-no e = rw (asked-is e, notSolid, asked .lookups)
 
 -- m refuses, or answers a, after l lookups
 pub refused-bind : {A B : Type 0} {m : Try A} {l : ℕ} (f : A → Try B) → m ≡ record { answer = none; lookups = l }
@@ -91,39 +109,46 @@ pub given-then : {A B : Type 0} {m : Try A} {a : A} {l : ℕ} (n : Try B) → m 
 unfolding _>>_
 given-then n e = given-bind (λ a. n) e
 
-module _ (k : ℕ) (sol : ℕ → Bool) (x : ℕ) (s : List ℕ) where
-  -- ---- SS, ICS
-
-  pub instead-refused : sol (plus k x s 1) ≡ true → insteadOf k sol x s ≡ record { answer = none; lookups = 1 }
-  unfolding insteadOf
-  instead-refused e = refused-then (sole k sol x) (not-yes k sol _ e)
-
-  pub instead-on : sol (plus k x s 1) ≡ false → insteadOf k sol x s ≡ record { answer = sole k sol x .answer; lookups = 5 }
-  unfolding insteadOf after
-  instead-on e = given-then (sole k sol x) (not-no k sol _ e) ∙ (λ i. record { answer = sole k sol x .answer; lookups = 1 + sole-lookups k sol x i })
-
-  -- ---- SCS
-
-  abbrev y : ℕ
+module _ (k : ℕ) (sol : ℕ → Bool) (x : letters.Kmer) (s : List ℕ) where
+  abbrev y : letters.Kmer
   y = plus k x s 1
 
-  pub after-refused : sol y ≡ false → insteadAfter k sol x s ≡ record { answer = none; lookups = 1 }
-  unfolding insteadAfter
-  after-refused e = refused-then (sole k sol y) (refused-then (notSolid k sol (plus k y s 2)) (solid-no k sol y e))
+  -- ---- SS, ICS
 
-  pub after-solid : sol y ≡ true → sol (plus k y s 2) ≡ true → insteadAfter k sol x s ≡ record { answer = none; lookups = 2 }
-  unfolding insteadAfter after
-  after-solid e f = refused-then (sole k sol y) (given-then (notSolid k sol (plus k y s 2)) (solid-yes k sol y e) ∙ rw (not-yes k sol _ f) refl)
+  module _ {r : Asked} (asked : AskedIs (ask sol y) r) where
+    pub instead-refused : r .solid ≡ true → insteadOf k sol x s ≡ record { answer = none; lookups = r .lookups }
+    unfolding insteadOf
+    instead-refused e = refused-then (sole k sol x) (not-yes sol y asked k e)
 
-  pub after-on : sol y ≡ true → sol (plus k y s 2) ≡ false → insteadAfter k sol x s ≡ record { answer = sole k sol y .answer; lookups = 6 }
-  unfolding insteadAfter after
-  after-on e f =
-      given-then {a = plus k y s 2} (sole k sol y) (given-then (notSolid k sol (plus k y s 2)) (solid-yes k sol y e) ∙ rw (not-no k sol _ f) refl)
-      ∙ (λ i. record { answer = sole k sol y .answer; lookups = 2 + sole-lookups k sol y i })
+    pub instead-on : {l : ℕ} → r .solid ≡ false → l ≡ fourCost k sol x → insteadOf k sol x s ≡ record { answer = sole k sol x .answer; lookups = r .lookups + l }
+    unfolding insteadOf after
+    instead-on e f =
+        let c = sole-lookups k sol x ∙ sym f in
+        given-then (sole k sol x) (not-no sol y asked k e) ∙ (λ i. record { answer = sole k sol x .answer; lookups = r .lookups + c i })
+
+    -- ---- SCS
+
+    pub after-refused : r .solid ≡ false → insteadAfter k sol x s ≡ record { answer = none; lookups = r .lookups }
+    unfolding insteadAfter
+    after-refused e = refused-then (sole k sol y) (refused-then (notSolid k sol (plus k y s 2)) (solid-no sol y asked k e))
+
+    module _ {r′ : Asked} (asked′ : AskedIs (ask sol (plus k y s 2)) r′) (e : r .solid ≡ true) where
+      pub after-solid : r′ .solid ≡ true → insteadAfter k sol x s ≡ record { answer = none; lookups = r .lookups + r′ .lookups }
+      unfolding insteadAfter after
+      after-solid f =
+          refused-then (sole k sol y) (given-then (notSolid k sol (plus k y s 2)) (solid-yes sol y asked k e) ∙ rw (not-yes sol (plus k y s 2) asked′ k f) refl)
+
+      pub after-on : {l : ℕ} → r′ .solid ≡ false → l ≡ fourCost k sol y
+          → insteadAfter k sol x s ≡ record { answer = sole k sol y .answer; lookups = r .lookups + r′ .lookups + l }
+      unfolding insteadAfter after
+      after-on f g =
+          let c = sole-lookups k sol y ∙ sym g in
+          given-then {a = plus k y s 2} (sole k sol y) (given-then (notSolid k sol (plus k y s 2)) (solid-yes sol y asked k e) ∙ rw (not-no sol (plus k y s 2) asked′ k f) refl)
+          ∙ (λ i. record { answer = sole k sol y .answer; lookups = r .lookups + r′ .lookups + c i })
 
   -- ---- the trials by number
 
-  abbrev trial : ℕ → Try ℕ
+  abbrev trial : ℕ → Try letters.Kmer
   trial n = nth (two k sol x s) n .trial
 
   pub trial-x : (n : ℕ) → n < 2 → trial n ≡ give x

@@ -5,7 +5,7 @@ use mathlib.Core.Bool.{Bool, true, false}
 use mathlib.Core.List.{List, []}
 use lib.ListN.{length, getD}
 use lib.Dec.{ltb}
-use Rattle.rules.specs.Letters.{addBase, last}
+use Rattle.rules.specs.Letters.{Kmer, addBase, last}
 use Rattle.rules.specs.Counted.{Try, refuse, give, _>>_}
 use Rattle.rules.specs.Scan.{isSolid, notSolid, sole}
 use Rattle.rules.specs.Exist.{Scenario, one, two}
@@ -23,7 +23,7 @@ numberOf false = 3
 numberOf true = 13
 
 -- The scenarios of Two (true) or One (false), in source order.
-abbrev pub scenarios : Bool → ℕ → (ℕ → Bool) → ℕ → List ℕ → List Scenario
+abbrev pub scenarios : Bool → ℕ → (ℕ → Bool) → Kmer → List ℕ → List Scenario
 scenarios false k sol = one k sol
 scenarios true k sol = two k sol
 
@@ -42,36 +42,36 @@ pub record RowIs (sc : Scenario) (r : Row) : Type 0 where
 -- ---- trials
 
 -- A scenario's trial: refused below its least length without lookups.
-unfoldable pub trialOf : List ℕ → Scenario → Try ℕ
+unfoldable pub trialOf : List ℕ → Scenario → Try Kmer
 trialOf s sc = elim (ltb (length s) (sc .least)) [ true ↦ refuse | false ↦ sc .trial ]
 
 -- y+si
-abbrev pub plus : ℕ → ℕ → List ℕ → ℕ → ℕ
+abbrev pub plus : ℕ → Kmer → List ℕ → ℕ → Kmer
 plus k y s i = addBase k y (getD s i 0)
 
 -- SCI, DCI: x+s1+s3.
-unfoldable pub passingOf : ℕ → ℕ → List ℕ → Try ℕ
+unfoldable pub passingOf : ℕ → Kmer → List ℕ → Try Kmer
 passingOf k x s = give (plus k (plus k x s 1) s 3)
 
-module _ (k : ℕ) (sol : ℕ → Bool) (x : ℕ) (s : List ℕ) where
+module _ (k : ℕ) (sol : ℕ → Bool) (x : Kmer) (s : List ℕ) where
   -- ICD, SCD, DCD: y = x+si, y+u(y).
-  unfoldable pub soleAfter : ℕ → Try ℕ
+  unfoldable pub soleAfter : ℕ → Try Kmer
   soleAfter i = sole k sol (plus k x s i)
 
   -- ICI: x+s3, solid.
-  unfoldable pub solidAfter : Try ℕ
+  unfoldable pub solidAfter : Try Kmer
   solidAfter = isSolid k sol (plus k x s 3)
 
   -- SS, ICS: x+s1 not solid, x+u(x).
-  unfoldable pub insteadOf : Try ℕ
+  unfoldable pub insteadOf : Try Kmer
   insteadOf = notSolid k sol (plus k x s 1) >> sole k sol x
 
   -- SCS: y = x+s1 solid, y+s2 not, y+u(y).
-  unfoldable pub insteadAfter : Try ℕ
+  unfoldable pub insteadAfter : Try Kmer
   insteadAfter = isSolid k sol (plus k x s 1) >> notSolid k sol (plus k (plus k x s 1) s 2) >> sole k sol (plus k x s 1)
 
 -- The tried k-mer or a refusal, after the lookups made.
-pub record TrialIs (k : ℕ) (t : Try ℕ) (r : Trial) : Type 0 where
+pub record TrialIs (k : ℕ) (t : Try Kmer) (r : Trial) : Type 0 where
   pub tried : NextIs k (t .answer) (r .tried)
   pub lookups : t .lookups ≡ r .lookups
   pub few : r .lookups ≤ 7
@@ -79,19 +79,23 @@ pub record TrialIs (k : ℕ) (t : Try ℕ) (r : Trial) : Type 0 where
 -- ---- what is given
 
 -- The n letters that a scenario gives: a single one is the last of x, more are the last of the tried k-mer t.
-abbrev pub lettersOf : ℕ → ℕ → ℕ → List ℕ
+abbrev pub lettersOf : ℕ → Kmer → Kmer → List ℕ
 lettersOf zero x t = []
 lettersOf (suc zero) x t = last 1 x
 lettersOf (suc (suc n)) x t = last (suc (suc n)) t
 
 -- A scenario gives n letters.
-pub record LettersAre (sc : Scenario) (x t n : ℕ) : Type 0 where
+pub record LettersAre (sc : Scenario) (x t : Kmer) (n : ℕ) : Type 0 where
   pub are : lettersOf n x t ≡ sc .letters t
   pub few : n ≤ 3
 
--- A mend by the rules: its letters spelled out.
+-- The k-mer of a code, all its letters known.
+abbrev pub ofCode : ℕ → Kmer
+ofCode code = record { code = code; unknown = 0 }
+
+-- A mend by the rules: its letters spelled out. A k-mer's last letters depend on its code alone (the law `last-code`).
 abbrev pub spelledOut : Mend → rules.Mend
-spelledOut m = record { letters = last (m .letters) (m .code); resume = m .resume }
+spelledOut m = record { letters = last (m .letters) (ofCode (m .code)); resume = m .resume }
 
 -- At most 3 letters, and a resume of at most 4.
 pub record Small (m : Mend) : Type 0 where
@@ -99,6 +103,6 @@ pub record Small (m : Mend) : Type 0 where
   pub resume-le : m .resume ≤ 4
 
 -- What a scenario gives where t is its tried k-mer.
-pub record Gives (sc : Scenario) (t : ℕ) (m : Mend) : Type 0 where
+pub record Gives (sc : Scenario) (t : Kmer) (m : Mend) : Type 0 where
   pub is : spelledOut m ≡ record { letters = sc .letters t; resume = sc .r }
   pub small : Small m

@@ -10,8 +10,9 @@ ghost use mathlib.Core.Bool.{Bool};
 ghost use mathlib.Core.List.{List};
 ghost use mathlib.Core.Path.{_≡_};
 ghost use Prim.Native.Nat.{ℕ, _≤_, _<_};
+ghost use Rattle.rules.specs.Letters as letters;
 ghost use Rattle.rules.specs.Set.{solid, setOf};
-ghost use Rattle.kmer.specs.Kmer.{IsKmer};
+ghost use Rattle.kmer.specs.Kmer.{kmerOf, IsKmer};
 ghost use Rattle.set.specs.Ready.{Ready};
 ghost use Rattle.scenario.specs.Scenario.{numberOf, scenarios, nth, trialOf, TrialIs, Gives};
 
@@ -39,7 +40,7 @@ pub fn number_of(two: bool) -> usize
 
 pub fn check_start(two: bool, number: usize) -> usize
     requires { ⌜ number < numberOf two ⌝ }
-    ensures { λ r. ⌜ ((k : ℕ) (sol : ℕ → Bool) (x : ℕ) (s : List ℕ) → r ≡ nth (scenarios two k sol x s) number .o) × (r ≤ 4) ⌝ }
+    ensures { λ r. ⌜ ((k : ℕ) (sol : ℕ → Bool) (x : letters.Kmer) (s : List ℕ) → r ≡ nth (scenarios two k sol x s) number .o) × (r ≤ 4) ⌝ }
 {
     if two {
         two::row_of(number).1
@@ -58,7 +59,7 @@ pub fn apply(
     s: &[u8],
 ) -> Trial
     requires { ⌜ Ready (now set) (now starts) head × IsKmer (head .k) x × (number < numberOf two) ⌝ }
-    ensures { λ r. ⌜ TrialIs (head .k) (trialOf (now (s .entry)) (nth (scenarios two (head .k) (solid (setOf (now (set .entry)))) (x .code) (now (s .entry))) number)) r ⌝ }
+    ensures { λ r. ⌜ TrialIs (head .k) (trialOf (now (s .entry)) (nth (scenarios two (head .k) (solid (setOf (now (set .entry)))) (kmerOf x) (now (s .entry))) number)) r ⌝ }
 {
     if two {
         two::apply(set, starts, head, number, x, s)
@@ -70,9 +71,9 @@ pub fn apply(
     }
 }
 
-pub fn correct(two: bool, number: usize, x: u64, tried: u64) -> Mend
+pub fn correct(two: bool, number: usize, x: Kmer, tried: Kmer) -> Mend
     requires { ⌜ number < numberOf two ⌝ }
-    ensures { λ r. ⌜ ((k : ℕ) (sol : ℕ → Bool) (s : List ℕ) → Gives (nth (scenarios two k sol x s) number) tried r) ⌝ }
+    ensures { λ r. ⌜ ((k : ℕ) (sol : ℕ → Bool) (s : List ℕ) → Gives (nth (scenarios two k sol (kmerOf x) s) number) (kmerOf tried) r) ⌝ }
 {
     if two {
         two::correct(number, x, tried)

@@ -1,4 +1,5 @@
-// Document 01, Two: II, IS, SS, SD, DD, ICI, ICS, ICD, SCI, SCS, SCD, DCI, DCD. Ports src/correct/exist/two.rs.
+// Document 01, Two: II, IS, SS, SD, DD, ICI, ICS, ICD, SCI, SCS, SCD, DCI, DCD. Ports src/correct/exist/two.rs. A trial counts the lookups
+// that were made: none for a k-mer that holds an unknown letter (document 02, W5).
 use super::Mend;
 use super::Row;
 use super::Trial;
@@ -9,16 +10,17 @@ ghost use mathlib.Core.Bool.{Bool};
 ghost use mathlib.Core.List.{List};
 ghost use Prim.Native.Nat.{ℕ, _<_};
 ghost use lib.ListN.{length};
+ghost use Rattle.rules.specs.Letters as letters;
 ghost use Rattle.rules.specs.Set.{solid, setOf};
 ghost use Rattle.rules.specs.Scan;
 ghost use Rattle.rules.specs.Exist as rules;
-ghost use Rattle.kmer.specs.Kmer.{Shifts, IsKmer, HasCode};
+ghost use Rattle.kmer.specs.Kmer.{Shifts, kmerOf, IsKmer, HasLetters};
 ghost use Rattle.set.specs.Ready.{Ready};
 ghost use Rattle.scenario.specs.Scenario.{nth, RowIs, trialOf, plus, soleAfter, solidAfter, passingOf, insteadOf, insteadAfter, TrialIs, LettersAre, Gives};
 
 pub fn row_of(number: usize) -> Row
     requires { ⌜ number < 13 ⌝ }
-    ensures { λ r. ⌜ ((k : ℕ) (sol : ℕ → Bool) (x : ℕ) (s : List ℕ) → RowIs (nth (rules.two k sol x s) number) r) ⌝ }
+    ensures { λ r. ⌜ ((k : ℕ) (sol : ℕ → Bool) (x : letters.Kmer) (s : List ℕ) → RowIs (nth (rules.two k sol x s) number) r) ⌝ }
 {
     match number {
         0 => Row(0, 3, 2), // II
@@ -40,7 +42,7 @@ pub fn row_of(number: usize) -> Row
 // How many letters are given.
 fn letters(number: usize) -> usize
     requires { ⌜ number < 13 ⌝ }
-    ensures { λ r. ⌜ ((k : ℕ) (sol : ℕ → Bool) (x : ℕ) (s : List ℕ) (t : ℕ) → LettersAre (nth (rules.two k sol x s) number) x t r) ⌝ }
+    ensures { λ r. ⌜ ((k : ℕ) (sol : ℕ → Bool) (x : letters.Kmer) (s : List ℕ) (t : letters.Kmer) → LettersAre (nth (rules.two k sol x s) number) x t r) ⌝ }
 {
     match number {
         0..=1 => 1,
@@ -54,21 +56,21 @@ fn letters(number: usize) -> usize
 }
 
 // A single letter is x's last; more are the tried k-mer's.
-pub fn correct(number: usize, x: u64, tried: u64) -> Mend
+pub fn correct(number: usize, x: Kmer, tried: Kmer) -> Mend
     requires { ⌜ number < 13 ⌝ }
-    ensures { λ r. ⌜ ((k : ℕ) (sol : ℕ → Bool) (s : List ℕ) → Gives (nth (rules.two k sol x s) number) tried r) ⌝ }
+    ensures { λ r. ⌜ ((k : ℕ) (sol : ℕ → Bool) (s : List ℕ) → Gives (nth (rules.two k sol (kmerOf x) s) number) (kmerOf tried) r) ⌝ }
 {
     let letters = letters(number);
     let resume = row_of(number).2;
     if letters == 1 {
         Mend {
-            code: x,
+            code: x.code,
             letters,
             resume,
         }
     } else {
         Mend {
-            code: tried,
+            code: tried.code,
             letters,
             resume,
         }
@@ -78,7 +80,7 @@ pub fn correct(number: usize, x: u64, tried: u64) -> Mend
 // y+si
 fn with(kmer: Kmer, s: &[u8], i: usize, head: Header) -> Kmer
     requires { ⌜ Shifts head × IsKmer (head .k) kmer × (i < length (now s)) ⌝ }
-    ensures { λ r. ⌜ HasCode (head .k) (plus (head .k) (kmer .code) (now (s .entry)) i) r ⌝ }
+    ensures { λ r. ⌜ HasLetters (head .k) (plus (head .k) (kmerOf kmer) (now (s .entry)) i) r ⌝ }
 {
     scan::add_base(kmer, s[i], head)
 }
@@ -86,18 +88,18 @@ fn with(kmer: Kmer, s: &[u8], i: usize, head: Header) -> Kmer
 // x+u(x)
 fn sole(set: &[u8], starts: &[u32], head: Header, x: Kmer) -> Trial
     requires { ⌜ Ready (now set) (now starts) head × IsKmer (head .k) x ⌝ }
-    ensures { λ r. ⌜ TrialIs (head .k) (Scan.sole (head .k) (solid (setOf (now (set .entry)))) (x .code)) r ⌝ }
+    ensures { λ r. ⌜ TrialIs (head .k) (Scan.sole (head .k) (solid (setOf (now (set .entry)))) (kmerOf x)) r ⌝ }
 {
     Trial {
         tried: scan::sole_next(set, starts, head, x),
-        lookups: 4,
+        lookups: scan::next_cost(x, head),
     }
 }
 
 // y = x+si, y+u(y)
 fn sole_after(set: &[u8], starts: &[u32], head: Header, x: Kmer, s: &[u8], i: usize) -> Trial
     requires { ⌜ Ready (now set) (now starts) head × IsKmer (head .k) x × (i < length (now s)) ⌝ }
-    ensures { λ r. ⌜ TrialIs (head .k) (soleAfter (head .k) (solid (setOf (now (set .entry)))) (x .code) (now (s .entry)) i) r ⌝ }
+    ensures { λ r. ⌜ TrialIs (head .k) (soleAfter (head .k) (solid (setOf (now (set .entry)))) (kmerOf x) (now (s .entry)) i) r ⌝ }
 {
     sole(set, starts, head, with(x, s, i, head))
 }
@@ -105,18 +107,19 @@ fn sole_after(set: &[u8], starts: &[u32], head: Header, x: Kmer, s: &[u8], i: us
 // x+s3, solid
 fn solid_after(set: &[u8], starts: &[u32], head: Header, x: Kmer, s: &[u8]) -> Trial
     requires { ⌜ Ready (now set) (now starts) head × IsKmer (head .k) x × (3 < length (now s)) ⌝ }
-    ensures { λ r. ⌜ TrialIs (head .k) (solidAfter (head .k) (solid (setOf (now (set .entry)))) (x .code) (now (s .entry))) r ⌝ }
+    ensures { λ r. ⌜ TrialIs (head .k) (solidAfter (head .k) (solid (setOf (now (set .entry)))) (kmerOf x) (now (s .entry))) r ⌝ }
 {
     let kmer = with(x, s, 3, head);
-    if set::get(set, starts, head, kmer) {
+    let asked = set::ask(set, starts, head, kmer);
+    if asked.solid {
         Trial {
             tried: Next::Kmer(kmer),
-            lookups: 1,
+            lookups: asked.lookups,
         }
     } else {
         Trial {
             tried: Next::Refused,
-            lookups: 1,
+            lookups: asked.lookups,
         }
     }
 }
@@ -124,7 +127,7 @@ fn solid_after(set: &[u8], starts: &[u32], head: Header, x: Kmer, s: &[u8]) -> T
 // x+s1+s3
 fn passing(head: Header, x: Kmer, s: &[u8]) -> Trial
     requires { ⌜ Shifts head × IsKmer (head .k) x × (3 < length (now s)) ⌝ }
-    ensures { λ r. ⌜ TrialIs (head .k) (passingOf (head .k) (x .code) (now (s .entry))) r ⌝ }
+    ensures { λ r. ⌜ TrialIs (head .k) (passingOf (head .k) (kmerOf x) (now (s .entry))) r ⌝ }
 {
     Trial {
         tried: Next::Kmer(with(with(x, s, 1, head), s, 3, head)),
@@ -135,47 +138,55 @@ fn passing(head: Header, x: Kmer, s: &[u8]) -> Trial
 // x+s1 not solid, x+u(x)
 fn instead(set: &[u8], starts: &[u32], head: Header, x: Kmer, s: &[u8]) -> Trial
     requires { ⌜ Ready (now set) (now starts) head × IsKmer (head .k) x × (1 < length (now s)) ⌝ }
-    ensures { λ r. ⌜ TrialIs (head .k) (insteadOf (head .k) (solid (setOf (now (set .entry)))) (x .code) (now (s .entry))) r ⌝ }
+    ensures { λ r. ⌜ TrialIs (head .k) (insteadOf (head .k) (solid (setOf (now (set .entry)))) (kmerOf x) (now (s .entry))) r ⌝ }
 {
-    if set::get(set, starts, head, with(x, s, 1, head)) {
+    let asked = set::ask(set, starts, head, with(x, s, 1, head));
+    let mut lookups = asked.lookups;
+    if asked.solid {
         return Trial {
             tried: Next::Refused,
-            lookups: 1,
+            lookups,
         };
     }
+    lookups += scan::next_cost(x, head);
     Trial {
         tried: scan::sole_next(set, starts, head, x),
-        lookups: 5,
+        lookups,
     }
 }
 
 // y = x+s1 solid, y+s2 not, y+u(y)
 fn instead_after(set: &[u8], starts: &[u32], head: Header, x: Kmer, s: &[u8]) -> Trial
     requires { ⌜ Ready (now set) (now starts) head × IsKmer (head .k) x × (2 < length (now s)) ⌝ }
-    ensures { λ r. ⌜ TrialIs (head .k) (insteadAfter (head .k) (solid (setOf (now (set .entry)))) (x .code) (now (s .entry))) r ⌝ }
+    ensures { λ r. ⌜ TrialIs (head .k) (insteadAfter (head .k) (solid (setOf (now (set .entry)))) (kmerOf x) (now (s .entry))) r ⌝ }
 {
     let y = with(x, s, 1, head);
-    if !set::get(set, starts, head, y) {
+    let first = set::ask(set, starts, head, y);
+    let mut lookups = first.lookups;
+    if !first.solid {
         return Trial {
             tried: Next::Refused,
-            lookups: 1,
+            lookups,
         };
     }
-    if set::get(set, starts, head, with(y, s, 2, head)) {
+    let second = set::ask(set, starts, head, with(y, s, 2, head));
+    lookups += second.lookups;
+    if second.solid {
         return Trial {
             tried: Next::Refused,
-            lookups: 2,
+            lookups,
         };
     }
+    lookups += scan::next_cost(y, head);
     Trial {
         tried: scan::sole_next(set, starts, head, y),
-        lookups: 6,
+        lookups,
     }
 }
 
 pub fn apply(set: &[u8], starts: &[u32], head: Header, number: usize, x: Kmer, s: &[u8]) -> Trial
     requires { ⌜ Ready (now set) (now starts) head × IsKmer (head .k) x × (number < 13) ⌝ }
-    ensures { λ r. ⌜ TrialIs (head .k) (trialOf (now (s .entry)) (nth (rules.two (head .k) (solid (setOf (now (set .entry)))) (x .code) (now (s .entry))) number)) r ⌝ }
+    ensures { λ r. ⌜ TrialIs (head .k) (trialOf (now (s .entry)) (nth (rules.two (head .k) (solid (setOf (now (set .entry)))) (kmerOf x) (now (s .entry))) number)) r ⌝ }
 {
     if s.len() < row_of(number).0 {
         return Trial {

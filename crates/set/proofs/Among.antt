@@ -8,7 +8,8 @@ use mathlib.Core.Logic.{_⊎_, inl, inr}
 use mathlib.Core.List.{List}
 use borrow.Author.Tests.{eq-eqb, ne-eqb}
 use lib.Dec.{eqb}
-use Rattle.rules.specs.Set.{among, keyWord, keysFrom}
+use Rattle.rules.specs.Letters.{among}
+use Rattle.rules.specs.Set.{keyWord, keysFrom}
 use Rattle.keys.specs.declared.Found.{Found}
 use Rattle.keys.specs.declared.Found.the-variants.{At, Nothing}
 use Rattle.keys.specs.Find.{Answers}

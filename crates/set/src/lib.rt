@@ -8,13 +8,15 @@ ghost use Prim.Native.Nat.{ℕ, _+_, _-_, _*_, _≤_, _<_, max};
 ghost use lib.ListN.{length, getD};
 ghost use Rattle.rules.specs.Set.{maxK, maxKeys, blocks, headerK, headerN, keyWord, setCheck, setOf, solid};
 ghost use Rattle.rules.specs.Letters.{canonical};
-ghost use Rattle.kmer.specs.Kmer.{Shifts, IsKmer};
+ghost use Rattle.rules.specs.Scan as rules;
+ghost use Rattle.kmer.specs.Kmer.{Shifts, kmerOf, IsKmer};
 ghost use Rattle.keys.specs.Find.{Bracket};
 ghost use lib.Dec.{eqb};
 ghost use Rattle.set.specs.Ready as table;
 ghost use Rattle.set.specs.Ready.{tableLength, prefix, Below, Filled, Ready};
 ghost use Rattle.set.specs.Ends.{Marked, Run, highest};
 ghost use Rattle.set.specs.Found.{isKey};
+ghost use Rattle.set.specs.Asked.{AskedIs};
 
 // The entries of the table that `prepare` fills.
 pub const STARTS: usize = 65537;
@@ -63,17 +65,42 @@ fn range_of(set: &[u8], starts: &[u32], head: Header, kmer: Kmer) -> Range
     }
 }
 
+// A lookup is made only of a k-mer without unknown letters.
 pub fn get(set: &[u8], starts: &[u32], head: Header, kmer: Kmer) -> bool
-    requires { ⌜ Ready (now set) (now starts) head × IsKmer (head .k) kmer ⌝ }
+    requires { ⌜ Ready (now set) (now starts) head × IsKmer (head .k) kmer × (kmer .unknown ≡ 0) ⌝ }
     ensures { λ r. ⌜ r ≡ solid (setOf (now (set .entry))) (kmer .code) ⌝ }
 {
     // Both codes are read here: the compiler then chooses between them without a branch.
     let both = Kmer {
         code: kmer.code,
         rev: kmer.rev,
+        unknown: 0,
     };
     let range = range_of(set, starts, head, both);
     is_key(keys::find(set, range.key, head.shift, head.n, range.from, range.end))
+}
+
+// A k-mer asked: whether it is solid, and the lookups made.
+pub struct Asked {
+    pub solid: bool,
+    pub lookups: u64,
+}
+
+// Document 02, W5: a k-mer that holds an unknown letter isn't solid, and no lookup is made for it.
+pub fn ask(set: &[u8], starts: &[u32], head: Header, kmer: Kmer) -> Asked
+    requires { ⌜ Ready (now set) (now starts) head × IsKmer (head .k) kmer ⌝ }
+    ensures { λ r. ⌜ AskedIs (rules.ask (solid (setOf (now (set .entry)))) (kmerOf kmer)) r ⌝ }
+{
+    if kmer.unknown != 0 {
+        return Asked {
+            solid: false,
+            lookups: 0,
+        };
+    }
+    Asked {
+        solid: get(set, starts, head, kmer),
+        lookups: 1,
+    }
 }
 
 // The line that a lookup of the k-mer reads first.
@@ -84,6 +111,7 @@ pub fn first_line(set: &[u8], starts: &[u32], head: Header, kmer: Kmer) -> usize
     let both = Kmer {
         code: kmer.code,
         rev: kmer.rev,
+        unknown: 0,
     };
     let range = range_of(set, starts, head, both);
     keys::first_line(range.key, head.shift, range.from, range.end)

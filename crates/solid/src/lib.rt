@@ -25,14 +25,16 @@ fn count_kmers(set: &[u8], starts: &[u32], head: Header, read: &[u8]) -> u64
 {
     let k = head.k;
     let mut kmer = kmer::seq2bit(read, head);
-    let mut count = set::get(set, starts, head, kmer) as u64;
+    let first = set::ask(set, starts, head, kmer);
+    let mut count = first.solid as u64;
     let mut ahead = scan::first_ahead(head.n, read.len());
     for i in k..read.len() {
         if ahead <= i {
             ahead = scan::read_ahead(set, starts, head, kmer, read, i);
         }
         kmer = scan::add_base(kmer, read[i], head);
-        count += set::get(set, starts, head, kmer) as u64;
+        let asked = set::ask(set, starts, head, kmer);
+        count += asked.solid as u64;
     }
     count
 }

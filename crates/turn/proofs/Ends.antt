@@ -8,9 +8,9 @@ use mathlib.Core.Option.{none}
 use mathlib.Core.List.{List, [], _∷_}
 use lib.ListN.{length, take, length-append}
 use lib.Seq.{length-take-le}
-use Rattle.rules.specs.Letters.{addBase}
+use Rattle.rules.specs.Letters.{Kmer, addBase}
 use Rattle.rules.specs.Counted.{Try}
-use Rattle.rules.specs.Scan.{errorLen}
+use Rattle.rules.specs.Scan.{ask, errorLen}
 use Rattle.rules.specs.Exist.{Mend}
 use Rattle.rules.specs.Driver.{Pass, State, keepBase, mendBase, turn, turnsOf}
 use Rattle.rules.proofs.Scan.{scan-is}
@@ -24,17 +24,17 @@ pub record Within (a b : Pass) : Type 0 where
   pub attempts : a .attempts ≤ b .attempts
   pub accepted : a .accepted ≤ b .accepted
 
-module _ (k : ℕ) (sol : ℕ → Bool) (ce : List ℕ → ℕ → Try Mend) where
+module _ (k : ℕ) (sol : ℕ → Bool) (ce : List ℕ → Kmer → Try Mend) where
   -- a property that each way of a turn keeps holds from a state to what its turns lead to
   module _ (P : Pass → Type 0)
-      (keeps : (st : State) (b : ℕ) (s : List ℕ) (y : ℕ) (p : Bool) (a l : ℕ) → a ≤ 1 → P (st .done) → P (keepBase st b s y p a l .done))
-      (mends : (st : State) (s : List ℕ) (y : ℕ) (m : Mend) (l : ℕ) → P (st .done) → P (mendBase k st s y m l .done)) where
+      (keeps : (st : State) (b : ℕ) (s : List ℕ) (y : Kmer) (p : Bool) (a l : ℕ) → a ≤ 1 → P (st .done) → P (keepBase st b s y p a l .done))
+      (mends : (st : State) (s : List ℕ) (y : Kmer) (m : Mend) (l : ℕ) → P (st .done) → P (mendBase k st s y m l .done)) where
     turn-keeps : (st : State) (b : ℕ) (s : List ℕ) → P (st .done) → P (turn k sol ce st b s .done)
     turn-keeps st b s h = go (case k sol ce st b s)
       where
         go : Case k sol ce st b s → P (turn k sol ce st b s .done)
-        go (is-solid e) = rw (turn-solid k sol ce st b s e) (keeps st b s _ true 0 0 (omega arith) h)
-        go (is-quiet e p) = rw (turn-quiet k sol ce st b s e p) (keeps st b s _ false 0 0 (omega arith) h)
+        go (is-solid e) = rw (turn-solid k sol ce st b s e) (keeps st b s _ true 0 _ (omega arith) h)
+        go (is-quiet e p) = rw (turn-quiet k sol ce st b s e p) (keeps st b s _ false 0 _ (omega arith) h)
         go (is-refused e p a) = rw (turn-refused k sol ce st b s e p a) (keeps st b s _ false 1 _ (omega arith) h)
         go (is-mended m e p a) = rw (turn-mended k sol ce st b s m e p a) (mends st (b ∷ s) _ m _ h)
 
@@ -90,11 +90,11 @@ module _ (k : ℕ) (sol : ℕ → Bool) (ce : List ℕ → ℕ → Try Mend) whe
 
   -- after a refused attempt the bases that its scan passed are put out
   pub refused-within : (st : State) (b : ℕ) (s : List ℕ) → st .rest ≡ b ∷ s
-      → sol (addBase k (st .kmer) b) ≡ false → st .previous ≡ true → ce (b ∷ s) (addBase k (st .kmer) b) .answer ≡ none
+      → ask sol (addBase k (st .kmer) b) .answer ≡ false → st .previous ≡ true → ce (b ∷ s) (addBase k (st .kmer) b) .answer ≡ none
       → length (st .done .bytes) + errorLen k sol (addBase k (st .kmer) b) (b ∷ s) .index ≤ length (finish k sol ce st .done .bytes)
   unfolding finish errorLen
   refused-within st b s e f p a =
-      let y : ℕ = addBase k (st .kmer) b in
+      let y : Kmer = addBase k (st .kmer) b in
       let i : ℕ = errorLen k sol y (b ∷ s) .index in
       let high : i ≤ length (b ∷ s) = omega (arith, scan-is k sol 0 1 y s .high) in
       let n = 2 * length (st .rest) in

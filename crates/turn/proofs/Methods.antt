@@ -6,6 +6,7 @@ use mathlib.Core.Bool.{Bool}
 use mathlib.Core.List.{List}
 use borrow.Author.Tests.{ne-eqb}
 use lib.ListN.{length}
+use Rattle.rules.specs.Letters.{Kmer}
 use Rattle.rules.specs.Set.{setOf, solid}
 use Rattle.rules.specs.Counted.{Try, after}
 use Rattle.rules.specs.Exist.{Mend, exist, one, two}
@@ -18,7 +19,7 @@ use Rattle.set.proofs.Opened.{set-count}
 use Rattle.turn.specs.Turn.{attemptOf}
 use Rattle.turn.proofs.Turns.{set-k}
 
-module _ (bytes starts : List ℕ) (head : Header) (ready : Ready bytes starts head) (method c : ℕ) (s : List ℕ) (y : ℕ) where
+module _ (bytes starts : List ℕ) (head : Header) (ready : Ready bytes starts head) (method c : ℕ) (s : List ℕ) (y : Kmer) where
   abbrev sol : ℕ → Bool
   sol = solid (setOf bytes)
 

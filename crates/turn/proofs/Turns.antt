@@ -4,7 +4,7 @@ use native.Mathlib.Omega.{arith}
 use native.Mathlib.Nat.{add-zero}
 use native.Mathlib.Numerals.{add-one}
 use native.Mathlib.Decide.{decLe}
-use mathlib.Core.Path.{_≡_, refl, sym, ap, _∙_, subst}
+use mathlib.Core.Path.{_≡_, refl, sym, ap, ap₂, _∙_, subst}
 use mathlib.Core.Bool.{Bool, true, false}
 use mathlib.Core.Option.{Option, none, some}
 use mathlib.Core.Logic.{inl, inr}
@@ -12,10 +12,11 @@ use mathlib.Core.List.{List, [], _∷_, _++_}
 use lib.ListN.{length, getD, take, drop, length-append, length-drop, length-set, drop-of-length-le}
 use types.Run.{OneOf}
 use lib.Seq.{drop-cons, drop-drop, take-suc-set, take-at, drop-at, take-append-add, length-take-le}
+use Rattle.rules.specs.Letters as letters
 use Rattle.rules.specs.Letters.{addBase}
 use Rattle.rules.specs.Set.{setOf, solid}
 use Rattle.rules.specs.Counted.{Try}
-use Rattle.rules.specs.Scan.{errorLen}
+use Rattle.rules.specs.Scan.{ask, errorLen}
 use Rattle.rules.specs.Exist.{Mend}
 use Rattle.rules.specs.Driver.{State, keepBase, mendBase}
 use Rattle.rules.specs.Job.{methodOf}
@@ -23,8 +24,10 @@ use Rattle.rules.proofs.Driver.{turn-solid, turn-quiet, turn-refused, turn-mend
 use Rattle.rules.proofs.Demands.{steady}
 use Rattle.kmer.specs.declared.Header.{Header}
 use Rattle.kmer.specs.declared.Kmer.{Kmer}
-use Rattle.kmer.specs.Kmer.{IsKmer, HasCode}
+use Rattle.kmer.specs.Kmer.{kmerOf, IsKmer, HasLetters}
 use Rattle.set.specs.Ready.{Ready}
+use Rattle.set.specs.declared.Asked.{Asked}
+use Rattle.set.specs.Asked.{AskedIs}
 use Rattle.turn.specs.declared.Place.{Place}
 use Rattle.turn.specs.declared.Turned.{Turned}
 use Rattle.turn.specs.declared.Turned.the-variants.{To, Full}
@@ -68,7 +71,7 @@ module _ (bytes starts : List ℕ) (head : Header) (method c : ℕ) (p : Place) 
   abbrev sol : ℕ → Bool
   sol = solid (setOf bytes)
 
-  abbrev ce : List ℕ → ℕ → Try Mend
+  abbrev ce : List ℕ → letters.Kmer → Try Mend
   ce = attemptOf bytes method c
 
   abbrev st : State
@@ -80,8 +83,12 @@ module _ (bytes starts : List ℕ) (head : Header) (method c : ℕ) (p : Place) 
   abbrev s : List ℕ
   s = drop (p .at + 1) read
 
-  abbrev y : ℕ
-  y = addBase k (p .kmer .code) b
+  abbrev y : letters.Kmer
+  y = addBase k (kmerOf (p .kmer)) b
+
+  -- the turn's own lookups
+  abbrev own : ℕ
+  own = ask sol y .lookups
 
   abbrev w : ℕ
   w = p .written
@@ -91,21 +98,22 @@ module _ (bytes starts : List ℕ) (head : Header) (method c : ℕ) (p : Place) 
 
   -- ---- the turn's cases, told of the code's place
 
-  pub solid-turn : sol y ≡ true → turnOf bytes head method c st b s ≡ keepBase st b s y true 0 0
+  pub solid-turn : (r : Asked) → AskedIs (ask sol y) r → r .solid ≡ true → turnOf bytes head method c st b s ≡ keepBase st b s y true 0 (r .lookups)
   unfolding stateOf
-  solid-turn e = turn-solid k sol ce st b s e
+  solid-turn r a e = turn-solid k sol ce st b s (sym (a .solid) ∙ e) ∙ ap (keepBase st b s y true 0) (sym (a .lookups))
 
-  pub quiet-turn : sol y ≡ false → p .previous ≡ false → turnOf bytes head method c st b s ≡ keepBase st b s y false 0 0
+  pub quiet-turn : (r : Asked) → AskedIs (ask sol y) r → r .solid ≡ false → p .previous ≡ false
+      → turnOf bytes head method c st b s ≡ keepBase st b s y false 0 (r .lookups)
   unfolding stateOf
-  quiet-turn e f = turn-quiet k sol ce st b s e f
+  quiet-turn r a e f = turn-quiet k sol ce st b s (sym (a .solid) ∙ e) f ∙ ap (keepBase st b s y false 0) (sym (a .lookups))
 
-  pub refused-turn : sol y ≡ false → p .previous ≡ true → ce (b ∷ s) y .answer ≡ none
-      → turnOf bytes head method c st b s ≡ keepBase st b s y false 1 (ce (b ∷ s) y .lookups)
+  pub refused-turn : ask sol y .answer ≡ false → p .previous ≡ true → ce (b ∷ s) y .answer ≡ none
+      → turnOf bytes head method c st b s ≡ keepBase st b s y false 1 (own + ce (b ∷ s) y .lookups)
   unfolding stateOf
   refused-turn e f a = turn-refused k sol ce st b s e f a
 
-  pub mended-turn : (m : Mend) → sol y ≡ false → p .previous ≡ true → ce (b ∷ s) y .answer ≡ some m
-      → turnOf bytes head method c st b s ≡ mendBase k st (b ∷ s) y m (ce (b ∷ s) y .lookups)
+  pub mended-turn : (m : Mend) → ask sol y .answer ≡ false → p .previous ≡ true → ce (b ∷ s) y .answer ≡ some m
+      → turnOf bytes head method c st b s ≡ mendBase k st (b ∷ s) y m (own + ce (b ∷ s) y .lookups)
   unfolding stateOf
   mended-turn m e f a = turn-mended k sol ce st b s m e f a
 
@@ -143,7 +151,7 @@ module _ (bytes starts : List ℕ) (head : Header) (method c : ℕ) (p : Place) 
 
   -- ---- a base kept, in an output that an attempt may have changed behind what is written
 
-  pub kept-is : (next : Kmer) (v : Bool) (a l : ℕ) (out₁ out′ : List ℕ) (r : Turned) → HasCode k y next
+  pub kept-is : (next : Kmer) (v : Bool) (a l : ℕ) (out₁ out′ : List ℕ) (r : Turned) → HasLetters k y next
       → take w out₁ ≡ take w out → length out₁ ≡ length out
       → turnOf bytes head method c st b s ≡ keepBase st b s y v a l
       → Kept p b next v a l out₁ out′ r → TurnIs bytes head method c p read out out′ r
@@ -160,7 +168,7 @@ module _ (bytes starts : List ℕ) (head : Header) (method c : ℕ) (p : Place) 
               done = record {
                 bytes = by i;
                 turns = p .turns + 1;
-                lookups = p .lookups + (1 + l);
+                lookups = p .lookups + l;
                 attempts = p .attempts + a;
                 accepted = add-zero (p .accepted) i;
               };
@@ -197,7 +205,7 @@ module _ (bytes starts : List ℕ) (head : Header) (method c : ℕ) (p : Place) 
               kmer = d .placed .is i;
               previous = true;
               rest = go-on (m .resume) i;
-              done = record { bytes = by i; turns = p .turns + 1; lookups = p .lookups + (1 + l); attempts = p .attempts + 1; accepted = p .accepted + 1 };
+              done = record { bytes = by i; turns = p .turns + 1; lookups = p .lookups + l; attempts = p .attempts + 1; accepted = p .accepted + 1 };
             })
             ∙ sym e,
         record { kmer = subst (λ (q : Place). IsKmer k (q .kmer)) (sym (d .is)) (d .placed .kmer); at = omega arith; written = omega arith },
@@ -205,7 +213,7 @@ module _ (bytes starts : List ℕ) (head : Header) (method c : ℕ) (p : Place) 
 
   -- ---- no room for an attempt
 
-  pub full-is : sol y ≡ false → p .previous ≡ true
+  pub full-is : ask sol y .answer ≡ false → p .previous ≡ true
       → ((m : Mend) → ce (b ∷ s) y .answer ≡ some m → length (drop w out) < length (m .letters))
       → (ce (b ∷ s) y .answer ≡ none → length (drop w out) < errorLen k sol y (b ∷ s) .index)
       → TurnIs bytes head method c p read out out Full
@@ -231,12 +239,15 @@ module _ (bytes starts : List ℕ) (head : Header) (method c : ℕ) (p : Place) 
 
   -- ---- an attempt at the bad k-mer, which left l in the output behind what is written
 
-  module _ (bad : Kmer) (f : BadAt bytes head p bad read) (l : List ℕ) where
+  module _ (bad : Kmer) (asked : ℕ) (f : BadAt bytes head p bad asked read) (l : List ℕ) where
     abbrev pub Tried : Attempt → Type 0
-    Tried = Attempted (errorLen k sol (bad .code) (b ∷ s) .index) (drop w out) l (ce (b ∷ s) (bad .code))
+    Tried = Attempted (errorLen k sol (kmerOf bad) (b ∷ s) .index) (drop w out) l (ce (b ∷ s) (kmerOf bad))
 
-    weak : sol y ≡ false
+    weak : ask sol y .answer ≡ false
     weak = rw (← (f .kmer .is)) (f .weak)
+
+    own-is : asked ≡ own
+    own-is = f .cost ∙ ap (λ (z : letters.Kmer). ask sol z .lookups) (f .kmer .is)
 
     taken : length (take w out) ≡ w
     taken = length-take-le w out (t .stands .written)
@@ -244,28 +255,28 @@ module _ (bytes starts : List ℕ) (head : Header) (method c : ℕ) (p : Place) 
     pub length-back : length l ≡ length (drop w out) → length (take w out ++ l) ≡ length out
     length-back e = omega (arith, e, length-append (take w out) l, taken, length-drop w out, t .stands .written)
 
-    refused-keep : (n : ℕ) → Tried (Refused n) → turnOf bytes head method c st b s ≡ keepBase st b s y false 1 n
+    refused-keep : (n : ℕ) → Tried (Refused n) → turnOf bytes head method c st b s ≡ keepBase st b s y false 1 (asked + n)
     refused-keep n a =
         let at-y = rw (f .kmer .is) at (a .is) in
-        refused-turn weak (f .previous) (at-y .0) ∙ ap (keepBase st b s y false 1) (at-y .1)
+        refused-turn weak (f .previous) (at-y .0) ∙ ap₂ (λ (i j : ℕ). keepBase st b s y false 1 (i + j)) (sym own-is) (at-y .1)
 
-    pub refused-fits : length out < 2 ^ 63 → (n : ℕ) → Tried (Refused n) → Fits p 1 n 1 0
-    refused-fits small n a = keep-fits small false 1 n (refused-keep n a)
+    pub refused-fits : length out < 2 ^ 63 → (n : ℕ) → Tried (Refused n) → Fits p 1 (asked + n) 1 0
+    refused-fits small n a = keep-fits small false 1 (asked + n) (refused-keep n a)
 
-    pub refused-is : (n : ℕ) (out′ : List ℕ) (r : Turned) → Tried (Refused n) → Kept p b bad false 1 n (take w out ++ l) out′ r
+    pub refused-is : (n : ℕ) (out′ : List ℕ) (r : Turned) → Tried (Refused n) → Kept p b bad false 1 (asked + n) (take w out ++ l) out′ r
         → TurnIs bytes head method c p read out out′ r
     refused-is n out′ r a kept =
-        kept-is bad false 1 n (take w out ++ l) out′ r (f .kmer) (take-at (take w out) l w taken) (length-back (a .room)) (refused-keep n a) kept
+        kept-is bad false 1 (asked + n) (take w out ++ l) out′ r (f .kmer) (take-at (take w out) l w taken) (length-back (a .room)) (refused-keep n a) kept
 
     mended-base : (n r q : ℕ) → Tried (Mends n r q)
-        → turnOf bytes head method c st b s ≡ mendBase k st (b ∷ s) y (record { letters = take n l; resume = r }) q
+        → turnOf bytes head method c st b s ≡ mendBase k st (b ∷ s) y (record { letters = take n l; resume = r }) (asked + q)
     mended-base n r q a =
         let at-y = rw (f .kmer .is) at (a .is) in
         let m : Mend = record { letters = take n l; resume = r } in
-        mended-turn m weak (f .previous) (at-y .0) ∙ ap (mendBase k st (b ∷ s) y m) (at-y .2)
+        mended-turn m weak (f .previous) (at-y .0) ∙ ap₂ (λ (i j : ℕ). mendBase k st (b ∷ s) y m (i + j)) (sym own-is) (at-y .2)
 
-    pub mended-fits : (w′ : ℕ) → w + w′ < 2 ^ 64 → (n r q : ℕ) → Tried (Mends n r q) → Fits p w′ q 1 1
-    mended-fits w′ small n r q a = mend-fits w′ small _ q (mended-base n r q a)
+    pub mended-fits : (w′ : ℕ) → w + w′ < 2 ^ 64 → (n r q : ℕ) → Tried (Mends n r q) → Fits p w′ (asked + q) 1 1
+    mended-fits w′ small n r q a = mend-fits w′ small _ (asked + q) (mended-base n r q a)
 
     -- the letters, as the part `&out[w..w + n]` of the output that came back
     pub letters-back : (n : ℕ) → take (w + n - w) (drop w (take w out ++ (l ++ drop (length out - w) (drop w out)))) ≡ take n l
@@ -273,12 +284,12 @@ module _ (bytes starts : List ℕ) (head : Header) (method c : ℕ) (p : Place) 
         let e : w + n - w ≡ n = omega arith in
         rw (e, tail-back out l w, drop-at (take w out) l w taken)
 
-    pub mended-place : (n r q : ℕ) (place : Place) → Tried (Mends n r q) → Mended k p (bad .code) (take n l) r q (length read) place
+    pub mended-place : (n r q : ℕ) (place : Place) → Tried (Mends n r q) → Mended k p (kmerOf bad) (take n l) r (asked + q) (length read) place
         → TurnIs bytes head method c p read out (take w out ++ l) (To place)
     mended-place n r q place a d =
         let len : length (take n l) ≡ n = length-take-le n l (a .is .1) in
         let joined = take-append-add (take w out) l n in
-        mended-is (record { letters = take n l; resume = r }) q (take w out ++ l) place (rw (f .kmer .is) at d)
+        mended-is (record { letters = take n l; resume = r }) (asked + q) (take w out ++ l) place (rw (f .kmer .is) at d)
         (rw len (rw taken at joined)) (omega (arith, length-append (take w out) l, taken, a .is .1)) (mended-base n r q a)
 
     pub no-room : Tried NoRoom → TurnIs bytes head method c p read out out Full
@@ -293,7 +304,7 @@ module _ (bytes starts : List ℕ) (head : Header) (method c : ℕ) (p : Place) 
         ap (endOf bytes head method c) (did .0)
         ∙ sym (ap (λ (q : State). q .done) (finish-step k sol ce (ready-steady (t .ready) method c (t .confirm)) st b s rest-is))
 
-    pub fewer-left : left k sol ce (p′ .kmer .code) (drop (p′ .at) read) < left k sol ce (p .kmer .code) (drop (p .at) read)
+    pub fewer-left : left k sol ce (kmerOf (p′ .kmer)) (drop (p′ .at) read) < left k sol ce (kmerOf (p .kmer)) (drop (p .at) read)
     unfolding stateOf
     fewer-left =
         let e = ap (λ (q : State). left k sol ce (q .kmer) (q .rest)) (did .0) in

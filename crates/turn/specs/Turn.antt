@@ -4,9 +4,11 @@ use mathlib.Core.Path.{_≡_}
 use mathlib.Core.Bool.{Bool, true, false}
 use mathlib.Core.List.{List}
 use lib.ListN.{length, getD, take, drop, set}
+use Rattle.rules.specs.Letters as letters
 use Rattle.rules.specs.Letters.{addBase, inPlace}
 use Rattle.rules.specs.Set.{setOf, solid}
 use Rattle.rules.specs.Counted.{Try}
+use Rattle.rules.specs.Scan.{ask}
 use Rattle.rules.specs.Exist.{Mend}
 use Rattle.rules.specs.Driver as rules
 use Rattle.rules.specs.Driver.{State}
@@ -14,7 +16,7 @@ use Rattle.rules.specs.Job.{methodOf, correctError}
 use Rattle.rules.proofs.Driver.{finish}
 use Rattle.kmer.specs.declared.Header.{Header}
 use Rattle.kmer.specs.declared.Kmer.{Kmer}
-use Rattle.kmer.specs.Kmer.{IsKmer, HasCode}
+use Rattle.kmer.specs.Kmer.{kmerOf, IsKmer, HasLetters}
 use Rattle.set.specs.Ready.{Ready}
 use Rattle.turn.specs.declared.Place.{Place}
 use Rattle.turn.specs.declared.Turned.{Turned}
@@ -26,7 +28,7 @@ doneOf p out = record { bytes = take (p .written) out; turns = p .turns; lookups
 
 -- A place as the rules' state.
 unfoldable pub stateOf : Place → List ℕ → List ℕ → State
-stateOf p read out = record { kmer = p .kmer .code; previous = p .previous; rest = drop (p .at) read; done = doneOf p out }
+stateOf p read out = record { kmer = kmerOf (p .kmer); previous = p .previous; rest = drop (p .at) read; done = doneOf p out }
 
 -- A place has a k-mer, and is inside the read and the output.
 pub record Stands (k : ℕ) (p : Place) (read out : List ℕ) : Type 0 where
@@ -42,7 +44,7 @@ pub record Countable (n : rules.Pass) : Type 0 where
   pub accepted : n .accepted < 2 ^ 63
 
 -- The rules' attempt, turn and end of a pass, under a set's bytes, a method byte and a confirm.
-abbrev pub attemptOf : List ℕ → ℕ → ℕ → List ℕ → ℕ → Try Mend
+abbrev pub attemptOf : List ℕ → ℕ → ℕ → List ℕ → letters.Kmer → Try Mend
 attemptOf bytes method c = correctError (setOf bytes) c (methodOf method)
 
 abbrev pub turnOf : List ℕ → Header → ℕ → ℕ → State → ℕ → List ℕ → State
@@ -51,7 +53,7 @@ turnOf bytes head method c = rules.turn (head .k) (solid (setOf bytes)) (attempt
 abbrev pub endOf : List ℕ → Header → ℕ → ℕ → State → rules.Pass
 endOf bytes head method c st = finish (head .k) (solid (setOf bytes)) (attemptOf bytes method c) st .done
 
--- One turn more: where it leads, and what it adds: w bytes written, l lookups beside the turn's own, a attempts made and b accepted.
+-- One turn more: where it leads, and what it adds: w bytes written, l lookups, a attempts made and b accepted.
 abbrev pub placeOf : Place → Kmer → Bool → ℕ → ℕ → ℕ → ℕ → ℕ → Place
 placeOf p kmer previous at w l a b =
     record {
@@ -60,7 +62,7 @@ placeOf p kmer previous at w l a b =
       at = at;
       written = p .written + w;
       turns = p .turns + 1;
-      lookups = p .lookups + (1 + l);
+      lookups = p .lookups + l;
       attempts = p .attempts + a;
       accepted = p .accepted + b;
     }
@@ -69,7 +71,7 @@ placeOf p kmer previous at w l a b =
 pub record Fits (p : Place) (w l a b : ℕ) : Type 0 where
   pub written : p .written + w < 2 ^ 64
   pub turns : p .turns < 2 ^ 63
-  pub lookups : p .lookups + (1 + l) < 2 ^ 64
+  pub lookups : p .lookups + l < 2 ^ 64
   pub attempts : p .attempts + a < 2 ^ 64
   pub accepted : p .accepted + b < 2 ^ 64
 
@@ -80,10 +82,10 @@ Kept p base kmer solid a l out out′ (To r) =
 Kept p base kmer solid a l out out′ Full = length out ≤ p .written
 
 -- An accepted attempt at the bad k-mer y, as `mendBase` of the rules has it, in a read of length n.
-pub record Mended (k : ℕ) (p : Place) (y : ℕ) (letters : List ℕ) (resume l n : ℕ) (r : Place) : Type 0 where
+pub record Mended (k : ℕ) (p : Place) (y : letters.Kmer) (given : List ℕ) (resume l n : ℕ) (r : Place) : Type 0 where
   pub kmer : Kmer
-  pub placed : HasCode k (inPlace k y letters) kmer
-  pub is : r ≡ placeOf p kmer true (min (p .at + resume) n) (length letters) l 1 1
+  pub placed : HasLetters k (inPlace k y given) kmer
+  pub is : r ≡ placeOf p kmer true (min (p .at + resume) n) (length given) l 1 1
 
 -- What a turn asks: a base is left, and the counts of the whole pass fit.
 pub record Turning (bytes starts : List ℕ) (head : Header) (method c : ℕ) (p : Place) (read out : List ℕ) : Type 0 where
@@ -93,10 +95,11 @@ pub record Turning (bytes starts : List ℕ) (head : Header) (method c : ℕ) (p
   pub more : p .at < length read
   pub counts : Countable (endOf bytes head method c (stateOf p read out))
 
--- The next base gives the k-mer `bad`, which is not solid, while the previous one counts as solid.
-pub record BadAt (bytes : List ℕ) (head : Header) (p : Place) (bad : Kmer) (read : List ℕ) : Type 0 where
-  pub kmer : HasCode (head .k) (addBase (head .k) (p .kmer .code) (getD read (p .at) 0)) bad
-  pub weak : solid (setOf bytes) (bad .code) ≡ false
+-- The next base gives the k-mer `bad`, which is not solid, by that many lookups, while the previous one counts as solid.
+pub record BadAt (bytes : List ℕ) (head : Header) (p : Place) (bad : Kmer) (asked : ℕ) (read : List ℕ) : Type 0 where
+  pub kmer : HasLetters (head .k) (addBase (head .k) (kmerOf (p .kmer)) (getD read (p .at) 0)) bad
+  pub weak : ask (solid (setOf bytes)) (kmerOf bad) .answer ≡ false
+  pub cost : asked ≡ ask (solid (setOf bytes)) (kmerOf bad) .lookups
   pub previous : p .previous ≡ true
 
 -- A turn of the code is one of the rules; Full where the pass's result is longer than the output.

@@ -1,5 +1,5 @@
 // One turn of the driver, `Corrector::correct` of src/correct/mod.rs: a base is taken, its k-mer looked up and, where that is not solid
-// while the previous was, an attempt made. Document 01, "Driver".
+// while the previous was, an attempt made. Document 01, "Driver", and document 02, W5.
 use kmer::Header;
 use kmer::Kmer;
 use scan::Attempt;
@@ -8,7 +8,7 @@ ghost use Prim.Native.Nat.{_+_, _≤_, _<_, _^_};
 ghost use lib.ListN.{length};
 ghost use Rattle.rules.specs.Set.{setOf, solid};
 ghost use Rattle.rules.specs.Scan.{errorLen};
-ghost use Rattle.kmer.specs.Kmer.{Shifts, IsKmer};
+ghost use Rattle.kmer.specs.Kmer.{Shifts, kmerOf, IsKmer};
 ghost use Rattle.set.specs.Ready.{Ready};
 ghost use Rattle.scan.specs.Attempt.{Attempted};
 ghost use Rattle.turn.specs.Turn.{attemptOf, Fits, placeOf, Kept, Mended, Turning, BadAt, TurnIs};
@@ -44,8 +44,8 @@ fn correct_error(
 ) -> Attempt
     requires { ⌜ Ready (now set) (now starts) head × IsKmer (head .k) kmer × (1 ≤ length (now s)) × (1 ≤ c) ⌝ }
     ensures { λ r. ⌜
-        Attempted (errorLen (head .k) (solid (setOf (now (set .entry)))) (kmer .code) (now (s .entry)) .index) (now (out .entry)) (now (out .exit))
-        (attemptOf (now (set .entry)) method c (now (s .entry)) (kmer .code))
+        Attempted (errorLen (head .k) (solid (setOf (now (set .entry)))) (kmerOf kmer) (now (s .entry)) .index) (now (out .entry)) (now (out .exit))
+        (attemptOf (now (set .entry)) method c (now (s .entry)) (kmerOf kmer))
         r ⌝ }
 {
     match method {
@@ -56,7 +56,7 @@ fn correct_error(
     }
 }
 
-// One turn more: where it leads, and what it adds: bytes written, lookups beside the turn's own, attempts made and accepted.
+// One turn more: where it leads, and what it adds: bytes written, lookups, attempts made and accepted.
 fn moved(
     p: Place,
     kmer: Kmer,
@@ -76,7 +76,7 @@ fn moved(
         at,
         written: p.written + written,
         turns: p.turns + 1,
-        lookups: p.lookups + (1 + lookups),
+        lookups: p.lookups + lookups,
         attempts: p.attempts + attempts,
         accepted: p.accepted + accepted,
     }
@@ -115,7 +115,7 @@ fn mend(
     head: Header,
 ) -> Place
     requires { ⌜ Shifts head × IsKmer (head .k) bad × (p .at ≤ len) × Fits p (length (now letters)) lookups 1 1 ⌝ }
-    ensures { λ r. ⌜ Mended (head .k) p (bad .code) (now (letters .entry)) resume lookups len r ⌝ }
+    ensures { λ r. ⌜ Mended (head .k) p (kmerOf bad) (now (letters .entry)) resume lookups len r ⌝ }
 {
     let mut at = len;
     if resume < len - p.at {
@@ -126,7 +126,7 @@ fn mend(
     moved(p, kmer, true, at, letters.len(), lookups, 1, 1)
 }
 
-// A turn at a base whose k-mer is not solid while the previous was.
+// A turn at a base whose k-mer, asked by that many lookups, is not solid while the previous was.
 fn bad_base(
     set: &[u8],
     starts: &[u32],
@@ -135,11 +135,12 @@ fn bad_base(
     c: u8,
     p: Place,
     bad: Kmer,
+    asked: u64,
     read: &[u8],
     out: &mut [u8],
 ) -> Turned
     requires { ⌜ Turning (now set) (now starts) head method c p (now read) (now out) ⌝ }
-    requires { ⌜ BadAt (now set) head p bad (now read) ⌝ }
+    requires { ⌜ BadAt (now set) head p bad asked (now read) ⌝ }
     ensures { λ r. ⌜ TurnIs (now (set .entry)) head method c p (now (read .entry)) (now (out .entry)) (now (out .exit)) r ⌝ }
 {
     let at = p.at;
@@ -158,10 +159,18 @@ fn bad_base(
         let Attempt::Refused(lookups) = tried else {
             return Turned::Full;
         };
-        return keep(p, read[at], bad, false, 1, lookups, out);
+        return keep(p, read[at], bad, false, 1, asked + lookups, out);
     };
     let end = w + n;
-    Turned::To(mend(p, bad, &out[w..end], resume, lookups, read.len(), head))
+    Turned::To(mend(
+        p,
+        bad,
+        &out[w..end],
+        resume,
+        asked + lookups,
+        read.len(),
+        head,
+    ))
 }
 
 pub fn turn(
@@ -180,12 +189,24 @@ pub fn turn(
     let at = p.at;
     let base = read[at];
     let next = scan::add_base(p.kmer, base, head);
-    if set::get(set, starts, head, next) {
-        return keep(p, base, next, true, 0, 0, out);
+    let asked = set::ask(set, starts, head, next);
+    if asked.solid {
+        return keep(p, base, next, true, 0, asked.lookups, out);
     }
     let previous = p.previous;
     if !previous {
-        return keep(p, base, next, false, 0, 0, out);
+        return keep(p, base, next, false, 0, asked.lookups, out);
     }
-    bad_base(set, starts, head, method, c, p, next, read, out)
+    bad_base(
+        set,
+        starts,
+        head,
+        method,
+        c,
+        p,
+        next,
+        asked.lookups,
+        read,
+        out,
+    )
 }

@@ -49,7 +49,7 @@ impl Cell {
 /// Seconds of a lookup in a plain loop over the k-mers of reads, on either side.
 #[derive(Clone, Copy)]
 pub struct Loops {
-    pub ours: Option<f64>,
+    pub ours: f64,
     pub rust: f64,
 }
 
@@ -189,12 +189,10 @@ pub fn loops(library: &dyn Library, world: &World, errors: usize) -> Loops {
         rust.push(seconds / LOOP as f64);
         let (counted, seconds) = timed(|| library.count_solid(&world.set, &joined));
         let (_, first) = timed(|| library.count_solid(&world.set, &joined[..world.k as usize]));
-        if let Some(counted) = counted {
-            assert_eq!(counted, solid, "another count of solid k-mers than natir/br's");
-            ours.push((seconds - first).max(0.0) / LOOP as f64);
-        }
+        assert_eq!(counted, Ok((LOOP as u64, solid)), "another count of solid k-mers than natir/br's");
+        ours.push((seconds - first).max(0.0) / LOOP as f64);
     }
-    Loops { ours: (!ours.is_empty()).then(|| median(ours)), rust: median(rust) }
+    Loops { ours: median(ours), rust: median(rust) }
 }
 
 pub fn placing(world: &World) -> Placing {

@@ -125,7 +125,7 @@ fn method_table(page: &mut String, method: Method, cells: &[Cell]) {
             speeds(cell),
             figure(cell.lookups_a_base()),
             cell.lookups as f64 / cell.rounds.less_opening() / 1e6,
-            cell.a_lookup.ours.map_or(NONE.to_string(), a_base),
+            a_base(cell.a_lookup.ours),
             a_base(cell.a_lookup.rust),
         );
     }

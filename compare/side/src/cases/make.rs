@@ -1,6 +1,6 @@
 //! Texts of k-mer counts: right ones of every number of keys about a block's 63, damaged at the first, a middle and the last line, random ones,
 //! all short ones, and those at the limit of keys.
-use crate::referee::letters::{add_all, canonical, letter, mask, reverse_complement};
+use crate::referee::letters::{canonical, letter, mask, reverse_complement};
 use crate::referee::make::make_set;
 use crate::referee::set::MOST_KEYS;
 use crate::rng::Rng;
@@ -132,7 +132,7 @@ fn damage(rng: &mut Rng, lines: &mut Vec<Vec<u8>>, place: usize, k: usize) {
         10 => drop(line.pop()),
         // Equal codes, by the reverse complement too.
         11 => {
-            let turned = reverse_complement(k, add_all(k, 0, &line[..k]));
+            let turned = reverse_complement(k, cocktail::kmer::seq2bit(&line[..k]));
             let again = [&letters(k, turned)[..], &line[k..]].concat();
             lines.insert(place + 1, again);
         }

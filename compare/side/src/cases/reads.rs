@@ -1,14 +1,16 @@
 //! Genomes and reads.
 use crate::check::Site;
+use crate::referee::letters::code;
 use crate::rng::Rng;
 
 pub fn letters(rng: &mut Rng, length: usize) -> Vec<u8> {
     (0..length).map(|_| rng.letter()).collect()
 }
 
-/// The read of that length whose letters are the digits of a number.
-pub fn numbered(length: u32, number: usize) -> Vec<u8> {
-    (0..length).rev().map(|place| b"ACTG"[number >> (2 * place) & 3]).collect()
+/// Every read of that length over some letters.
+pub fn all(letters: &[u8], length: u32) -> impl Iterator<Item = Vec<u8>> + '_ {
+    let count = letters.len();
+    (0..count.pow(length)).map(move |number| (0..length).rev().map(|place| letters[number / count.pow(place) % count]).collect())
 }
 
 pub fn reverse_complement(genome: &[u8]) -> Vec<u8> {
@@ -138,11 +140,46 @@ pub fn in_set(rng: &mut Rng, site: &Site) -> Vec<u8> {
     read
 }
 
-/// Arbitrary bytes, or bytes that have the codes of a noisy read.
-pub fn bytes(rng: &mut Rng, genome: &[u8]) -> Vec<u8> {
-    if rng.percent(30) {
-        return (0..rng.below(120)).map(|_| rng.byte()).collect();
+/// A read in all ten letters that have a code: in lower case here and there, and with U for T.
+pub fn in_ten_letters(rng: &mut Rng, mut read: Vec<u8>) -> Vec<u8> {
+    for byte in &mut read {
+        if *byte == b'T' && rng.percent(40) {
+            *byte = b'U';
+        }
+        if rng.percent(40) {
+            *byte |= 32;
+        }
     }
-    let read = noisy(rng, genome, 160);
-    read.into_iter().map(|letter| (rng.byte() & !0b110) | (letter & 0b110)).collect()
+    read
+}
+
+/// A byte that has no code: N, any other, or one of which document 01 would read the letter that it stands for.
+fn unknown(rng: &mut Rng, letter: u8) -> u8 {
+    loop {
+        let byte = match rng.below(3) {
+            0 => *rng.pick(b"NNn"),
+            1 => rng.byte(),
+            _ => rng.byte() & !0b110 | letter & 0b110,
+        };
+        if code(byte).is_none() {
+            return byte;
+        }
+    }
+}
+
+/// A read with bytes that have no code, now and then several in a row; or arbitrary bytes.
+pub fn with_unknown(rng: &mut Rng, mut read: Vec<u8>) -> Vec<u8> {
+    if rng.percent(5) {
+        return read.iter().map(|_| rng.byte()).collect();
+    }
+    let apart = rng.within(4, 60);
+    let mut at = rng.below(apart);
+    while at < read.len() {
+        let row = if rng.percent(70) { 1 } else { rng.within(2, 12) };
+        for byte in read.iter_mut().skip(at).take(row) {
+            *byte = unknown(rng, *byte);
+        }
+        at += row + rng.within(1, 2 * apart);
+    }
+    read
 }

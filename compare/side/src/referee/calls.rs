@@ -1,6 +1,7 @@
 //! "Job" as document 02 has it, "Report" and the refusals: the single-read and the batch call.
 use super::correctors::Method;
 use super::driver::{pass, Pass};
+use super::letters::Kmer;
 use super::set::{Refusal, Set};
 
 const MOST_INPUT: usize = 1_048_576;
@@ -69,6 +70,16 @@ pub fn reads(job: &Job) -> Vec<&[u8]> {
 /// The entries of a job. One without its second byte has confirm 0.
 pub fn entries(job: &Job) -> Vec<Entry> {
     job.entries.chunks(2).map(|pair| Entry { method: pair[0], confirm: pair.get(1).copied().unwrap_or(0) }).collect()
+}
+
+/// The k-mers of a read and the solid ones among them, or refusal 1 or 7 to 10. One that holds an unknown letter isn't solid.
+pub fn count_solid(opened: &Result<Set, Refusal>, read: &[u8]) -> Result<(u64, u64), Refusal> {
+    if read.len() > MOST_INPUT {
+        return Err(Refusal::new(1, 0));
+    }
+    let set = opened.as_ref().map_err(|refusal| *refusal)?;
+    let kmers = read.windows(set.k).map(|window| Kmer::of(set.k, window).code());
+    Ok((kmers.len() as u64, kmers.flatten().filter(|code| set.solid(*code)).count() as u64))
 }
 
 pub fn call(opened: &Result<Set, Refusal>, job: &Job) -> Outcome {

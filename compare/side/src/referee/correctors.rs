@@ -1,5 +1,5 @@
 //! "Successors and scan" and "Correctors".
-use super::letters::{add, add_all, code, last, letter};
+use super::letters::{code, Kmer};
 use super::set::Set;
 use std::collections::HashSet;
 
@@ -50,9 +50,21 @@ pub enum Event {
     Mark,
     /// GapSize: a k-mer comes again.
     Repeat,
+    /// A read's first k-mer holds an unknown letter.
+    UnknownFirst,
+    /// The bad base is an unknown letter.
+    UnknownBase,
+    /// A trial ends at a base that is an unknown letter.
+    UnknownConfirm,
+    /// Graph: T holds an unknown letter.
+    UnknownEnd,
 }
 
-pub const ALL_EVENTS: [Event; 5] = [Event::Several, Event::OneRemains, Event::NoMove, Event::Mark, Event::Repeat];
+#[rustfmt::skip]
+pub const ALL_EVENTS: [Event; 9] = {
+    use Event::*;
+    [Several, OneRemains, NoMove, Mark, Repeat, UnknownFirst, UnknownBase, UnknownConfirm, UnknownEnd]
+};
 
 /// An accepted attempt: letters written for the bad base, and how many bases further the pass goes on.
 pub struct Mend {
@@ -64,7 +76,7 @@ pub struct Mend {
 /// The scan's answer: the index reached and the last k-mer T.
 struct Scan {
     index: usize,
-    end: u64,
+    end: Kmer,
     lookups: u64,
 }
 
@@ -119,22 +131,25 @@ impl<'a> Asking<'a> {
         Asking { set, lookups: 0, again: 0, events: [0; ALL_EVENTS.len()] }
     }
 
-    pub fn solid(&mut self, y: u64) -> bool {
+    /// One lookup; but a k-mer that holds an unknown letter isn't solid, and no lookup is made or counted for it.
+    pub fn solid(&mut self, y: Kmer) -> bool {
+        let Some(code) = y.code() else { return false };
         self.lookups += 1;
-        self.set.solid(y)
+        self.set.solid(code)
     }
 
-    fn note(&mut self, event: Event) {
+    pub fn note(&mut self, event: Event) {
         self.events[event as usize] += 1;
     }
 
-    fn add(&self, y: u64, byte: u8) -> u64 {
-        add(self.set.k, y, code(byte))
+    fn add(&self, y: Kmer, byte: u8) -> Kmer {
+        y.add(self.set.k, code(byte))
     }
 
-    /// y+u(y), u(y) being the sole solid successor letter; refuses unless there is exactly one. 4 lookups.
-    fn sole(&mut self, y: u64) -> Option<u64> {
-        let successors = [0, 1, 2, 3].map(|code| add(self.set.k, y, code));
+    /// y+u(y), u(y) being the sole solid successor letter; refuses unless there is exactly one. 4 lookups, or none where each of the four
+    /// holds an unknown letter of y.
+    fn sole(&mut self, y: Kmer) -> Option<Kmer> {
+        let successors = [0, 1, 2, 3].map(|code| y.add(self.set.k, Some(code)));
         let solid = successors.map(|successor| self.solid(successor));
         let mut found = successors.into_iter().zip(solid).filter(|(_, solid)| *solid);
         match (found.next(), found.next()) {
@@ -144,12 +159,12 @@ impl<'a> Asking<'a> {
     }
 
     /// x: the bad k-mer's last letter replaced by the sole solid alternative. 4 lookups.
-    fn alternative(&mut self, y: u64) -> Option<u64> {
-        self.sole(y >> 2)
+    fn alternative(&mut self, y: Kmer) -> Option<Kmer> {
+        self.sole(y.moved_right())
     }
 
     /// `error_len`: add s1, s2, .. to the k-mer; stop at the first solid, else at the end.
-    fn scan(&mut self, y: u64, s: &[u8]) -> Scan {
+    fn scan(&mut self, y: Kmer, s: &[u8]) -> Scan {
         let (mut index, mut end, before) = (1, y, self.lookups);
         while index < s.len() {
             end = self.add(end, s[index]);
@@ -162,7 +177,10 @@ impl<'a> Asking<'a> {
     }
 
     /// An attempt at the bad k-mer y, s being the rest of the read from its bad base.
-    pub fn attempt(&mut self, method: Method, c: usize, y: u64, s: &[u8]) -> Option<Mend> {
+    pub fn attempt(&mut self, method: Method, c: usize, y: Kmer, s: &[u8]) -> Option<Mend> {
+        if code(s[0]).is_none() {
+            self.note(Event::UnknownBase);
+        }
         match method {
             Method::One => self.exist(&ONE, c, y, s),
             Method::Two => self.exist(&TWO, c, y, s),
@@ -176,7 +194,7 @@ impl<'a> Asking<'a> {
 
     // ---- One and Two
 
-    fn exist(&mut self, rows: &[Row], c: usize, y: u64, s: &[u8]) -> Option<Mend> {
+    fn exist(&mut self, rows: &[Row], c: usize, y: Kmer, s: &[u8]) -> Option<Mend> {
         let x = self.alternative(y)?;
         let mut kept: Vec<Kept> = rows.iter().filter_map(|row| self.tried(row, c, x, s)).collect();
         if kept.len() > 1 {
@@ -198,7 +216,7 @@ impl<'a> Asking<'a> {
     }
 
     /// A trial, and its score: kept if that is c.
-    fn tried(&mut self, row: &Row, c: usize, x: u64, s: &[u8]) -> Option<Kept> {
+    fn tried(&mut self, row: &Row, c: usize, x: Kmer, s: &[u8]) -> Option<Kept> {
         if s.len() < row.least {
             return None;
         }
@@ -212,11 +230,11 @@ impl<'a> Asking<'a> {
             By::ICI => x,
             _ => tried,
         };
-        Some(Kept { mend: Mend { letters: last(row.letters, of), resume: row.r, by: row.by }, asked })
+        Some(Kept { mend: Mend { letters: of.last(row.letters), resume: row.r, by: row.by }, asked })
     }
 
     /// The tried k-mer: left to right up to the first refusal.
-    fn trial(&mut self, by: By, x: u64, s: &[u8]) -> Option<u64> {
+    fn trial(&mut self, by: By, x: Kmer, s: &[u8]) -> Option<Kmer> {
         match by {
             By::SS | By::ICS => {
                 let y = self.add(x, s[1]);
@@ -243,22 +261,25 @@ impl<'a> Asking<'a> {
         }
     }
 
-    fn is_solid(&mut self, y: u64) -> Option<u64> {
+    fn is_solid(&mut self, y: Kmer) -> Option<Kmer> {
         self.solid(y).then_some(y)
     }
 
-    fn not_solid(&mut self, y: u64) -> Option<u64> {
+    fn not_solid(&mut self, y: Kmer) -> Option<Kmer> {
         (!self.solid(y)).then_some(y)
     }
 
     /// 0 if the tried k-mer isn't solid or if o + c exceeds the length of s, else the solid count of the c bases from o.
-    fn score(&mut self, o: usize, c: usize, tried: u64, s: &[u8]) -> usize {
+    fn score(&mut self, o: usize, c: usize, tried: Kmer, s: &[u8]) -> usize {
         if !self.solid(tried) || o + c > s.len() {
             return 0;
         }
         let mut y = tried;
         for (score, byte) in s[o..o + c].iter().enumerate() {
             y = self.add(y, *byte);
+            if code(*byte).is_none() {
+                self.note(Event::UnknownConfirm);
+            }
             if !self.solid(y) {
                 return score;
             }
@@ -267,32 +288,35 @@ impl<'a> Asking<'a> {
     }
 
     /// The length of s exceeds c + r + 1 and, letters put in place of the bad base, the k-mer after s from r, c + 1 bases, is solid.
-    fn one_more(&mut self, mend: &Mend, c: usize, y: u64, s: &[u8]) -> bool {
+    fn one_more(&mut self, mend: &Mend, c: usize, y: Kmer, s: &[u8]) -> bool {
         if s.len() <= c + mend.resume + 1 {
             return false;
         }
-        let mended = add_all(self.set.k, y >> 2, &mend.letters);
-        let further = add_all(self.set.k, mended, &s[mend.resume..mend.resume + c + 1]);
+        let mended = y.moved_right().add_all(self.set.k, &mend.letters);
+        let further = mended.add_all(self.set.k, &s[mend.resume..mend.resume + c + 1]);
         self.solid(further)
     }
 
     // ---- Graph
 
     /// Graph from a scan: accepted exactly when there is a chain from x to T.
-    fn graph(&mut self, scan: &Scan, y: u64) -> Option<Mend> {
+    fn graph(&mut self, scan: &Scan, y: Kmer) -> Option<Mend> {
         let x = self.alternative(y)?;
         let letters = self.walk(x, scan.end)?;
         Some(Mend { letters, resume: scan.index + 1, by: By::Chain })
     }
 
-    fn walk(&mut self, x: u64, end: u64) -> Option<Vec<u8>> {
+    fn walk(&mut self, x: Kmer, end: Kmer) -> Option<Vec<u8>> {
         if x == end {
             self.note(Event::NoMove);
             // The Rust walks all the same, and refuses.
             self.again += self.rust_walk(x, end);
             return None;
         }
-        let mut letters = last(1, x);
+        if end.code().is_none() {
+            self.note(Event::UnknownEnd);
+        }
+        let mut letters = vec![x.last_letter()];
         let (mut at, mut mark, mut moves, mut next_mark) = (x, x, 0_u64, 1);
         let before = self.lookups;
         loop {
@@ -300,7 +324,7 @@ impl<'a> Asking<'a> {
                 return None;
             }
             at = self.sole(at)?;
-            letters.push(letter(at & 3));
+            letters.push(at.last_letter());
             if at == end {
                 return Some(letters);
             }
@@ -318,7 +342,7 @@ impl<'a> Asking<'a> {
     }
 
     /// The lookups that the Rust's walk makes from x.
-    fn rust_walk(&self, x: u64, end: u64) -> i64 {
+    fn rust_walk(&self, x: Kmer, end: Kmer) -> i64 {
         let mut asking = Asking::new(self.set);
         let (mut at, mut seen) = (x, HashSet::from([x]));
         while asking.solid(at) {
@@ -334,7 +358,7 @@ impl<'a> Asking<'a> {
     // ---- GapSize
 
     /// One scan, counted once. Index below k: Graph from that scan. Equal: One. Above: index − k moves.
-    fn gap_size(&mut self, c: usize, y: u64, s: &[u8]) -> Option<Mend> {
+    fn gap_size(&mut self, c: usize, y: Kmer, s: &[u8]) -> Option<Mend> {
         let scan = self.scan(y, s);
         match scan.index.cmp(&self.set.k) {
             std::cmp::Ordering::Less => {
@@ -348,16 +372,16 @@ impl<'a> Asking<'a> {
     }
 
     /// That many moves from x by sole successors, refused on a repeat.
-    fn moves(&mut self, moves: usize, y: u64) -> Option<Mend> {
+    fn moves(&mut self, moves: usize, y: Kmer) -> Option<Mend> {
         let mut at = self.alternative(y)?;
-        let (mut letters, mut seen) = (last(1, at), HashSet::from([at]));
+        let (mut letters, mut seen) = (vec![at.last_letter()], HashSet::from([at]));
         for _ in 0..moves {
             at = self.sole(at)?;
             if !seen.insert(at) {
                 self.note(Event::Repeat);
                 return None;
             }
-            letters.push(letter(at & 3));
+            letters.push(at.last_letter());
         }
         Some(Mend { resume: letters.len(), letters, by: By::Moves })
     }

@@ -1,6 +1,6 @@
 //! "Driver": a pass, one read through one method.
-use super::correctors::{Asking, Method, ALL_EVENTS, BY};
-use super::letters::{add, add_all, code};
+use super::correctors::{Asking, Event, Method, ALL_EVENTS, BY};
+use super::letters::{code, Kmer};
 use super::set::Set;
 
 #[derive(Clone, Default)]
@@ -25,12 +25,15 @@ pub fn pass(set: &Set, method: Method, c: u8, read: &[u8]) -> Pass {
     }
     let mut pass = Pass { bytes: read[..k].to_vec(), ..Pass::default() };
     let mut asking = Asking::new(set);
-    let mut kmer = add_all(k, 0, &read[..k]);
+    let mut kmer = Kmer::of(k, &read[..k]);
+    if kmer.code().is_none() {
+        asking.note(Event::UnknownFirst);
+    }
     let mut previous = asking.solid(kmer);
     let mut at = k;
     while at < read.len() {
         pass.turns += 1;
-        kmer = add(k, kmer, code(read[at]));
+        kmer = kmer.add(k, code(read[at]));
         let solid = asking.solid(kmer);
         if !solid && previous {
             pass.attempts += 1;
@@ -38,7 +41,7 @@ pub fn pass(set: &Set, method: Method, c: u8, read: &[u8]) -> Pass {
                 pass.accepted += 1;
                 pass.by[mend.by as usize] += 1;
                 // The bad k-mer moves right one letter, an A in front, and takes the letters by +.
-                kmer = add_all(k, kmer >> 2, &mend.letters);
+                kmer = kmer.moved_right().add_all(k, &mend.letters);
                 pass.bytes.extend_from_slice(&mend.letters);
                 at += mend.resume;
                 continue;

@@ -1,5 +1,5 @@
 //! Document 02, "Make the set file", written from the documents alone.
-use super::letters::{add_all, canonical};
+use super::letters::{canonical, Kmer};
 use super::set::{Refusal, MOST_KEYS};
 use crate::set_file;
 
@@ -27,7 +27,8 @@ pub fn keys(text: &[u8], k: u64, least: u64) -> Result<Vec<u64>, Refusal> {
         if count < least {
             continue;
         }
-        let code = canonical(k as usize, add_all(k as usize, 0, letters));
+        let code = Kmer::of(k as usize, letters).code().expect("letters from A, C, G, T");
+        let code = canonical(k as usize, code);
         if keys.last().is_some_and(|last| code <= *last) {
             return Err(Refusal::new(13, place));
         }

@@ -25,8 +25,8 @@ pub struct Set {
 
 impl Set {
     /// A k-mer is solid when its canonical code is a key.
-    pub fn solid(&self, y: u64) -> bool {
-        self.keys.binary_search(&canonical(self.k, y)).is_ok()
+    pub fn solid(&self, code: u64) -> bool {
+        self.keys.binary_search(&canonical(self.k, code)).is_ok()
     }
 }
 

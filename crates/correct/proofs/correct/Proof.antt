@@ -61,15 +61,15 @@ copy-requires c κs =
 seq2bit-requires : tie.Need-seq2bit-requires
 seq2bit-requires c κs = search needs
 
-get-requires : tie.Need-get-requires
-get-requires c κs = search needs
+ask-requires : tie.Need-ask-requires
+ask-requires c κs = search needs
 
 -- The pass from its first place.
-begun : (c : tie.After-get)
+begun : (c : tie.After-ask)
     → let p = c .before .before .before .before in
     let a = p .before .before .before .before .before .before .before .before .before .args in
     endOf (a .set .now) (a .head) (a .method) (a .c)
-    (stateOf (firstPlace (a .head .k) (c .before .seq2bit .result) (c .get .result)) (a .read .now) (p .copy .last .1 .0))
+    (stateOf (firstPlace (a .head .k) (c .before .seq2bit .result) (c .ask .result)) (a .read .now) (p .copy .last .1 .0))
     ≡ pass (setOf (a .set .now)) (entry (a .method) (a .c)) (a .read .now)
 begun c =
     let p = c .before .before .before .before in
@@ -77,8 +77,8 @@ begun c =
     let s = e .before .before .before .before .before in
     let a = s .args in
     let k-is = length-take-le (a .head .k) (a .read .now) (e .if1 .left) in
-    pass-begun _ _ (a .head) (s .pre .0) (a .method) (a .c) (a .read .now) (c .before .seq2bit .result) (c .get .result) (p .copy .last .1 .0)
-    (e .if1 .left) (c .before .seq2bit .ensures) (c .get .ensures) (rw k-is at (p .copy .ensures))
+    pass-begun _ _ (a .head) (s .pre .0) (a .method) (a .c) (a .read .now) (c .before .seq2bit .result) (c .ask .result) (p .copy .last .1 .0)
+    (e .if1 .left) (c .before .seq2bit .ensures) (c .ask .ensures) (rw k-is at (p .copy .ensures))
 
 turns-of-requires : tie.Need-turns-of-requires
 turns-of-requires c κs =
@@ -120,7 +120,7 @@ correct-spec =
     slice-aggregate-copy
     copy-requires
     seq2bit-requires
-    get-requires
+    ask-requires
     turns-of-requires
     same-length-2
     returns-3)

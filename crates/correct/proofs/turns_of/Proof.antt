@@ -5,6 +5,7 @@ use borrow.Author.Needs.{needs}
 use Rattle.rules.specs.Set.{setOf, solid}
 use Rattle.rules.specs.Driver.{State}
 use Rattle.rules.proofs.Driver.{left, finish-end}
+use Rattle.kmer.specs.Kmer.{kmerOf}
 use Rattle.turn.specs.declared.Turned.the-variants.{To}
 use Rattle.turn.specs.Turn.{stateOf, Stands, Countable, attemptOf, endOf, Turning, TurnIs}
 use Rattle.turn.proofs.Turns.{same-end, fewer-left}
@@ -18,7 +19,7 @@ Inv-loop set starts head method c read out₀ p₀ ahead₀ out p ahead =
     × (endOf set head method c (stateOf p read out) ≡ endOf set head method c (stateOf p₀ read out₀))
 
 abbrev μ-loop : tie.MeasureT-loop
-μ-loop set starts head method c read out₀ p₀ ahead₀ out p ahead = left (head .k) (solid (setOf set)) (attemptOf set method c) (p .kmer .code) (drop (p .at) read)
+μ-loop set starts head method c read out₀ p₀ ahead₀ out p ahead = left (head .k) (solid (setOf set)) (attemptOf set method c) (kmerOf (p .kmer)) (drop (p .at) read)
 
 first-ahead-requires : tie.Need-first-ahead-requires Inv-loop μ-loop
 first-ahead-requires c κs = search needs

@@ -8,6 +8,7 @@ use borrow.Author.Needs.{needs}
 use Rattle.rules.specs.Counted.{Try}
 use Rattle.rules.specs.Exist.{Mend}
 use Rattle.rules.specs.Set.{solid, setOf}
+use Rattle.kmer.specs.Kmer.{kmerOf}
 use Rattle.scenario.specs.Scenario.{spelledOut, Small}
 use Rattle.exist.specs.Exist.{mendsOf}
 use Rattle.exist.proofs.Chosen.{mends-length, mends-cons, mends-one, Asked, asked-none, asked-yes, asked-no, choose-one, choose-found, choose-refused}
@@ -17,7 +18,7 @@ use Rattle.exist.proofs.choose.Tie as tie
 abbrev Inv-loop : tie.InvT-loop
 Inv-loop set starts head c kmer s kept count chosen₀ remaining₀ lookups₀ i₀ chosen remaining lookups i =
     (i ≤ count) × (remaining ≤ i) × (lookups ≤ i) × Small chosen
-    × Asked (head .k) (solid (setOf set)) c s (kmer .code) (map spelledOut (take count kept)) i remaining (spelledOut chosen) lookups
+    × Asked (head .k) (solid (setOf set)) c s (kmerOf kmer) (map spelledOut (take count kept)) i remaining (spelledOut chosen) lookups
 
 abbrev μ-loop : tie.MeasureT-loop
 μ-loop set starts head c kmer s kept count chosen₀ remaining₀ lookups₀ i₀ chosen remaining lookups i = count - i

@@ -1,15 +1,19 @@
-use Prim.Native.Nat.{_+_}
+use Prim.Native.Nat.{_+_, _≤_}
+use native.Mathlib.Omega.{arith}
 use mathlib.Core.Path.{_≡_, ap, subst}
+use mathlib.Core.Bool.{true}
 use borrow.Author.Needs.{needs}
 use Rattle.rules.specs.Set.{solid, setOf}
 use Rattle.rules.specs.Counted.{Try, after}
 use Rattle.rules.specs.Scan.{alternative}
 use Rattle.rules.specs.Exist.{Mend, exist}
+use Rattle.kmer.specs.Kmer.{kmerOf}
 use Rattle.scan.specs.declared.Next.the-variants.{Kmer}
 use Rattle.scan.specs.Scan.{NextIs}
 use Rattle.scenario.specs.Scenario.{scenarios}
 use Rattle.exist.specs.declared.Pick.the-variants.{Mend as Use}
 use Rattle.exist.specs.Exist.{PickIs}
+use Rattle.scan.proofs.Laws.{alternative-at-most}
 use Rattle.exist.proofs.Attempts.{exist-none, exist-answer, exist-lookups, refused, full, mended}
 use Rattle.exist.proofs.correct_error.Statement.{statement}
 use Rattle.exist.proofs.correct_error.Tie as tie
@@ -18,27 +22,30 @@ abbrev attempt : tie.Start → Try Mend
 attempt b =
     let a = b .args in
     let sol = solid (setOf (a .set .now)) in
-    after (a .made) (exist (a .head .k) sol (a .c) (a .s .now) (scenarios (a .two) (a .head .k) sol) (a .kmer .code))
+    after (a .made) (exist (a .head .k) sol (a .c) (a .s .now) (scenarios (a .two) (a .head .k) sol) (kmerOf (a .kmer)))
 
 abbrev start : tie.After-x → tie.Start
 start c = c .before .before .before .before .before .before .before
 
+low : (c : tie.After-x) → 1 ≤ start c .args .head .k
+low c = start c .pre .0 .shifts .k-low
+
 -- the alternative
 x-is : (c : tie.After-x) → (let a = start c .args in
-    NextIs (a .head .k) (alternative (a .head .k) (solid (setOf (a .set .now))) (a .kmer .code) .answer) (Kmer (c .x .given .0 .0)))
+    NextIs (a .head .k) (alternative (a .head .k) (solid (setOf (a .set .now))) (kmerOf (a .kmer)) .answer) (Kmer (c .x .given .0 .0)))
 x-is c = subst (NextIs _ _) (c .x .given .1) (c .before .before .sole-alt .ensures)
 
 -- what was chosen, and what it cost, said of the attempt
 picked : (c : tie.After-choose) → PickIs (attempt (start (c .before .before .before)) .answer) (c .choose .result .pick)
 picked c =
     let g = c .before in
-    rw (exist-answer _ _ _ _ _ _ _ (x-is (g .before .before) .0) (g .get-scenarii .result) (g .get-scenarii .ensures)) (c .choose .ensures .is)
+    rw (exist-answer _ _ _ _ _ _ _ (low (g .before .before)) (x-is (g .before .before) .0) (g .get-scenarii .result) (g .get-scenarii .ensures)) (c .choose .ensures .is)
 
 paid : (c : tie.After-choose)
     → attempt (start (c .before .before .before)) .lookups ≡ start (c .before .before .before) .args .made + 4 + c .before .get-scenarii .result .lookups + c .choose .result .lookups
 paid c =
     let g = c .before in
-    exist-lookups _ _ _ _ _ _ _ (x-is (g .before .before) .0) (g .get-scenarii .result) (g .get-scenarii .ensures) (c .choose .ensures .lookups)
+    exist-lookups _ _ _ _ _ _ _ (low (g .before .before)) (x-is (g .before .before) .0) (g .get-scenarii .result) (g .get-scenarii .ensures) (c .choose .ensures .lookups)
 
 used : (c : tie.After-pick) → PickIs (attempt (start (c .before .before .before .before .before .before .before)) .answer) (Use (c .pick .given .0 .0))
 used c = subst (PickIs _) (c .pick .given .1) (picked (c .before .before .before .before))
@@ -52,12 +59,18 @@ enum-known-x c = search needs
 enum-told : tie.Need-enum-told
 enum-told c = search needs
 
-add-t18 : tie.Need-add-t18
-add-t18 c = search needs
+alt-cost-requires : tie.Need-alt-cost-requires
+alt-cost-requires c κs = search needs
+
+add-t19 : tie.Need-add-t19
+add-t19 c =
+    let b = c .before .before .before .before .before .before .before .before in
+    omega (arith, b .pre .3, c .alt-cost .ensures (λ y. true), alternative-at-most (b .args .head .k) (λ y. true) (kmerOf (b .args .kmer)))
 
 returns : tie.Need-returns
 returns c =
-    let e = exist-none _ _ _ _ _ _ _ (subst (NextIs _ _) (c .enum-told .given .1) (c .before .before .sole-alt .ensures)) in
+    let t = c .before in
+    let e = exist-none _ _ _ _ _ _ _ (subst (NextIs _ _) (t .enum-told .given .1) (t .before .before .sole-alt .ensures)) (c .alt-cost .ensures _) in
     refused (ap (λ (t : Try Mend). t .answer) e) (ap (λ (t : Try Mend). t .lookups) e)
 
 get-scenarii-requires : tie.Need-get-scenarii-requires
@@ -113,7 +126,8 @@ correct-error-spec =
     sole-alt-requires
     enum-known-x
     enum-told
-    add-t18
+    alt-cost-requires
+    add-t19
     returns
     get-scenarii-requires
     choose-requires

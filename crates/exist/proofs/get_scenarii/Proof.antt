@@ -1,15 +1,17 @@
 use Prim.Native.Nat.{ℕ, _+_, _-_, _*_, _≤_, _<_}
 use native.Mathlib.Omega.{arith}
 use mathlib.Core.Path.{subst, _≡_, refl, _∙_}
+use mathlib.Core.Bool.{true}
 use mathlib.Core.List.{map}
 use lib.ListN.{length, take, getD, length-set}
 use borrow.Author.Tests.{not-true, not-false}
 use borrow.Author.Needs.{needs}
 use Rattle.rules.specs.Exist.{Scenario}
 use Rattle.rules.specs.Set.{solid, setOf}
-use Rattle.kmer.specs.Kmer.{IsKmer}
+use Rattle.kmer.specs.Kmer.{kmerOf, IsKmer}
 use Rattle.scan.specs.declared.Next.the-variants.{Kmer}
 use Rattle.scenario.specs.Scenario.{numberOf, scenarios, nth, spelledOut, Small}
+use Rattle.scenario.proofs.Trials.{asked-le, solid-one}
 use Rattle.exist.specs.Exist.{EligibleIs, blank}
 use Rattle.exist.proofs.Scores.{Run, run-none, run-on, run-bad, run-all, tried-bad, tried-all, Done, done-none, done-refused, done-kept, done-answer, done-lookups, scenarios-length, number-le}
 use Rattle.exist.proofs.Chosen.{mends-store, small-store}
@@ -19,7 +21,7 @@ use Rattle.exist.proofs.get_scenarii.Tie as tie
 abbrev Inv-loop : tie.InvT-loop
 Inv-loop set starts head two c x s kept count lookups₀ end number₀ first start last kmer₀ j₀ lookups number kmer j =
     (number ≡ number₀) × (start ≤ j) × (j ≤ last) × IsKmer (head .k) kmer × (lookups ≡ lookups₀ + (j - start))
-    × Run (head .k) (solid (setOf set)) start last s (first .code) j (kmer .code)
+    × Run (head .k) (solid (setOf set)) start last s (kmerOf first) j (kmerOf kmer)
 
 abbrev μ-loop : tie.MeasureT-loop
 μ-loop set starts head two c x s kept count lookups₀ end number₀ first start last kmer₀ j₀ lookups number kmer j = last - j
@@ -28,7 +30,7 @@ abbrev Inv-scenarios : tie.InvT-scenarios
 Inv-scenarios set starts head two c x s kept₀ count₀ lookups₀ end number₀ kept count lookups number =
     (number ≤ end) × (count ≤ number) × (lookups ≤ number * 300) × (length kept ≡ 13)
     × ((i : ℕ) → i < count → Small (getD kept i blank))
-    × Done (head .k) (solid (setOf set)) c s (scenarios two (head .k) (solid (setOf set)) (x .code) s) number (map spelledOut (take count kept)) lookups
+    × Done (head .k) (solid (setOf set)) c s (scenarios two (head .k) (solid (setOf set)) (kmerOf x) s) number (map spelledOut (take count kept)) lookups
 
 abbrev μ-scenarios : tie.MeasureT-scenarios
 μ-scenarios set starts head two c x s kept₀ count₀ lookups₀ end number₀ kept count lookups number = end - number
@@ -46,11 +48,11 @@ numbered c = rw (← (c .before .before .number-of .ensures)) (c .scenarios-test
 abbrev here : tie.In-scenarios Inv-loop μ-loop Inv-scenarios μ-scenarios → Scenario
 here c =
     let a = start (c .before) .args in
-    nth (scenarios (a .two) (a .head .k) (solid (setOf (a .set .now))) (a .x .code) (a .s .now)) (c .before .scenarios .number)
+    nth (scenarios (a .two) (a .head .k) (solid (setOf (a .set .now))) (kmerOf (a .x)) (a .s .now)) (c .before .scenarios .number)
 
 inside : (c : tie.In-scenarios Inv-loop μ-loop Inv-scenarios μ-scenarios) → (let a = start (c .before) .args in
-    c .before .scenarios .number < length (scenarios (a .two) (a .head .k) (solid (setOf (a .set .now))) (a .x .code) (a .s .now)))
-inside c = let a = start (c .before) .args in rw (scenarios-length (a .two) (a .head .k) (solid (setOf (a .set .now))) (a .x .code) (a .s .now)) (numbered c)
+    c .before .scenarios .number < length (scenarios (a .two) (a .head .k) (solid (setOf (a .set .now))) (kmerOf (a .x)) (a .s .now)))
+inside c = let a = start (c .before) .args in rw (scenarios-length (a .two) (a .head .k) (solid (setOf (a .set .now))) (kmerOf (a .x)) (a .s .now)) (numbered c)
 
 abbrev at : tie.After-check-start Inv-loop μ-loop Inv-scenarios μ-scenarios → tie.After-eligible Inv-loop μ-loop Inv-scenarios μ-scenarios
 at c = c .before .before .before .before .before
@@ -128,17 +130,18 @@ shared-slice-read-add-base c = omega (arith, long (c .before .before .before))
 add-base-requires : tie.Need-add-base-requires Inv-loop μ-loop Inv-scenarios μ-scenarios
 add-base-requires c κs = search needs
 
+ask-requires : tie.Need-ask-requires Inv-loop μ-loop Inv-scenarios μ-scenarios
+ask-requires c κs = search needs
+
 add-lookups-2 : tie.Need-add-lookups-2 Inv-loop μ-loop Inv-scenarios μ-scenarios
 add-lookups-2 c =
-    let l = c .before .before .before in
-    omega (arith, spent l, few (at (l .before) .before .before))
-
-get-requires : tie.Need-get-requires Inv-loop μ-loop Inv-scenarios μ-scenarios
-get-requires c κs = search needs
+    let a = c .before in
+    let l = a .before .before .before .before in
+    omega (arith, asked-le _ _ (a .ask .ensures), spent l, few (at (l .before) .before .before))
 
 add-number-2 : tie.Need-add-number-2 Inv-loop μ-loop Inv-scenarios μ-scenarios
 add-number-2 c =
-    let l = c .before .before .before .before .before in
+    let l = c .before .before .before .before .before .before .before in
     omega (arith, l .loop .inv .0, few (at (l .before) .before .before))
 
 scenarios-less-2 : tie.Need-scenarios-less-2 Inv-loop μ-loop Inv-scenarios μ-scenarios
@@ -146,42 +149,44 @@ scenarios-less-2 c = search needs
 
 scenarios-again-2 : tie.Need-scenarios-again-2 Inv-loop μ-loop Inv-scenarios μ-scenarios
 scenarios-again-2 c =
-    let g = c .before in
+    let g = c .before .before .before in
     let n = g .before in
     let i = n .before .before in
     let l = i .before in
     let r = l .before in
     let e = at r in
     let a = e .before .before .scenarios in
-    let bad = run-bad _ _ _ _ _ _ (l .loop .inv .5) (l .loop .inv .1) (i .loop-test .taken) (long r) (n .add-base .ensures .is) (g .get .ensures) (not-true _ (c .if1 .taken)) in
+    let bad = run-bad _ _ _ _ _ _ (l .loop .inv .5) (l .loop .inv .1) (i .loop-test .taken) (long r) (n .add-base .ensures .is) (g .ask .ensures) (not-true _ (c .if1 .taken)) in
     let q = tried-bad _ _ _ _ (here (e .before)) _ _ (starts-at r) (given r .2) bad _ (given r .0) (omega arith) in
-    let z : l .loop .lookups + 1 ≡ a .lookups + (e .eligible .result .lookups + (l .loop .j - r .check-start .result + 1)) = omega (arith, l .loop .inv .4) in (
+    let z : l .loop .lookups + g .ask .result .lookups ≡ a .lookups + (e .eligible .result .lookups + (l .loop .j - r .check-start .result + g .ask .result .lookups)) =
+    omega (arith, l .loop .inv .4) in (
       omega (arith, l .loop .inv .0, e .before .scenarios-test .taken),
       omega (arith, l .loop .inv .0, a .inv .1),
-      omega (arith, l .loop .inv .0, spent l),
+      omega (arith, l .loop .inv .0, asked-le _ _ (g .ask .ensures), spent l),
       a .inv .3,
       a .inv .4,
       rw (l .loop .inv .0, z) (done-refused _ _ _ _ _ (a .inv .5) (inside (e .before)) q),
     )
 
 add-j : tie.Need-add-j Inv-loop μ-loop Inv-scenarios μ-scenarios
-add-j c = omega (arith, near (c .before .before .before .before .before .before))
+add-j c = omega (arith, near (c .before .before .before .before .before .before .before .before))
 
 loop-less : tie.Need-loop-less Inv-loop μ-loop Inv-scenarios μ-scenarios
 loop-less c = search needs
 
 loop-again : tie.Need-loop-again Inv-loop μ-loop Inv-scenarios μ-scenarios
 loop-again c =
-    let g = c .before in
+    let g = c .before .before .before in
     let n = g .before in
     let i = n .before .before in
-    let l = i .before in (
+    let l = i .before in
+    let found : g .ask .result .solid ≡ true = not-false _ (c .if1 .left) in (
       l .loop .inv .0,
       omega arith,
       search needs,
       n .add-base .ensures .kmer,
-      omega arith,
-      run-on _ _ _ _ _ _ (l .loop .inv .5) (l .loop .inv .1) (i .loop-test .taken) (long (l .before)) (n .add-base .ensures .is) (g .get .ensures) (not-false _ (c .if1 .left)),
+      omega (arith, solid-one _ _ (g .ask .ensures) found, l .loop .inv .4, l .loop .inv .1),
+      run-on _ _ _ _ _ _ (l .loop .inv .5) (l .loop .inv .1) (i .loop-test .taken) (long (l .before)) (n .add-base .ensures .is) (g .ask .ensures) found,
     )
 
 correct-requires : tie.Need-correct-requires Inv-loop μ-loop Inv-scenarios μ-scenarios
@@ -229,8 +234,8 @@ returns : tie.Need-returns Inv-loop μ-loop Inv-scenarios μ-scenarios
 returns c =
     let a = c .before .scenarios in
     let b = start (c .before) .args in
-    let end : length (scenarios (b .two) (b .head .k) (solid (setOf (b .set .now))) (b .x .code) (b .s .now)) ≤ a .number =
-    rw (scenarios-length (b .two) (b .head .k) (solid (setOf (b .set .now))) (b .x .code) (b .s .now), ← (c .before .before .number-of .ensures)) (c .scenarios-test .left) in
+    let end : length (scenarios (b .two) (b .head .k) (solid (setOf (b .set .now))) (kmerOf (b .x)) (b .s .now)) ≤ a .number =
+    rw (scenarios-length (b .two) (b .head .k) (solid (setOf (b .set .now))) (kmerOf (b .x)) (b .s .now), ← (c .before .before .number-of .ensures)) (c .scenarios-test .left) in
     record {
       answer = done-answer _ _ _ _ _ (a .inv .5) end;
       lookups = done-lookups _ _ _ _ _ (a .inv .5) end;
@@ -260,8 +265,8 @@ get-scenarii-spec =
     loop-holds
     shared-slice-read-add-base
     add-base-requires
+    ask-requires
     add-lookups-2
-    get-requires
     add-number-2
     scenarios-less-2
     scenarios-again-2

@@ -3,17 +3,18 @@ use native.Mathlib.Omega.{arith}
 use mathlib.Core.Path.{_≡_, refl, ap, _∙_}
 use lib.ListN.{length, drop}
 use borrow.Author.Needs.{needs}
-use Rattle.rules.specs.Letters.{add, addAll, last}
-use Rattle.kmer.specs.Kmer.{IsKmer}
+use Rattle.rules.specs.Letters.{add, addAll}
+use Rattle.kmer.specs.Kmer.{kmerOf, IsKmer}
 use Rattle.scan.proofs.Laws.{add-next, add-end}
-use Rattle.exist.proofs.Letters.{last-length, letter-code, placed}
+use Rattle.scenario.specs.Scenario.{spelledOut}
+use Rattle.exist.proofs.Letters.{spelled-length, letter-code, placed}
 use Rattle.exist.proofs.in_place.Statement.{statement}
 use Rattle.exist.proofs.in_place.Tie as tie
 
 abbrev Inv-loop : tie.InvT-loop
 Inv-loop mend head letters placed₀ i₀ placed i =
     (letters ≡ mend .letters) × (i ≤ letters) × IsKmer (head .k) placed
-    × (addAll (head .k) (placed₀ .code) (last letters (mend .code)) ≡ addAll (head .k) (placed .code) (drop i (last letters (mend .code))))
+    × (addAll (head .k) (kmerOf placed₀) (spelledOut mend .letters) ≡ addAll (head .k) (kmerOf placed) (drop i (spelledOut mend .letters)))
 
 abbrev μ-loop : tie.MeasureT-loop
 μ-loop mend head letters placed₀ i₀ placed i = letters - i
@@ -41,20 +42,20 @@ loop-again c =
     let l = c .before .before .before in
     let m = l .before .before .args .mend in
     let n = c .add-nuc-to-end .ensures in
-    let e = last-length (m .letters) (m .code) in (
+    let e = spelled-length m in (
       refl,
       search needs,
       n .kmer,
       l .loop .inv .3
-          ∙ add-next _ (l .loop .placed .code) _ (l .loop .i) (omega arith) (n .is ∙ ap (add _ _) (letter-code (c .before .letter-at .ensures))),
+          ∙ add-next _ (kmerOf (l .loop .placed)) _ (l .loop .i) (omega arith) (n .is ∙ ap (add _ _) (letter-code (c .before .letter-at .ensures))),
     )
 
 returns : tie.Need-returns Inv-loop μ-loop
 returns c =
     let l = c .before in
     let m = l .before .before .args .mend in
-    let e = last-length (m .letters) (m .code) in
-    let f : length (last (m .letters) (m .code)) ≤ l .loop .i = omega arith in
+    let e = spelled-length m in
+    let f : length (spelledOut m .letters) ≤ l .loop .i = omega arith in
     record {
       is = placed _ _ _ (l .before .drop-last .ensures .is) (l .loop .inv .3 ∙ add-end _ _ _ (l .loop .i) f);
       kmer = l .loop .inv .2;

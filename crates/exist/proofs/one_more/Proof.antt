@@ -2,6 +2,7 @@ use mathlib.Core.Path.{refl}
 use lib.Dec.{lit≤}
 use borrow.Author.Needs.{needs}
 use Rattle.scenario.specs.Scenario.{spelledOut}
+use Rattle.scenario.proofs.Trials.{asked-le}
 use Rattle.exist.proofs.Chosen.{more-short, more-long}
 use Rattle.exist.proofs.one_more.Statement.{statement}
 use Rattle.exist.proofs.one_more.Tie as tie
@@ -31,14 +32,14 @@ part-add-all-end c = search needs
 add-all-requires : tie.Need-add-all-requires
 add-all-requires c κs = search needs
 
-get-requires : tie.Need-get-requires
-get-requires c κs = search needs
+ask-requires : tie.Need-ask-requires
+ask-requires c κs = search needs
 
 returns-2 : tie.Need-returns-2
 returns-2 c =
     let a = c .before .before .before .before .before .before .before .before .args in
     let e = rw (c .before .before .before .in-place .ensures .is) at (c .before .add-all .ensures .is) in
-    record { is = more-long _ _ _ _ _ (spelledOut (a .mend)) (c .before .before .before .before .if1 .left) refl e (c .get .ensures); few = lit≤ tt }
+    record { is = more-long _ _ _ _ _ (spelledOut (a .mend)) (c .before .before .before .before .if1 .left) refl e (c .ask .ensures); few = asked-le _ _ (c .ask .ensures) }
 
 pub one-more-spec : {M : Type 1} → statement M
 one-more-spec =
@@ -52,5 +53,5 @@ one-more-spec =
     part-add-all-start
     part-add-all-end
     add-all-requires
-    get-requires
+    ask-requires
     returns-2)

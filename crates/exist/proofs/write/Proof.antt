@@ -3,14 +3,14 @@ use native.Mathlib.Omega.{arith}
 use mathlib.Core.Path.{_≡_, refl, sym, _∙_}
 use lib.ListN.{length, take}
 use borrow.Author.Needs.{needs}
-use Rattle.rules.specs.Letters.{last}
-use Rattle.exist.proofs.Letters.{last-length, write-next, write-end}
+use Rattle.scenario.specs.Scenario.{spelledOut}
+use Rattle.exist.proofs.Letters.{spelled-length, write-next, write-end}
 use Rattle.exist.proofs.write.Statement.{statement}
 use Rattle.exist.proofs.write.Tie as tie
 
 abbrev Inv-loop : tie.InvT-loop
 Inv-loop mend out₀ letters i₀ out i =
-    (letters ≡ mend .letters) × (i ≤ letters) × (length out ≡ length out₀) × (take i out ≡ take i (last letters (mend .code)))
+    (letters ≡ mend .letters) × (i ≤ letters) × (length out ≡ length out₀) × (take i out ≡ take i (spelledOut mend .letters))
 
 abbrev μ-loop : tie.MeasureT-loop
 μ-loop mend out₀ letters i₀ out i = letters - i
@@ -37,7 +37,7 @@ loop-again : tie.Need-loop-again Inv-loop μ-loop
 loop-again c =
     let l = c .before .before .before in
     let m = l .before .before .args .mend in
-    let e = last-length (m .letters) (m .code) in (
+    let e = spelled-length m in (
       refl,
       search needs,
       search needs,
@@ -51,7 +51,7 @@ returns : tie.Need-returns Inv-loop μ-loop
 returns c =
     let l = c .before in
     let m = l .before .before .args .mend in
-    (write-end _ _ (l .loop .i) (m .letters) (search needs) (omega (arith, last-length (m .letters) (m .code))) (l .loop .inv .3), search needs)
+    (write-end _ _ (l .loop .i) (m .letters) (search needs) (omega (arith, spelled-length m)) (l .loop .inv .3), search needs)
 
 pub write-spec : {M : Type 1} → statement M
 write-spec =

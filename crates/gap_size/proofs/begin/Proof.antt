@@ -1,4 +1,5 @@
 use borrow.Author.Needs.{needs}
+use Rattle.kmer.specs.Kmer.{kmerOf}
 use Rattle.gap_size.proofs.Bits.{begun}
 use Rattle.gap_size.proofs.begin.Statement.{statement}
 use Rattle.gap_size.proofs.begin.Tie as tie
@@ -16,6 +17,7 @@ same-length : tie.Need-same-length
 same-length c = search needs
 
 returns : tie.Need-returns
+unfolding kmerOf
 returns c =
     let m = c .before .before in
     begun _ _ (m .before .before .before .before .before .note .ensures) (rw (m .before .suffix-of .ensures) at (m .note2 .ensures))

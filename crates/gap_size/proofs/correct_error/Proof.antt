@@ -29,7 +29,7 @@ same-length c = search needs
 returns : tie.Need-returns
 returns c =
     let e = c .before .before .before .before .before .before .before in
-    gap-below _ _ _ _ _ _ (e .error-len .ensures) (c .before .before .before .before .if1 .taken) (c .before .before .from-scan .ensures)
+    gap-below _ _ _ _ _ _ (e .error-len .result) (e .error-len .ensures) (c .before .before .before .before .if1 .taken) (c .before .before .from-scan .ensures)
 
 correct-error-requires : tie.Need-correct-error-requires
 correct-error-requires c κs = let e = c .before .before .before .before .before .before .before in (entry e .pre .0, entry e .pre .1, entry e .pre .3, fits e .1)
@@ -41,7 +41,7 @@ returns-2 : tie.Need-returns-2
 returns-2 c =
     let q = c .before .before in
     let e = q .before .before .before .before .before .before .before .before in
-    gap-at _ _ _ _ _ _ (e .error-len .ensures) (q .before .before .before .before .before .if1 .left) (q .before .before .if2 .taken) (q .correct-error .ensures)
+    gap-at _ _ _ _ _ _ (e .error-len .result) (e .error-len .ensures) (q .before .before .before .before .before .if1 .left) (q .before .before .if2 .taken) (q .correct-error .ensures)
 
 ins-sub-correction-requires : tie.Need-ins-sub-correction-requires
 ins-sub-correction-requires c κs =
@@ -55,7 +55,7 @@ returns-3 : tie.Need-returns-3
 returns-3 c =
     let e = c .before .before .before .before .before .before .before .before .before .before in
     let le = c .before .before .before .before .before .before .before .if1 .left in
-    gap-above _ _ _ _ _ _ (e .error-len .ensures) le (c .before .before .before .before .if2 .left) (c .before .before .ins-sub-correction .ensures)
+    gap-above _ _ _ _ _ _ (e .error-len .result) (e .error-len .ensures) le (c .before .before .before .before .if2 .left) (c .before .before .ins-sub-correction .ensures)
 
 pub correct-error-spec : {M : Type 1} → statement M
 correct-error-spec =

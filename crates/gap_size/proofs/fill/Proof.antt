@@ -6,9 +6,11 @@ use lib.ListN.{length}
 use borrow.Author.Needs.{needs}
 use Rattle.rules.specs.Set.{maxKeys, solid, setOf}
 use Rattle.rules.specs.Scan.{sole}
+use Rattle.rules.proofs.Kmer.{Known}
+use Rattle.rules.proofs.Scan.{ask-known}
 use Rattle.kmer.specs.declared.Kmer.{Kmer}
-use Rattle.kmer.specs.Kmer.{IsKmer}
-use Rattle.scan.proofs.Laws.{no-next, next-kmer, nuc-lt}
+use Rattle.kmer.specs.Kmer.{kmerOf, IsKmer}
+use Rattle.scan.proofs.Laws.{no-next, next-kmer, nuc-lt, sole-known, known-asked}
 use Rattle.gap_size.specs.Gap.{passed}
 use Rattle.gap_size.specs.Filter.{suffix, Covers}
 use Rattle.gap_size.proofs.Bits.{move-begins}
@@ -24,8 +26,9 @@ Inv-loop set starts head x filter₀ out₀ lookups₀ before₀ at₀ moves i�
     × (length filter ≡ length filter₀)
     × (length out ≡ length out₀)
     × IsKmer (head .k) at
-    × Filling (head .k) (solid (setOf set)) moves (x .code) (at .code) i out
-    × Covers (head .k) filter (passed (head .k) (x .code) i out) (suffix (head .k) (at .code)) before
+    × Known (kmerOf at)
+    × Filling (head .k) (solid (setOf set)) moves (kmerOf x) (kmerOf at) i out
+    × Covers (head .k) filter (passed (head .k) (kmerOf x) i out) (suffix (head .k) (kmerOf at)) before
 
 abbrev μ-loop : tie.MeasureT-loop
 μ-loop set starts head x filter₀ out₀ lookups₀ before₀ at₀ moves i₀ filter out lookups before at i = moves - i
@@ -41,7 +44,11 @@ words : (c : tie.At-loop Inv-loop μ-loop) → length (c .loop .filter) ≡ leng
 words c = c .loop .inv .3 ∙ c .before .before .before .before .before .begin .ensures .same
 
 few-lookups : (c : tie.At-loop Inv-loop μ-loop) → 4 * c .loop .i ≤ 8 * maxKeys
-few-lookups c = let f = entry c .pre .0 in gap-room (c .loop .inv .6) (gap-bound (f .ready) _ _ (f .kmer .small) (f .lit))
+unfolding kmerOf
+few-lookups c = (let f = entry c .pre .0 in gap-room (c .loop .inv .7) (gap-bound (f .ready) _ _ (f .kmer .small) (f .lit)))
+
+low : (c : tie.At-loop Inv-loop μ-loop) → 1 ≤ entry c .args .head .k
+low c = entry c .pre .0 .ready .shifts .k-low
 
 -- the move: to the sole solid successor
 abbrev next : tie.After-add-nuc-to-end Inv-loop μ-loop → Kmer
@@ -55,7 +62,7 @@ turn c = from c .before
 
 told : (c : tie.After-add-nuc-to-end Inv-loop μ-loop)
     → let b = entry (turn c) in
-    (sole (b .args .head .k) (solid (setOf (b .args .set .now))) (turn c .loop .at .code) .answer ≡ some (next c .code)) × IsKmer (b .args .head .k) (next c)
+    (sole (b .args .head .k) (solid (setOf (b .args .set .now))) (kmerOf (turn c .loop .at)) .answer ≡ some (kmerOf (next c))) × IsKmer (b .args .head .k) (next c)
 told c =
     let n = c .before .before .before .before in
     next-kmer _ _ _ (n .sole-nuc .result) (n .before .next-nucs .ensures) (n .sole-nuc .ensures) _ (c .before .before .nuc .given .1) (c .add-nuc-to-end .ensures)
@@ -86,6 +93,7 @@ loop-holds c =
       refl,
       refl,
       b .pre .0 .kmer,
+      ask-known _ _ (b .pre .0 .lit),
       rw (w .ensures) (filling-start _ _ _ _ (b .args .out .now) (omega (arith, b .pre .0 .room))),
       rw passed-none (c .before .before .before .before .begin .ensures .covers),
     )
@@ -94,7 +102,7 @@ add-lookups-2 : tie.Need-add-lookups-2 Inv-loop μ-loop
 add-lookups-2 c = omega (arith, few-lookups (c .before), c .before .loop .inv .2, entry (c .before) .pre .0)
 
 next-nucs-requires : tie.Need-next-nucs-requires Inv-loop μ-loop
-next-nucs-requires c κs = (entry (c .before) .pre .0 .ready, c .before .loop .inv .5)
+next-nucs-requires c κs = (entry (c .before) .pre .0 .ready, c .before .loop .inv .5, known-asked _ _ (low (c .before)) (c .before .loop .inv .6))
 
 sole-nuc-requires : tie.Need-sole-nuc-requires Inv-loop μ-loop
 sole-nuc-requires c κs = search needs
@@ -117,7 +125,7 @@ returns c =
     let l = n .before .before .before in
     record {
       is = gap-refused _ _ _ _ _ _ _
-          (gap-dead (l .loop .inv .6) (n .before .before .loop-test .taken)
+          (gap-dead (low l) (l .loop .inv .6) (l .loop .inv .7) (n .before .before .loop-test .taken)
           (no-next _ _ _ (n .sole-nuc .result) (n .before .next-nucs .ensures) (n .sole-nuc .ensures) (c .enum-told .given .1)))
           (omega (arith, l .loop .inv .2));
       room = room l;
@@ -127,7 +135,8 @@ add-nuc-to-end-requires : tie.Need-add-nuc-to-end-requires Inv-loop μ-loop
 add-nuc-to-end-requires c κs =
     let n = c .before .before .before in
     let l = n .before .before .before in
-    (entry l .pre .0 .ready .shifts, l .loop .inv .5, nuc-lt _ _ _ (n .sole-nuc .result) (n .before .next-nucs .ensures) (n .sole-nuc .ensures) _ (c .before .nuc .given .1))
+    let small = nuc-lt _ _ _ (n .sole-nuc .result) (n .before .next-nucs .ensures) (n .sole-nuc .ensures) _ (c .before .nuc .given .1) in
+    (entry l .pre .0 .ready .shifts, l .loop .inv .5, omega (arith, small))
 
 meet-requires : tie.Need-meet-requires Inv-loop μ-loop
 meet-requires c κs =
@@ -135,7 +144,7 @@ meet-requires c κs =
     let l = turn m in
     let f = entry l .pre .0 in
     let lt = from m .loop-test .taken in
-    ((f .ready .shifts, f .kmer, omega (arith, l .loop .inv .1, lt), rw (words l) (entry l .pre .1)), rw (move-begins _ _ _ _ (f .ready .shifts .k-low) (told m .0)) (l .loop .inv .7))
+    ((f .ready .shifts, f .kmer, omega (arith, l .loop .inv .1, lt), rw (words l) (entry l .pre .1)), rw (move-begins _ _ _ _ (f .ready .shifts .k-low) (told m .0)) (l .loop .inv .8))
 
 same-length-3 : tie.Need-same-length-3 Inv-loop μ-loop
 same-length-3 c = words-after (c .before .before .before)
@@ -149,7 +158,7 @@ returns-2 c =
     let l = turn m in
     record {
       is = gap-refused _ _ _ _ _ _ _
-          (gap-repeats (l .loop .inv .6) (from m .loop-test .taken) _ (told m .0)
+          (gap-repeats (low l) (l .loop .inv .6) (l .loop .inv .7) (from m .loop-test .taken) _ (told m .0)
           (sym (c .before .before .before .meet .ensures .is) ∙ c .if1 .taken))
           (omega (arith, l .loop .inv .2));
       room = room l;
@@ -174,16 +183,16 @@ loop-again c =
     let q = c .before .before .before .before .before .before .before .meet .ensures in
     let l = turn m in
     let i = l .loop .inv in
-    let lt = from m .loop-test .taken in
-    let low = entry l .pre .0 .ready .shifts .k-low in (
+    let lt = from m .loop-test .taken in (
       omega arith,
       rw (w .kept .0) (i .1),
       omega (arith, i .2),
       q .same ∙ i .3,
       w .kept .0 ∙ i .4,
       told m .1,
-      rw (w .ensures) (gap-goes (i .6) lt _ (told m .0) low (omega (arith, i .1)) (sym (q .is) ∙ c .before .before .before .before .if1 .left)),
-      rw (w .ensures, passed-more (i .6) lt _ (told m .0) low (omega (arith, i .1))) (q .covers),
+      sole-known _ _ _ _ (told m .0),
+      rw (w .ensures) (gap-goes (low l) (i .6) (i .7) lt _ (told m .0) (omega (arith, i .1)) (sym (q .is) ∙ c .before .before .before .before .if1 .left)),
+      rw (w .ensures, passed-more (low l) (i .6) (i .7) lt _ (told m .0) (omega (arith, i .1))) (q .covers),
     )
 
 add-t32 : tie.Need-add-t32 Inv-loop μ-loop
@@ -202,7 +211,7 @@ returns-3 : tie.Need-returns-3 Inv-loop μ-loop
 returns-3 c =
     let l = c .before in
     record {
-      is = gap-mends _ _ _ _ _ (l .loop .inv .6) (c .loop-test .left) (l .loop .inv .0) (l .loop .inv .1) _ (omega (arith, l .loop .inv .2));
+      is = gap-mends _ _ _ _ _ (l .loop .inv .7) (c .loop-test .left) (l .loop .inv .0) (l .loop .inv .1) _ (omega (arith, l .loop .inv .2));
       room = room l;
     }
 

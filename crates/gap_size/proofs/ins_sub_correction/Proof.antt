@@ -1,14 +1,15 @@
 use Prim.Native.Nat.{_-_, _<_}
 use native.Mathlib.Omega.{arith}
-use mathlib.Core.Path.{_≡_, refl, subst}
+use mathlib.Core.Path.{_≡_, refl, _∙_, subst}
 use mathlib.Core.Option.{some}
 use borrow.Author.Needs.{needs}
 use Rattle.rules.specs.Set.{solid, setOf}
 use Rattle.rules.specs.Scan.{alternative}
 use Rattle.rules.proofs.Few.{SolidKmer}
 use Rattle.rules.proofs.Exactly.{x-good}
-use Rattle.kmer.specs.Kmer.{IsKmer}
+use Rattle.kmer.specs.Kmer.{kmerOf, IsKmer}
 use Rattle.scan.specs.Scan.{NextIs}
+use Rattle.scan.proofs.Laws.{alternative-at-most}
 use Rattle.gap_size.proofs.Laws.{gap-full, no-alternative, from-alternative}
 use Rattle.gap_size.proofs.ins_sub_correction.Statement.{statement}
 use Rattle.gap_size.proofs.ins_sub_correction.Tie as tie
@@ -19,7 +20,7 @@ entry c = c .before .before .before .before .before .before .before .before .bef
 
 told : (c : tie.After-x)
     → let b = entry c in
-    (alternative (b .args .head .k) (solid (setOf (b .args .set .now))) (b .args .kmer .code) .answer ≡ some (c .x .given .0 .0 .code))
+    (alternative (b .args .head .k) (solid (setOf (b .args .set .now))) (kmerOf (b .args .kmer)) .answer ≡ some (kmerOf (c .x .given .0 .0)))
     × IsKmer (b .args .head .k) (c .x .given .0 .0)
 told c = subst (NextIs _ _) (c .x .given .1) (c .before .before .sole-alt .ensures)
 
@@ -41,15 +42,20 @@ enum-known-x c = search needs
 enum-told : tie.Need-enum-told
 enum-told c = search needs
 
-add-t12 : tie.Need-add-t12
-add-t12 c = search needs
+alt-cost-requires : tie.Need-alt-cost-requires
+alt-cost-requires c κs = search needs
+
+add-t13 : tie.Need-add-t13
+add-t13 c =
+    let b = c .before .before .before .before .before .before .before .before .before .before .before in
+    let sol = solid (setOf (b .args .set .now)) in
+    omega (arith, b .pre .3, c .before .alt-cost .ensures sol, alternative-at-most (b .args .head .k) sol (kmerOf (b .args .kmer)))
 
 returns-2 : tie.Need-returns-2
 returns-2 c =
-    record {
-      is = no-alternative _ _ _ _ _ (subst (NextIs _ _) (c .before .enum-told .given .1) (c .before .before .before .sole-alt .ensures));
-      room = refl;
-    }
+    let b = c .before .before .before .before .before .before .before .before .before .before .before in
+    let w = no-alternative _ _ _ _ _ (subst (NextIs _ _) (c .before .before .enum-told .given .1) (c .before .before .before .before .sole-alt .ensures)) in
+    record { is = (w .0, w .1 ∙ rw (c .before .alt-cost .ensures (solid (setOf (b .args .set .now))))); room = refl }
 
 fill-by-length-requires : tie.Need-fill-by-length-requires
 unfolding SolidKmer
@@ -69,7 +75,7 @@ same-length : tie.Need-same-length
 same-length c = search needs
 
 returns-3 : tie.Need-returns-3
-returns-3 c = rw (from-alternative _ _ _ _ _ _ (told (c .before .before .before .before .before) .0)) (c .before .before .fill-by-length .ensures)
+returns-3 c = rw (from-alternative _ _ _ _ _ _ (entry (c .before .before .before .before .before) .pre .0 .shifts .k-low) (told (c .before .before .before .before .before) .0)) (c .before .before .fill-by-length .ensures)
 
 pub ins-sub-correction-spec : {M : Type 1} → statement M
 ins-sub-correction-spec =
@@ -80,7 +86,8 @@ ins-sub-correction-spec =
     sole-alt-requires
     enum-known-x
     enum-told
-    add-t12
+    alt-cost-requires
+    add-t13
     returns-2
     fill-by-length-requires
     same-length

@@ -1,6 +1,7 @@
 use mathlib.Core.Path.{sym, _∙_}
 use mathlib.Core.Logic.{inl, inr, ⊎-elim}
 use borrow.Author.Needs.{needs}
+use Rattle.kmer.specs.Kmer.{kmerOf}
 use Rattle.gap_size.specs.Filter.{suffix, Noted}
 use Rattle.gap_size.proofs.Bits.{asked, not-passed}
 use Rattle.gap_size.proofs.meet.Statement.{statement}
@@ -8,7 +9,7 @@ use Rattle.gap_size.proofs.meet.Tie as tie
 
 -- the next k-mer's last letters are noted
 told : (c : tie.After-note) → let b = c .before .before .before .before .before in
-    Noted (b .args .filter .now) (c .note .last .0) (suffix (b .args .head .k) (b .args .next .code)) (c .note .result)
+    Noted (b .args .filter .now) (c .note .last .0) (suffix (b .args .head .k) (kmerOf (b .args .next))) (c .note .result)
 told c = rw (c .before .suffix-of .ensures) at (c .note .ensures)
 
 suffix-of-requires : tie.Need-suffix-of-requires

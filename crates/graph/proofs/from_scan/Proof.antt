@@ -1,10 +1,12 @@
-use mathlib.Core.Path.{_≡_, refl, subst}
+use native.Mathlib.Omega.{arith}
+use mathlib.Core.Path.{_≡_, refl, _∙_, subst}
 use mathlib.Core.Option.{some}
 use borrow.Author.Needs.{needs}
 use Rattle.rules.specs.Set.{solid, setOf}
 use Rattle.rules.specs.Scan.{alternative}
-use Rattle.kmer.specs.Kmer.{IsKmer}
+use Rattle.kmer.specs.Kmer.{kmerOf, IsKmer}
 use Rattle.scan.specs.Scan.{NextIs, scanOf}
+use Rattle.scan.proofs.Laws.{alternative-known, alternative-at-most}
 use Rattle.graph.proofs.Laws.{no-alternative, from-alternative}
 use Rattle.graph.proofs.from_scan.Statement.{statement}
 use Rattle.graph.proofs.from_scan.Tie as tie
@@ -12,7 +14,7 @@ use Rattle.graph.proofs.from_scan.Tie as tie
 -- x
 told : (c : tie.After-x)
     → let b = c .before .before .before .before .before .before in
-    (alternative (b .args .head .k) (solid (setOf (b .args .set .now))) (b .args .kmer .code) .answer ≡ some (c .x .given .0 .0 .code))
+    (alternative (b .args .head .k) (solid (setOf (b .args .set .now))) (kmerOf (b .args .kmer)) .answer ≡ some (kmerOf (c .x .given .0 .0)))
     × IsKmer (b .args .head .k) (c .x .given .0 .0)
 told c = subst (NextIs _ _) (c .x .given .1) (c .before .before .sole-alt .ensures)
 
@@ -25,22 +27,27 @@ enum-known-x c = search needs
 enum-told : tie.Need-enum-told
 enum-told c = search needs
 
-add-t9 : tie.Need-add-t9
-add-t9 c = search needs
+alt-cost-requires : tie.Need-alt-cost-requires
+alt-cost-requires c κs = search needs
+
+add-t10 : tie.Need-add-t10
+add-t10 c =
+    let b = c .before .before .before .before .before .before .before .before in
+    let sol = solid (setOf (b .args .set .now)) in
+    omega (arith, b .pre .3, c .before .alt-cost .ensures sol, alternative-at-most (b .args .head .k) sol (kmerOf (b .args .kmer)))
 
 returns : tie.Need-returns
 returns c =
-    let b = c .before .before .before .before .before .before .before in
-    record {
-      is = no-alternative _ _ _ (scanOf (b .args .scan)) _
-          (subst (NextIs _ _) (c .before .enum-told .given .1) (c .before .before .before .sole-alt .ensures));
-      room = refl;
-    }
+    let b = c .before .before .before .before .before .before .before .before in
+    let w = no-alternative _ _ _ (scanOf (b .args .scan)) _
+    (subst (NextIs _ _) (c .before .before .enum-told .given .1) (c .before .before .before .before .sole-alt .ensures)) in
+    record { is = (w .0, w .1 ∙ rw (c .before .alt-cost .ensures (solid (setOf (b .args .set .now))))); room = refl }
 
 walk-requires : tie.Need-walk-requires
+unfolding kmerOf
 walk-requires c κs =
     let b = c .before .before .before .before .before .before .before .before in
-    (b .pre .0, told (c .before .before) .1, b .pre .2, b .pre .3)
+    (b .pre .0, told (c .before .before) .1, alternative-known _ _ _ _ (told (c .before .before) .0), b .pre .2, b .pre .3)
 
 same-length : tie.Need-same-length
 same-length c = search needs
@@ -49,7 +56,7 @@ returns-2 : tie.Need-returns-2
 returns-2 c =
     let x = c .before .before .before .before .before in
     let b = x .before .before .before .before .before .before in
-    rw (from-alternative _ _ _ (scanOf (b .args .scan)) _ _ (told x .0)) (c .before .before .walk .ensures)
+    rw (from-alternative _ _ _ (scanOf (b .args .scan)) _ _ (b .pre .0 .shifts .k-low) (told x .0)) (c .before .before .walk .ensures)
 
 pub from-scan-spec : {M : Type 1} → statement M
 from-scan-spec =
@@ -58,7 +65,8 @@ from-scan-spec =
     sole-alt-requires
     enum-known-x
     enum-told
-    add-t9
+    alt-cost-requires
+    add-t10
     returns
     walk-requires
     same-length

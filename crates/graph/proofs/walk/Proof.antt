@@ -8,12 +8,14 @@ use lib.ListN.{length}
 use borrow.Author.Needs.{needs}
 use borrow.Author.Tests.{not-true, not-false}
 use Rattle.rules.specs.Set.{maxKeys, solid, setOf}
-use Rattle.rules.specs.Scan.{sole}
+use Rattle.rules.specs.Scan.{ask, sole}
+use Rattle.rules.proofs.Kmer.{Known}
+use Rattle.rules.proofs.Scan.{ask-is}
 use Rattle.kmer.specs.declared.Kmer.{Kmer}
-use Rattle.kmer.specs.Kmer.{IsKmer}
+use Rattle.kmer.specs.Kmer.{kmerOf, IsKmer}
 use Rattle.set.proofs.Opened.{opened-n-le}
 use Rattle.scan.specs.Scan.{scanOf}
-use Rattle.scan.proofs.Laws.{no-next, next-kmer, nuc-lt}
+use Rattle.scan.proofs.Laws.{no-next, next-kmer, nuc-lt, sole-known, known-asked}
 use Rattle.graph.proofs.Laws.{Arrived, Going, going-start, walk-dark, walk-dead, walk-arrives, walk-meets, walk-marks, walk-goes, walk-stays, walk-over, walk-refused, walk-mends, walk-full}
 use Rattle.graph.proofs.walk.Statement.{statement}
 use Rattle.graph.proofs.walk.Tie as tie
@@ -26,14 +28,15 @@ Inv-loop set starts head scan out₀ end lookups₀ at₀ mark₀ marks-at₀ fu
     × (lookups ≡ lookups₀ + 5 * moves)
     × (length out ≡ length out₀)
     × IsKmer (head .k) at
-    × Going (head .k) (head .n) (solid (setOf set)) end (at₀ .code) (at .code) mark moves marks-at out
+    × Known (kmerOf at)
+    × Going (head .k) (head .n) (solid (setOf set)) (kmerOf end) (kmerOf at₀) (kmerOf at) (kmerOf mark) moves marks-at out
 
 abbrev μ-loop : tie.MeasureT-loop
 μ-loop set starts head scan out₀ end lookups₀ at₀ mark₀ marks-at₀ fuel moves₀ out lookups at mark marks-at moves = fuel - moves
 
 -- the function's entry, from the loop's head
 abbrev entry : tie.At-loop Inv-loop μ-loop → tie.Start Inv-loop μ-loop
-entry c = c .before .before .before .before .before .before .before .before .before .before .before .before
+entry c = c .before .before .before .before .before .before .before .before .before .before .before .before .before
 
 abbrev sol : tie.At-loop Inv-loop μ-loop → ℕ → Bool
 sol c = solid (setOf (entry c .args .set .now))
@@ -41,9 +44,16 @@ sol c = solid (setOf (entry c .args .set .now))
 room : (c : tie.At-loop Inv-loop μ-loop) → length (c .loop .out) ≡ length (entry c .args .out .now)
 room c = c .loop .inv .4 ∙ c .before .before .before .before .write-last .kept .0
 
--- the k-mer asked is solid
-lit : (c : tie.Else2 Inv-loop μ-loop) → let l = c .before .before .before in sol l (l .loop .at .code) ≡ true
-lit c = sym (c .before .get .ensures) ∙ not-false _ (c .if2 .left)
+low : (c : tie.At-loop Inv-loop μ-loop) → 1 ≤ entry c .args .head .k
+low c = entry c .pre .0 .shifts .k-low
+
+-- what the k-mer asked answered
+asked : (c : tie.After-get Inv-loop μ-loop) → let l = c .before .before in ask (sol l) (kmerOf (l .loop .at)) .answer ≡ c .get .result
+unfolding kmerOf
+asked c = (let l = c .before .before in ask-is (sol l) (kmerOf (l .loop .at)) (l .loop .inv .6) ∙ sym (c .get .ensures))
+
+lit : (c : tie.Else2 Inv-loop μ-loop) → let l = c .before .before .before in ask (sol l) (kmerOf (l .loop .at)) .answer ≡ true
+lit c = asked (c .before) ∙ not-false _ (c .if2 .left)
 
 -- the move: to the sole solid successor
 abbrev next : tie.After-add-nuc-to-end Inv-loop μ-loop → Kmer
@@ -57,7 +67,7 @@ turn c = from c .before .before .before
 
 told : (c : tie.After-add-nuc-to-end Inv-loop μ-loop)
     → let b = entry (turn c) in
-    (sole (b .args .head .k) (sol (turn c)) (turn c .loop .at .code) .answer ≡ some (next c .code)) × IsKmer (b .args .head .k) (next c)
+    (sole (b .args .head .k) (sol (turn c)) (kmerOf (turn c .loop .at)) .answer ≡ some (kmerOf (next c))) × IsKmer (b .args .head .k) (next c)
 told c =
     let n = c .before .before .before .before in
     next-kmer _ _ _ (n .sole-nuc .result) (n .before .next-nucs .ensures) (n .sole-nuc .ensures) _ (c .before .before .nuc .given .1) (c .add-nuc-to-end .ensures)
@@ -70,50 +80,63 @@ room-after : (c : tie.After-write-last2 Inv-loop μ-loop) → length (c .write-l
 room-after c = c .write-last2 .kept .0 ∙ room (turn (move c))
 
 came : (c : tie.Then3 Inv-loop μ-loop)
-    → let l = turn (c .before .before .before .before .before) in
+    → let l = turn (c .before .before .before .before .before .before) in
     let b = entry l in
-    Arrived (b .args .head .k) (b .args .head .n) (sol l) (b .args .scan .end) (b .args .x .code) (5 * l .loop .moves + 5) (l .loop .moves + 2)
-    (c .before .before .before .write-last2 .last .0)
+    Arrived (b .args .head .k) (b .args .head .n) (sol l) (kmerOf (b .args .scan .end)) (kmerOf (b .args .x)) (5 * l .loop .moves + 5) (l .loop .moves + 2)
+    (c .before .before .before .before .write-last2 .last .0)
 came c =
-    let m = c .before .before .before .before .before in
-    rw (c .before .before .before .write-last2 .ensures)
-    (walk-arrives (turn m .loop .inv .6) (from m .before .before .loop-test .taken) (lit (from m)) _ (told m .0) (c .if3 .taken))
+    let m = c .before .before .before .before .before .before in
+    let l = turn m in
+    rw (c .before .before .before .before .write-last2 .ensures)
+    (walk-arrives (low l) (l .loop .inv .6) (l .loop .inv .7) (from m .before .before .loop-test .taken) (lit (from m)) _ (told m .0)
+    (sym (c .before .same2 .ensures) ∙ c .if3 .taken))
 
 -- n is bounded
 keys : (c : tie.Start Inv-loop μ-loop) → c .args .head .n ≤ maxKeys
 keys c = rw (c .pre .0 .n-is) (opened-n-le _ (c .pre .0 .opens))
 
 add-lookups : tie.Need-add-lookups Inv-loop μ-loop
-add-lookups c = omega (arith, c .before .before .before .before .pre)
+add-lookups c = omega (arith, c .before .before .before .before .before .pre)
 
 returns : tie.Need-returns Inv-loop μ-loop
 returns c =
-    let b = c .before .before .before .before .before .before in
-    record { is = walk-refused _ _ _ (scanOf (b .args .scan)) _ _ 0 _ (walk-stays _ _ _ _ _ (c .if1 .taken)) (omega arith); room = refl }
+    let b = c .before .before .before .before .before .before .before in
+    record {
+      is = walk-refused _ _ _ (scanOf (b .args .scan)) _ _ 0 _ (walk-stays _ _ _ _ _ (sym (c .before .same .ensures) ∙ c .if1 .taken)) (omega arith);
+      room = refl;
+    }
+
+same-requires : tie.Need-same-requires Inv-loop μ-loop
+same-requires c κs = search needs
 
 write-last-requires : tie.Need-write-last-requires Inv-loop μ-loop
 write-last-requires c κs = search needs
 
 mul-fuel : tie.Need-mul-fuel Inv-loop μ-loop
-mul-fuel c = omega (arith, keys (c .before .before .before .before .before .before .before .before .before .before .before))
+mul-fuel c = omega (arith, keys (c .before .before .before .before .before .before .before .before .before .before .before .before))
 
 loop-holds : tie.Need-loop-holds Inv-loop μ-loop
+unfolding kmerOf
 loop-holds c =
-    let b = c .before .before .before .before .before .before .before .before .before .before .before in (
+    let b = c .before .before .before .before .before .before .before .before .before .before .before .before in (
       omega arith,
       omega (arith, keys b),
       omega arith,
       omega arith,
       refl,
       b .pre .1,
-      rw (c .before .before .before .write-last .ensures) (going-start _ _ _ _ _ (b .args .out .now) (c .before .before .before .before .before .if1 .left)),
+      b .pre .2,
+      rw (c .before .before .before .write-last .ensures)
+          (going-start _ _ _ (kmerOf (b .args .scan .end)) (kmerOf (b .args .x)) (b .args .out .now)
+          (sym (c .before .before .before .before .before .before .same .ensures) ∙ c .before .before .before .before .before .if1 .left)),
     )
 
 add-lookups-2 : tie.Need-add-lookups-2 Inv-loop μ-loop
 add-lookups-2 c = omega (arith, c .before .loop .inv, entry (c .before) .pre)
 
 get-requires : tie.Need-get-requires Inv-loop μ-loop
-get-requires c κs = (entry (c .before) .pre .0, c .before .loop .inv .5)
+unfolding kmerOf
+get-requires c κs = (entry (c .before) .pre .0, c .before .loop .inv .5, c .before .loop .inv .6)
 
 same-length : tie.Need-same-length Inv-loop μ-loop
 same-length c = room (c .before .before .before)
@@ -123,7 +146,7 @@ returns-2 c =
     let l = c .before .before .before in
     record {
       is = walk-refused _ _ _ (scanOf (entry l .args .scan)) _ _ _ _
-          (walk-dark (l .loop .inv .6) (c .before .before .loop-test .taken) (sym (c .before .get .ensures) ∙ not-true _ (c .if2 .taken)))
+          (walk-dark (low l) (l .loop .inv .6) (l .loop .inv .7) (c .before .before .loop-test .taken) (asked (c .before) ∙ not-true _ (c .if2 .taken)))
           (omega (arith, l .loop .inv .3));
       room = room l;
     }
@@ -132,7 +155,9 @@ add-lookups-3 : tie.Need-add-lookups-3 Inv-loop μ-loop
 add-lookups-3 c = omega (arith, c .before .before .before .loop .inv, entry (c .before .before .before) .pre)
 
 next-nucs-requires : tie.Need-next-nucs-requires Inv-loop μ-loop
-next-nucs-requires c κs = let l = c .before .before .before in (entry l .pre .0, l .loop .inv .5)
+next-nucs-requires c κs =
+    let l = c .before .before .before in
+    (entry l .pre .0, l .loop .inv .5, known-asked _ _ (low l) (l .loop .inv .6))
 
 sole-nuc-requires : tie.Need-sole-nuc-requires Inv-loop μ-loop
 sole-nuc-requires c κs = search needs
@@ -149,11 +174,11 @@ same-length-2 c = room (c .before .before .before .before .before .before .befor
 returns-3 : tie.Need-returns-3 Inv-loop μ-loop
 returns-3 c =
     let n = c .before .before in
-    let asked = n .before .before in
-    let l = asked .before .before .before in
+    let a = n .before .before in
+    let l = a .before .before .before in
     record {
       is = walk-refused _ _ _ (scanOf (entry l .args .scan)) _ _ _ _
-          (walk-dead (l .loop .inv .6) (asked .before .before .loop-test .taken) (lit asked)
+          (walk-dead (low l) (l .loop .inv .6) (l .loop .inv .7) (a .before .before .loop-test .taken) (lit a)
           (no-next _ _ _ (n .sole-nuc .result) (n .before .next-nucs .ensures) (n .sole-nuc .ensures) (c .enum-told .given .1)))
           (omega (arith, l .loop .inv .3));
       room = room l;
@@ -163,7 +188,8 @@ add-nuc-to-end-requires : tie.Need-add-nuc-to-end-requires Inv-loop μ-loop
 add-nuc-to-end-requires c κs =
     let n = c .before .before .before in
     let l = n .before .before .before .before .before in
-    (entry l .pre .0 .shifts, l .loop .inv .5, nuc-lt _ _ _ (n .sole-nuc .result) (n .before .next-nucs .ensures) (n .sole-nuc .ensures) _ (c .before .nuc .given .1))
+    let small = nuc-lt _ _ _ (n .sole-nuc .result) (n .before .next-nucs .ensures) (n .sole-nuc .ensures) _ (c .before .nuc .given .1) in
+    (entry l .pre .0 .shifts, l .loop .inv .5, omega (arith, small))
 
 add-write-last : tie.Need-add-write-last Inv-loop μ-loop
 add-write-last c = omega (arith, turn (c .before) .loop .inv)
@@ -171,21 +197,24 @@ add-write-last c = omega (arith, turn (c .before) .loop .inv)
 write-last-requires-2 : tie.Need-write-last-requires-2 Inv-loop μ-loop
 write-last-requires-2 c κs = search needs
 
+same-requires-2 : tie.Need-same-requires-2 Inv-loop μ-loop
+same-requires-2 c κs = search needs
+
 add-if4 : tie.Need-add-if4 Inv-loop μ-loop
-add-if4 c = omega (arith, turn (c .before .before .before .before .before) .loop .inv)
+add-if4 c = omega (arith, turn (c .before .before .before .before .before .before) .loop .inv)
 
 add-t32 : tie.Need-add-t32 Inv-loop μ-loop
-add-t32 c = omega (arith, turn (c .before .before .before .before .before .before) .loop .inv)
+add-t32 c = omega (arith, turn (c .before .before .before .before .before .before .before) .loop .inv)
 
 add-t33 : tie.Need-add-t33 Inv-loop μ-loop
-add-t33 c = omega (arith, entry (turn (c .before .before .before .before .before .before .before)) .pre .2)
+add-t33 c = omega (arith, entry (turn (c .before .before .before .before .before .before .before .before)) .pre .3)
 
 same-length-3 : tie.Need-same-length-3 Inv-loop μ-loop
-same-length-3 c = room-after (c .before .before .before .before .before)
+same-length-3 c = room-after (c .before .before .before .before .before .before)
 
 returns-4 : tie.Need-returns-4 Inv-loop μ-loop
 returns-4 c =
-    let w = c .before .before .before .before .before in
+    let w = c .before .before .before .before .before .before in
     let l = turn (move w) in
     record {
       is = walk-mends _ _ _ (scanOf (entry l .args .scan)) _ _ (came (c .before .before)) _ (omega (arith, l .loop .inv .3)) (c .before .if4 .taken);
@@ -193,54 +222,60 @@ returns-4 c =
     }
 
 same-length-4 : tie.Need-same-length-4 Inv-loop μ-loop
-same-length-4 c = room-after (c .before .before .before .before)
+same-length-4 c = room-after (c .before .before .before .before .before)
 
 returns-5 : tie.Need-returns-5 Inv-loop μ-loop
 returns-5 c =
-    let w = c .before .before .before .before in
+    let w = c .before .before .before .before .before in
     let r = room-after w in
     record {
       is = walk-full _ _ _ (scanOf (entry (turn (move w)) .args .scan)) _ _ (came (c .before)) _ (omega (arith, c .if4 .left));
       room = r;
     }
 
+same-requires-3 : tie.Need-same-requires-3 Inv-loop μ-loop
+same-requires-3 c κs = search needs
+
 same-length-5 : tie.Need-same-length-5 Inv-loop μ-loop
-same-length-5 c = room-after (c .before .before .before .before)
+same-length-5 c = room-after (c .before .before .before .before .before .before)
 
 returns-6 : tie.Need-returns-6 Inv-loop μ-loop
 returns-6 c =
-    let w = c .before .before .before .before in
+    let w = c .before .before .before .before .before .before in
     let m = move w in
     let l = turn m in
     record {
       is = walk-refused _ _ _ (scanOf (entry l .args .scan)) _ _ _ _
-          (walk-meets (l .loop .inv .6) (from m .before .before .loop-test .taken) (lit (from m)) _ (told m .0) (c .before .if3 .left) (c .if5 .taken))
+          (walk-meets (low l) (l .loop .inv .6) (l .loop .inv .7) (from m .before .before .loop-test .taken) (lit (from m)) _ (told m .0)
+          (sym (c .before .before .before .same2 .ensures) ∙ c .before .before .if3 .left)
+          (sym (c .before .same3 .ensures) ∙ c .if5 .taken))
           (omega (arith, l .loop .inv .3));
       room = room-after w;
     }
 
 add-if6 : tie.Need-add-if6 Inv-loop μ-loop
-add-if6 c = omega (arith, turn (c .before .before .before .before .before .before) .loop .inv)
+add-if6 c = omega (arith, turn (c .before .before .before .before .before .before .before .before) .loop .inv)
 
 mul-marks-at : tie.Need-mul-marks-at Inv-loop μ-loop
-mul-marks-at c = omega (arith, turn (c .before .before .before .before .before .before .before) .loop .inv)
+mul-marks-at c = omega (arith, turn (c .before .before .before .before .before .before .before .before .before) .loop .inv)
 
 add-moves : tie.Need-add-moves Inv-loop μ-loop
-add-moves c = omega (arith, turn (c .before .before .before .before .before .before .before) .loop .inv)
+add-moves c = omega (arith, turn (c .before .before .before .before .before .before .before .before .before) .loop .inv)
 
 loop-less : tie.Need-loop-less Inv-loop μ-loop
-loop-less c = omega (arith, from (c .before .before .before .before .before .before .before) .before .before .loop-test .taken)
+loop-less c = omega (arith, from (c .before .before .before .before .before .before .before .before .before) .before .before .loop-test .taken)
 
 loop-again : tie.Need-loop-again Inv-loop μ-loop
 loop-again c =
-    let w = c .before .before .before .before .before in
+    let w = c .before .before .before .before .before .before .before in
     let m = move w in
     let i = turn m .loop .inv in
     let lt = from m .before .before .loop-test .taken in
     let same = w .write-last2 .kept .0 ∙ i .4 in
     let solid-at = lit (from m) in
-    let ne = c .before .before .if3 .left in
-    let new = c .before .if5 .left in
+    let known = sole-known _ _ _ _ (told m .0) in
+    let ne = sym (c .before .before .before .before .same2 .ensures) ∙ c .before .before .before .if3 .left in
+    let new = sym (c .before .before .same3 .ensures) ∙ c .before .if5 .left in
     ⊎-elim
     (λ v. (
       omega arith,
@@ -249,7 +284,8 @@ loop-again c =
       omega (arith, i .3),
       same,
       told m .1,
-      rw (v .1, v .2, w .write-last2 .ensures) (walk-marks (i .6) lt solid-at _ (told m .0) ne new (v .0 .taken)),
+      known,
+      rw (v .1, v .2, w .write-last2 .ensures) (walk-marks (low (turn m)) (i .6) (i .7) lt solid-at _ (told m .0) ne new (v .0 .taken)),
     ))
     (λ v. (
       omega arith,
@@ -258,7 +294,8 @@ loop-again c =
       omega (arith, i .3),
       same,
       told m .1,
-      rw (v .1, v .2, w .write-last2 .ensures) (walk-goes (i .6) lt solid-at _ (told m .0) ne new (v .0 .left)),
+      known,
+      rw (v .1, v .2, w .write-last2 .ensures) (walk-goes (low (turn m)) (i .6) (i .7) lt solid-at _ (told m .0) ne new (v .0 .left)),
     ))
     (c .if6 .came)
 
@@ -269,7 +306,7 @@ returns-7 : tie.Need-returns-7 Inv-loop μ-loop
 returns-7 c =
     let l = c .before in
     record {
-      is = walk-refused _ _ _ (scanOf (entry l .args .scan)) _ _ _ _ (walk-over (l .loop .inv .6) (c .loop-test .left)) (omega (arith, l .loop .inv .3));
+      is = walk-refused _ _ _ (scanOf (entry l .args .scan)) _ _ _ _ (walk-over (l .loop .inv .7) (c .loop-test .left)) (omega (arith, l .loop .inv .3));
       room = room l;
     }
 
@@ -280,6 +317,7 @@ walk-spec =
     Inv-loop
     μ-loop
     add-lookups
+    same-requires
     returns
     write-last-requires
     mul-fuel
@@ -298,6 +336,7 @@ walk-spec =
     add-nuc-to-end-requires
     add-write-last
     write-last-requires-2
+    same-requires-2
     add-if4
     add-t32
     add-t33
@@ -305,6 +344,7 @@ walk-spec =
     returns-4
     same-length-4
     returns-5
+    same-requires-3
     same-length-5
     returns-6
     add-if6

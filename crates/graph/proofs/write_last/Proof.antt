@@ -2,6 +2,7 @@ use mathlib.Core.Path.{sym}
 use lib.Seq.{set-out}
 use borrow.Author.Needs.{needs}
 use Rattle.rules.specs.Letters.{lastLetter}
+use Rattle.kmer.specs.Kmer.{kmerOf}
 use Rattle.graph.proofs.write_last.Statement.{statement}
 use Rattle.graph.proofs.write_last.Tie as tie
 
@@ -15,7 +16,7 @@ same-length : tie.Need-same-length
 same-length c = search needs
 
 returns : tie.Need-returns
-unfolding lastLetter
+unfolding lastLetter kmerOf
 returns c = rw (c .bit2nuc .ensures)
 
 returns-2 : tie.Need-returns-2

@@ -1,40 +1,56 @@
 use native.Mathlib.Omega.{arith}
-use Rattle.rules.proofs.Kmer.{add-lt}
-use Rattle.kmer.proofs.Laws.{rev-add, rev-fits}
+use mathlib.Core.Path.{_≡_, ap, _∙_}
+use Prim.Native.Nat.{_%_}
+use Rattle.rules.specs.Letters.{add, complement}
+use Rattle.rules.proofs.Kmer.{push-lt}
+use lib.Dec.{lit<}
+use Rattle.kmer.specs.Kmer.{kmerOf}
+use Rattle.kmer.proofs.Laws.{low-bits, rev-add, rev-fits}
 use borrow.Author.Needs.{needs}
 use Rattle.kmer.proofs.add_nuc_to_end.Statement.{statement}
 use Rattle.kmer.proofs.add_nuc_to_end.Tie as tie
 
 shift-in-requires : tie.Need-shift-in-requires
-shift-in-requires c κs = search needs
+shift-in-requires c κs = (c .pre .0, c .pre .1 .small, omega (arith, low-bits (c .args .nuc)))
 
 pair-of-requires : tie.Need-pair-of-requires
-pair-of-requires c κs = search needs
+pair-of-requires c κs = (let b = c .before .before in (b .pre .0, omega (arith, low-bits (b .args .nuc))))
 
-mul-t7 : tie.Need-mul-t7
-mul-t7 c =
-    let b = c .before .before .before .before in
-    rw (c .before .pair-of .ensures)
-    (omega (arith, rev-fits (b .args .head) (b .args .kmer) (b .pre .0) (b .pre .1) (b .args .nuc) (b .pre .2)))
+-- the complement of the letter's two bits
+paired : (c : tie.After-pair-of) → c .pair-of .result ≡ complement (c .before .before .before .args .nuc % 4)
+paired c = c .pair-of .ensures ∙ ap complement (low-bits (c .before .before .before .args .nuc))
 
-add-t8 : tie.Need-add-t8
-add-t8 c =
+mul-t8 : tie.Need-mul-t8
+mul-t8 c =
     let b = c .before .before .before .before in
-    rw (c .before .pair-of .ensures)
-    (omega (arith, rev-fits (b .args .head) (b .args .kmer) (b .pre .0) (b .pre .1) (b .args .nuc) (b .pre .2)))
+    rw (paired (c .before))
+    (omega (arith, rev-fits (b .args .head) (b .args .kmer) (b .pre .0) (b .pre .1) (b .args .nuc % 4) (omega arith)))
+
+add-t9 : tie.Need-add-t9
+add-t9 c =
+    let b = c .before .before .before .before in
+    rw (paired (c .before))
+    (omega (arith, rev-fits (b .args .head) (b .args .kmer) (b .pre .0) (b .pre .1) (b .args .nuc % 4) (omega arith)))
+
+mark-in-requires : tie.Need-mark-in-requires
+mark-in-requires c κs = search needs
 
 returns : tie.Need-returns
+unfolding kmerOf add
 returns c =
-    let b = c .before .before .before .before in
-    let e = c .before .before .before .shift-in .ensures in
+    let b = c .before .before .before .before .before in
+    let e = c .before .before .before .before .shift-in .ensures in
+    let u = c .mark-in .ensures in
+    let m = low-bits (b .args .nuc) in
     record {
-      is = e;
+      is = λ i. record { code = (rw m at e) i; unknown = u i };
       kmer = record {
-        small = rw e (add-lt _ _ _);
-        turned = rw (e, c .before .pair-of .ensures)
-            (rev-add (b .args .head) (b .args .kmer) (b .pre .0) (b .pre .1) (b .args .nuc) (b .pre .2));
+        small = rw e (push-lt 4 _ _ _ (lit< tt));
+        turned = rw (e, m, paired (c .before .before))
+            (rev-add (b .args .head) (b .args .kmer) (b .pre .0) (b .pre .1) (b .args .nuc % 4) (omega arith));
+        unknown-lt = rw u (push-lt 2 _ _ _ (lit< tt));
       };
     }
 
 pub add-nuc-to-end-spec : {M : Type 1} → statement M
-add-nuc-to-end-spec = tie.close (tie.spec shift-in-requires pair-of-requires mul-t7 add-t8 returns)
+add-nuc-to-end-spec = tie.close (tie.spec shift-in-requires pair-of-requires mul-t8 add-t9 mark-in-requires returns)

@@ -1,4 +1,6 @@
 use mathlib.Core.Path.{refl}
+use Rattle.rules.specs.Letters.{dropLast}
+use Rattle.kmer.specs.Kmer.{kmerOf}
 use borrow.Author.Needs.{needs}
 use Rattle.rules.proofs.Kmer.{revcomp-lt, complement-lt}
 use Rattle.kmer.proofs.Laws.{revcomp-drop}
@@ -14,14 +16,16 @@ shift-in-requires c κs =
     (b .pre .0, rw (b .pre .1 .turned) (revcomp-lt _ _), rw (c .complement .ensures .0) (complement-lt 0))
 
 returns : tie.Need-returns
+unfolding dropLast kmerOf
 returns c =
-    let b = c .before .before .before in
+    let b = c .before .before .before .before in
     record {
       is = refl;
       kmer = record {
         small = search needs;
-        turned = rw (c .shift-in .ensures, c .before .complement .ensures .0, b .pre .1 .turned)
+        turned = rw (c .before .shift-in .ensures, c .before .before .complement .ensures .0, b .pre .1 .turned)
             (revcomp-drop _ _ (b .pre .0 .k-low) (b .pre .1 .small));
+        unknown-lt = search needs;
       };
     }
 

@@ -1,12 +1,14 @@
 use Prim.Native.Nat.{_-_, _≤_}
 use native.Mathlib.Omega.{arith}
+use native.Mathlib.Nat.{one-le-pow}
+use lib.Dec.{lit<}
 use mathlib.Core.Path.{_≡_, refl, sym, _∙_}
 use lib.ListN.{take}
 use lib.Seq.{slice, slice-empty}
 use borrow.Author.Needs.{needs}
 use Rattle.rules.specs.Letters.{addAll, kmer, code, complement}
-use Rattle.rules.proofs.Kmer.{four-pos, code-lt}
-use Rattle.kmer.specs.Kmer.{IsKmer}
+use Rattle.rules.proofs.Kmer.{four-pos, code-le}
+use Rattle.kmer.specs.Kmer.{IsKmer, kmerOf}
 use Rattle.kmer.proofs.Laws.{mask-fits, revcomp-zero, next-base}
 use Rattle.kmer.proofs.seq2bit.Statement.{statement}
 use Rattle.kmer.proofs.seq2bit.Tie as tie
@@ -16,7 +18,7 @@ Inv-loop seq head k kmer₀ i₀ kmer i =
     (k ≡ head .k)
     × (i ≤ k)
     × IsKmer (head .k) kmer
-    × (addAll (head .k) (kmer .code) (slice i (head .k) seq) ≡ addAll (head .k) 0 (take (head .k) seq))
+    × (addAll (head .k) (kmerOf kmer) (slice i (head .k) seq) ≡ addAll (head .k) (record { code = 0; unknown = 0 }) (take (head .k) seq))
 
 abbrev μ-loop : tie.MeasureT-loop
 μ-loop seq head k kmer₀ i₀ kmer i = k - i
@@ -31,11 +33,12 @@ mul-t8 c =
     rw (c .complement .ensures .0, b .pre .0 .mask-is) (omega (arith, mask-fits (b .args .head .k) (b .pre .0 .k-high)))
 
 loop-holds : tie.Need-loop-holds Inv-loop μ-loop
+unfolding kmerOf
 loop-holds c =
     let b = c .before .before .before in (
       refl,
       search needs,
-      record { small = four-pos _; turned = rw (c .complement .ensures .0, b .pre .0 .mask-is) (revcomp-zero _) },
+      record { small = four-pos _; turned = rw (c .complement .ensures .0, b .pre .0 .mask-is) (revcomp-zero _); unknown-lt = one-le-pow _ 2 (lit< tt) },
       refl,
     )
 
@@ -48,7 +51,7 @@ nuc2bit-requires c κs = search needs
 add-nuc-to-end-requires : tie.Need-add-nuc-to-end-requires Inv-loop μ-loop
 add-nuc-to-end-requires c κs =
     let l = c .before .before .before in
-    (l .before .before .before .before .pre .0, l .loop .inv .2, rw (c .nuc2bit .ensures) (code-lt _))
+    (l .before .before .before .before .pre .0, l .loop .inv .2, rw (c .nuc2bit .ensures) (code-le _))
 
 add-i : tie.Need-add-i Inv-loop μ-loop
 add-i c = search needs

@@ -2,6 +2,7 @@ use native.Mathlib.Omega.{arith}
 use mathlib.Core.Path.{ap, _∙_}
 use Rattle.rules.specs.Letters.{canonical}
 use Rattle.rules.specs.MakeSet.{lineKey}
+use Rattle.kmer.proofs.Laws.{code-is}
 use Rattle.kmer_text.proofs.Laws.{formed}
 use borrow.Author.Needs.{needs}
 use Rattle.kmer_text.proofs.line_key.Statement.{statement}
@@ -17,7 +18,7 @@ returns : tie.Need-returns
 unfolding lineKey
 returns c =
     let s = c .before in
-    c .canonical .ensures ∙ ap (canonical (s .before .before .args .head .k)) (s .seq2bit .ensures .is)
+    c .canonical .ensures ∙ ap (canonical (s .before .before .args .head .k)) (code-is (s .seq2bit .ensures))
 
 pub line-key-spec : {M : Type 1} → statement M
 line-key-spec = tie.close (tie.spec seq2bit-requires canonical-requires returns)

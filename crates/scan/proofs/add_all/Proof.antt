@@ -3,13 +3,13 @@ use mathlib.Core.Path.{_≡_, refl, sym, _∙_}
 use lib.ListN.{length, drop}
 use borrow.Author.Needs.{needs}
 use Rattle.rules.specs.Letters.{addAll}
-use Rattle.kmer.specs.Kmer.{IsKmer}
+use Rattle.kmer.specs.Kmer.{kmerOf, IsKmer}
 use Rattle.scan.proofs.Laws.{add-next, add-end}
 use Rattle.scan.proofs.add_all.Statement.{statement}
 use Rattle.scan.proofs.add_all.Tie as tie
 
 abbrev Inv-loop : tie.InvT-loop
-Inv-loop bases head last₀ i₀ i-end last i = (i ≤ length bases) × (i-end ≡ length bases) × IsKmer (head .k) last × (addAll (head .k) (last₀ .code) bases ≡ addAll (head .k) (last .code) (drop i bases))
+Inv-loop bases head last₀ i₀ i-end last i = (i ≤ length bases) × (i-end ≡ length bases) × IsKmer (head .k) last × (addAll (head .k) (kmerOf last₀) bases ≡ addAll (head .k) (kmerOf last) (drop i bases))
 
 abbrev μ-loop : tie.MeasureT-loop
 μ-loop bases head last₀ i₀ i-end last i = length bases - i
@@ -33,7 +33,7 @@ loop-again : tie.Need-loop-again Inv-loop μ-loop
 loop-again c =
     let n = c .add-base in
     let l = c .before .before .before .loop in
-    (search needs, search needs, n .ensures .kmer, l .inv .3 ∙ add-next _ (l .last .code) _ (l .i) (search needs) (n .ensures .is))
+    (search needs, search needs, n .ensures .kmer, l .inv .3 ∙ add-next _ (kmerOf (l .last)) _ (l .i) (search needs) (n .ensures .is))
 
 returns : tie.Need-returns Inv-loop μ-loop
 returns c =

@@ -1,7 +1,7 @@
 use mathlib.Core.Path.{ap, _∙_}
 use borrow.Author.Needs.{needs}
 use Rattle.rules.specs.Letters.{add}
-use Rattle.rules.proofs.Kmer.{code-lt}
+use Rattle.rules.proofs.Kmer.{code-le}
 use Rattle.scan.proofs.add_base.Statement.{statement}
 use Rattle.scan.proofs.add_base.Tie as tie
 
@@ -9,7 +9,7 @@ nuc2bit-requires : tie.Need-nuc2bit-requires
 nuc2bit-requires c κs = search needs
 
 add-nuc-to-end-requires : tie.Need-add-nuc-to-end-requires
-add-nuc-to-end-requires c κs = (search needs, search needs, rw (c .nuc2bit .ensures) (code-lt _))
+add-nuc-to-end-requires c κs = (search needs, search needs, rw (c .nuc2bit .ensures) (code-le _))
 
 returns : tie.Need-returns
 returns c =

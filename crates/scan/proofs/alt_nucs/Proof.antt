@@ -1,5 +1,6 @@
 use mathlib.Core.Path.{ap, _∙_}
 use borrow.Author.Needs.{needs}
+use Rattle.rules.specs.Letters.{Kmer, add}
 use Rattle.rules.specs.Scan.{successors}
 use Rattle.scan.proofs.alt_nucs.Statement.{statement}
 use Rattle.scan.proofs.alt_nucs.Tie as tie
@@ -8,7 +9,10 @@ drop-last-requires : tie.Need-drop-last-requires
 drop-last-requires c κs = search needs
 
 next-nucs-requires : tie.Need-next-nucs-requires
-next-nucs-requires c κs = search needs
+next-nucs-requires c κs =
+    let s = c .before .before .before in
+    let d = c .drop-last .ensures in
+    (s .pre .0, d .kmer, ap (λ (y : Kmer). add (s .args .head .k) y 0 .unknown) (d .is) ∙ s .pre .2)
 
 returns : tie.Need-returns
 returns c = c .next-nucs .ensures ∙ ap (successors _ _) (c .before .drop-last .ensures .is)

@@ -1,14 +1,36 @@
-use Prim.Native.Nat.{ℕ}
 use native.Mathlib.Omega.{arith}
-use mathlib.Core.Path.{ap, _∙_}
+use mathlib.Core.Path.{sym, ap, _∙_}
 use borrow.Author.Needs.{needs}
+use Rattle.rules.specs.Letters.{Kmer, dropLast}
+use Rattle.rules.specs.Set.{solid, setOf}
 use Rattle.rules.specs.Counted.{Try}
-use Rattle.scan.proofs.Laws.{alternative-is, no-next, next-is, nuc-lt}
+use Rattle.kmer.specs.Kmer.{kmerOf}
+use Rattle.scan.proofs.Laws.{alternative-is, alternative-cost, four-asked, sole-none, no-next, next-is, nuc-lt}
 use Rattle.scan.proofs.sole_alt.Statement.{statement}
 use Rattle.scan.proofs.sole_alt.Tie as tie
 
+alt-cost-requires : tie.Need-alt-cost-requires
+alt-cost-requires c κs = search needs
+
+returns : tie.Need-returns
+returns c =
+    let n = c .before in
+    let s = n .before .before .before in
+    let k = s .args .head .k in
+    let y = kmerOf (s .args .kmer) in
+    let sol = solid (setOf (s .args .set .now)) in
+    ap (λ (t : Try Kmer). t .answer) (alternative-is k sol y)
+    ∙ sole-none k (dropLast y) (s .pre .0 .shifts .k-low) sol (sym (alternative-cost k sol y) ∙ sym (n .alt-cost .ensures sol) ∙ c .if1 .taken)
+
 alt-nucs-requires : tie.Need-alt-nucs-requires
-alt-nucs-requires c κs = search needs
+alt-nucs-requires c κs =
+    let n = c .before in
+    let s = n .before .before .before in
+    let k = s .args .head .k in
+    let y = kmerOf (s .args .kmer) in
+    let sol = solid (setOf (s .args .set .now)) in
+    let asked = four-asked k (dropLast y) (s .pre .0 .shifts .k-low) sol (λ z. c .if1 .left (n .alt-cost .ensures sol ∙ alternative-cost k sol y ∙ z)) in
+    (s .pre .0, s .pre .1, asked)
 
 sole-nuc-requires : tie.Need-sole-nuc-requires
 sole-nuc-requires c κs = search needs
@@ -19,10 +41,10 @@ enum-known-nuc c = search needs
 enum-told : tie.Need-enum-told
 enum-told c = search needs
 
-returns : tie.Need-returns
-returns c =
+returns-2 : tie.Need-returns-2
+returns-2 c =
     let n = c .before .before in
-    ap (λ (t : Try ℕ). t .answer) (alternative-is _ _ _)
+    ap (λ (t : Try Kmer). t .answer) (alternative-is _ _ _)
     ∙ no-next _ _ _ (n .sole-nuc .result) (n .before .alt-nucs .ensures) (n .sole-nuc .ensures) (c .enum-told .given .1)
 
 drop-last-requires : tie.Need-drop-last-requires
@@ -34,8 +56,8 @@ add-nuc-to-end-requires c κs =
     let small = nuc-lt _ _ _ (n .sole-nuc .result) (n .before .alt-nucs .ensures) (n .sole-nuc .ensures) _ (c .before .before .nuc .given .1) in
     (search needs, search needs, omega (arith, small))
 
-returns-2 : tie.Need-returns-2
-returns-2 c =
+returns-3 : tie.Need-returns-3
+returns-3 c =
     let n = c .before .before .before .before .before in
     let e = c .add-nuc-to-end .ensures in (
       rw (e .is, c .before .drop-last .ensures .is, alternative-is)
@@ -47,11 +69,13 @@ pub sole-alt-spec : {M : Type 1} → statement M
 sole-alt-spec =
     tie.close
     (tie.spec
+    alt-cost-requires
+    returns
     alt-nucs-requires
     sole-nuc-requires
     enum-known-nuc
     enum-told
-    returns
+    returns-2
     drop-last-requires
     add-nuc-to-end-requires
-    returns-2)
+    returns-3)

@@ -13,7 +13,7 @@ use Rattle.turn.proofs.bad_base.Tie as tie
 -- The attempt, told of the whole read and output of which it was lent parts.
 tried : (c : tie.After-correct-error)
     → let s = c .before .before .before .before .before .before .before in
-    Tried _ _ _ _ _ _ _ _ (s .pre .0) _ (s .pre .1) (c .correct-error .last .1 .1 .1 .1 .1 .1 .1 .0) (c .correct-error .result)
+    Tried _ _ _ _ _ _ _ _ (s .pre .0) _ _ (s .pre .1) (c .correct-error .last .1 .1 .1 .1 .1 .1 .1 .0) (c .correct-error .result)
 tried c =
     let s = c .before .before .before .before .before .before .before in
     let a = s .args in
@@ -24,20 +24,20 @@ mended : (c : tie.After-tried)
     → let g = c .before .before .before .before in
     let s = g .before .before .before .before .before .before .before in
     let m = c .tried .given .0 in
-    Tried _ _ _ _ _ _ _ _ (s .pre .0) _ (s .pre .1) (g .correct-error .last .1 .1 .1 .1 .1 .1 .1 .0) (Mend (m .0) (m .1 .0) (m .1 .1 .0))
+    Tried _ _ _ _ _ _ _ _ (s .pre .0) _ _ (s .pre .1) (g .correct-error .last .1 .1 .1 .1 .1 .1 .1 .0) (Mend (m .0) (m .1 .0) (m .1 .1 .0))
 mended c =
     let g = c .before .before .before .before in
     let s = g .before .before .before .before .before .before .before in
-    subst (Tried _ _ _ _ _ _ _ _ (s .pre .0) _ (s .pre .1) _) (c .tried .given .1) (tried g)
+    subst (Tried _ _ _ _ _ _ _ _ (s .pre .0) _ _ (s .pre .1) _) (c .tried .given .1) (tried g)
 
 refused : (c : tie.After-tried2)
     → let g = c .before .before .before .before .before in
     let s = g .before .before .before .before .before .before .before in
-    Tried _ _ _ _ _ _ _ _ (s .pre .0) _ (s .pre .1) (g .correct-error .last .1 .1 .1 .1 .1 .1 .1 .0) (Refused (c .tried2 .given .0 .0))
+    Tried _ _ _ _ _ _ _ _ (s .pre .0) _ _ (s .pre .1) (g .correct-error .last .1 .1 .1 .1 .1 .1 .1 .0) (Refused (c .tried2 .given .0 .0))
 refused c =
     let g = c .before .before .before .before .before in
     let s = g .before .before .before .before .before .before .before in
-    subst (Tried _ _ _ _ _ _ _ _ (s .pre .0) _ (s .pre .1) _) (c .tried2 .given .1) (tried g)
+    subst (Tried _ _ _ _ _ _ _ _ (s .pre .0) _ _ (s .pre .1) _) (c .tried2 .given .1) (tried g)
 
 -- The letters are inside the output.
 inside : (c : tie.After-tried)
@@ -84,17 +84,25 @@ returns c =
     let s = g .before .before .before .before .before .before .before in
     let e =
     is-full (g .correct-error .result) (λ n r l e. not-mend (rw e at (c .before .match .keys2))) (λ l e. not-refused (rw e at (c .match2 .keys2))) in
-    no-room _ _ _ _ _ _ _ _ (s .pre .0) _ (s .pre .1) _ (subst (Tried _ _ _ _ _ _ _ _ (s .pre .0) _ (s .pre .1) _) e (tried g))
+    no-room _ _ _ _ _ _ _ _ (s .pre .0) _ _ (s .pre .1) _ (subst (Tried _ _ _ _ _ _ _ _ (s .pre .0) _ _ (s .pre .1) _) e (tried g))
 
 shared-slice-read-keep : tie.Need-shared-slice-read-keep
 shared-slice-read-keep c = search needs
+
+-- the counts of the whole turn
+add-keep : tie.Need-add-keep
+add-keep c =
+    let r = c .before .before in
+    let g = r .before .before .before .before .before in
+    let s = g .before .before .before .before .before .before .before in
+    omega (arith, refused-fits _ _ _ _ _ _ _ _ (s .pre .0) _ _ (s .pre .1) _ (omega (arith, s .good)) _ (refused r) .lookups)
 
 keep-requires : tie.Need-keep-requires
 keep-requires c κs =
     let r = c .before .before .before in
     let g = r .before .before .before .before .before in
     let s = g .before .before .before .before .before .before .before in
-    (omega (arith, s .good, s .pre .0 .more), refused-fits _ _ _ _ _ _ _ _ (s .pre .0) _ (s .pre .1) _ (omega (arith, s .good)) _ (refused r))
+    (omega (arith, s .good, s .pre .0 .more), refused-fits _ _ _ _ _ _ _ _ (s .pre .0) _ _ (s .pre .1) _ (omega (arith, s .good)) _ (refused r))
 
 same-length-2 : tie.Need-same-length-2
 same-length-2 c = search needs
@@ -106,7 +114,7 @@ returns-2 c =
     let g = r .before .before .before .before .before in
     let s = g .before .before .before .before .before .before .before in
     let l = g .correct-error .last .1 .1 .1 .1 .1 .1 .1 .0 in
-    refused-is _ _ _ _ _ _ _ _ (s .pre .0) _ (s .pre .1) l _ _ (k .keep .result) (refused r)
+    refused-is _ _ _ _ _ _ _ _ (s .pre .0) _ _ (s .pre .1) l _ _ (k .keep .result) (refused r)
     (rw (tail-back (s .args .out .now) l (s .args .p .written)) at (k .keep .ensures))
 
 add-end : tie.Need-add-end
@@ -129,8 +137,17 @@ part-mend-end c =
       arith,
       inside m,
       ap length (tail-back (s .args .out .now) (g .correct-error .last .1 .1 .1 .1 .1 .1 .1 .0) (s .args .p .written)),
-      length-back _ _ _ _ _ _ _ _ (s .pre .0) _ (s .pre .1) (g .correct-error .last .1 .1 .1 .1 .1 .1 .1 .0) (mended m .room),
+      length-back _ _ _ _ _ _ _ _ (s .pre .0) _ _ (s .pre .1) (g .correct-error .last .1 .1 .1 .1 .1 .1 .1 .0) (mended m .room),
     )
+
+add-mend : tie.Need-add-mend
+add-mend c =
+    let m = c .before .before .before in
+    let g = m .before .before .before .before in
+    let s = g .before .before .before .before .before .before .before in
+    let q = m .tried .given .0 in
+    let l = g .correct-error .last .1 .1 .1 .1 .1 .1 .1 .0 in
+    omega (arith, mended-fits _ _ _ _ _ _ _ _ (s .pre .0) _ _ (s .pre .1) l 0 (omega (arith, inside m, s .good)) (q .0) (q .1 .0) (q .1 .1 .0) (mended m) .lookups)
 
 mend-requires : tie.Need-mend-requires
 mend-requires c κs =
@@ -139,11 +156,11 @@ mend-requires c κs =
     let s = g .before .before .before .before .before .before .before in
     let q = m .tried .given .0 in
     let l = g .correct-error .last .1 .1 .1 .1 .1 .1 .1 .0 in
-    let back = ap length (letters-back _ _ _ _ _ _ _ _ (s .pre .0) _ (s .pre .1) l (q .0)) ∙ length-take-le (q .0) l (mended m .is .1) in (
+    let back = ap length (letters-back _ _ _ _ _ _ _ _ (s .pre .0) _ _ (s .pre .1) l (q .0)) ∙ length-take-le (q .0) l (mended m .is .1) in (
       s .pre .0 .ready .shifts,
       s .pre .1 .kmer .kmer,
       s .pre .0 .stands .at,
-      mended-fits _ _ _ _ _ _ _ _ (s .pre .0) _ (s .pre .1) l _ (omega (arith, inside m, s .good, back)) (q .0) (q .1 .0) (q .1 .1 .0) (mended m),
+      mended-fits _ _ _ _ _ _ _ _ (s .pre .0) _ _ (s .pre .1) l _ (omega (arith, inside m, s .good, back)) (q .0) (q .1 .0) (q .1 .1 .0) (mended m),
     )
 
 same-length-3 : tie.Need-same-length-3
@@ -157,8 +174,8 @@ returns-3 c =
     let q = m .tried .given .0 in
     let l = g .correct-error .last .1 .1 .1 .1 .1 .1 .1 .0 in
     rw (tail-back (s .args .out .now) l (s .args .p .written))
-    (mended-place _ _ _ _ _ _ _ _ (s .pre .0) _ (s .pre .1) l (q .0) (q .1 .0) (q .1 .1 .0) (c .mend .result) (mended m)
-    (rw (letters-back _ _ _ _ _ _ _ _ (s .pre .0) _ (s .pre .1) l (q .0)) at (c .mend .ensures)))
+    (mended-place _ _ _ _ _ _ _ _ (s .pre .0) _ _ (s .pre .1) l (q .0) (q .1 .0) (q .1 .1 .0) (c .mend .result) (mended m)
+    (rw (letters-back _ _ _ _ _ _ _ _ (s .pre .0) _ _ (s .pre .1) l (q .0)) at (c .mend .ensures)))
 
 pub bad-base-spec : {M : Type 1} → statement M
 bad-base-spec =
@@ -176,6 +193,7 @@ bad-base-spec =
     same-length
     returns
     shared-slice-read-keep
+    add-keep
     keep-requires
     same-length-2
     returns-2
@@ -183,6 +201,7 @@ bad-base-spec =
     sub-mend
     part-mend-start
     part-mend-end
+    add-mend
     mend-requires
     same-length-3
     returns-3)

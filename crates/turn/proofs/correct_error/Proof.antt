@@ -1,4 +1,5 @@
 use borrow.Author.Needs.{needs}
+use Rattle.kmer.specs.Kmer.{kmerOf}
 use Rattle.turn.proofs.Methods.{by-one, by-two, by-graph, by-gap-size}
 use Rattle.turn.proofs.correct_error.Statement.{statement}
 use Rattle.turn.proofs.correct_error.Tie as tie
@@ -24,7 +25,7 @@ returns c =
     let m = q .before .before in
     let s = m .before .before .before .before .before in
     let a = s .args in
-    rw (by-one _ _ (a .head) (s .pre .0) (a .method) (a .c) (a .s .now) (a .kmer .code) (m .match .keys1)) (q .correct-error .ensures)
+    rw (by-one _ _ (a .head) (s .pre .0) (a .method) (a .c) (a .s .now) (kmerOf (a .kmer)) (m .match .keys1)) (q .correct-error .ensures)
 
 same-length-2 : tie.Need-same-length-2
 same-length-2 c = search needs
@@ -35,7 +36,7 @@ returns-2 c =
     let m = q .before .before in
     let s = m .before .before .before .before .before in
     let a = s .args in
-    rw (by-two _ _ (a .head) (s .pre .0) (a .method) (a .c) (a .s .now) (a .kmer .code) (m .match .keys2)) (q .correct-error2 .ensures)
+    rw (by-two _ _ (a .head) (s .pre .0) (a .method) (a .c) (a .s .now) (kmerOf (a .kmer)) (m .match .keys2)) (q .correct-error2 .ensures)
 
 same-length-3 : tie.Need-same-length-3
 same-length-3 c = search needs
@@ -46,7 +47,7 @@ returns-3 c =
     let m = q .before .before in
     let s = m .before .before .before .before .before in
     let a = s .args in
-    rw (by-graph _ _ (a .head) (s .pre .0) (a .method) (a .c) (a .s .now) (a .kmer .code) (m .match .keys3)) (q .correct-error3 .ensures)
+    rw (by-graph _ _ (a .head) (s .pre .0) (a .method) (a .c) (a .s .now) (kmerOf (a .kmer)) (m .match .keys3)) (q .correct-error3 .ensures)
 
 same-length-4 : tie.Need-same-length-4
 same-length-4 c = search needs
@@ -58,7 +59,7 @@ returns-4 c =
     let s = m .before .before .before .before .before in
     let a = s .args in
     let others = m .match .rest in
-    rw (by-gap-size _ _ (a .head) (s .pre .0) (a .method) (a .c) (a .s .now) (a .kmer .code) (others .0 .0 .1) (others .0 .1) (others .1))
+    rw (by-gap-size _ _ (a .head) (s .pre .0) (a .method) (a .c) (a .s .now) (kmerOf (a .kmer)) (others .0 .0 .1) (others .0 .1) (others .1))
     (q .correct-error4 .ensures)
 
 pub correct-error-spec : {M : Type 1} → statement M

@@ -4,7 +4,7 @@ use mathlib.Core.Path.{_≡_, ap, _∙_}
 use mathlib.Core.Bool.{true}
 use mathlib.Core.Logic.{⊎-elim}
 use lib.ListN.{length}
-use Rattle.rules.specs.Letters.{addAll, inPlace}
+use Rattle.rules.specs.Letters.{Kmer, addAll, inPlace}
 use Rattle.turn.specs.Turn.{placeOf}
 use borrow.Author.Needs.{needs}
 use Rattle.turn.proofs.mend.Statement.{statement}
@@ -36,7 +36,7 @@ returns c =
     let stop : join .if1 .at ≡ min (a .p .at + a .resume) (a .len) = ⊎-elim (λ w. omega arith) (λ w. omega arith) (join .if1 .came) in
     record {
       kmer = l .add-all .result;
-      placed = record { is = e .is ∙ ap (λ (y : ℕ). addAll (a .head .k) y (a .letters .now)) (d .drop-last .ensures .is); kmer = e .kmer };
+      placed = record { is = e .is ∙ ap (λ (y : Kmer). addAll (a .head .k) y (a .letters .now)) (d .drop-last .ensures .is); kmer = e .kmer };
       is = c .moved .ensures ∙ ap (λ (at : ℕ). placeOf (a .p) (l .add-all .result) true at (length (a .letters .now)) (a .lookups) 1 1) stop;
     }
 

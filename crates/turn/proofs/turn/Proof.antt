@@ -6,6 +6,9 @@ use mathlib.Core.Bool.{true, false}
 use lib.ListN.{getD}
 use Rattle.rules.specs.Letters.{addBase}
 use Rattle.rules.specs.Set.{setOf, solid}
+use Rattle.rules.specs.Scan.{ask}
+use Rattle.kmer.specs.Kmer.{kmerOf}
+use Rattle.set.specs.Asked.{AskedIs}
 use Rattle.turn.proofs.Turns.{solid-turn, quiet-turn, keep-fits, kept-is}
 use Rattle.turn.proofs.turn.Statement.{statement}
 use Rattle.turn.proofs.turn.Tie as tie
@@ -16,20 +19,20 @@ shared-slice-read-base c = search needs
 add-base-requires : tie.Need-add-base-requires
 add-base-requires c κs = search needs
 
-get-requires : tie.Need-get-requires
-get-requires c κs = search needs
+ask-requires : tie.Need-ask-requires
+ask-requires c κs = search needs
 
--- The next k-mer's lookup.
-answer : (c : tie.After-get)
+-- The next k-mer asked.
+answer : (c : tie.After-ask)
     → let a = c .before .before .before .before .before .before .before .args in
-    solid (setOf (a .set .now)) (addBase (a .head .k) (a .p .kmer .code) (getD (a .read .now) (a .p .at) 0)) ≡ c .get .result
-answer c = rw (← (c .before .add-base .ensures .is)) (sym (c .get .ensures))
+    AskedIs (ask (solid (setOf (a .set .now))) (addBase (a .head .k) (kmerOf (a .p .kmer)) (getD (a .read .now) (a .p .at) 0))) (c .ask .result)
+answer c = rw (← (c .before .add-base .ensures .is)) (c .ask .ensures)
 
 keep-requires : tie.Need-keep-requires
 keep-requires c κs =
     let g = c .before .before in
     let s = g .before .before .before .before .before .before .before in
-    let f = keep-fits _ _ _ _ _ _ _ _ (s .pre) (omega (arith, s .good)) true 0 0 (solid-turn _ _ _ _ _ _ _ _ (s .pre) (answer g ∙ c .before .if1 .taken)) in
+    let f = keep-fits _ _ _ _ _ _ _ _ (s .pre) (omega (arith, s .good)) true 0 _ (solid-turn _ _ _ _ _ _ _ _ (s .pre) (g .ask .result) (answer g) (c .before .if1 .taken)) in
     (omega (arith, s .good, s .pre .more), f)
 
 same-length : tie.Need-same-length
@@ -40,15 +43,15 @@ returns c =
     let q = c .before .before in
     let g = q .before .before .before in
     let s = g .before .before .before .before .before .before .before in
-    kept-is _ _ _ _ _ _ _ _ (s .pre) (g .before .add-base .result) true 0 0 (s .args .out .now) _ (q .keep .result) (g .before .add-base .ensures) refl refl
-    (solid-turn _ _ _ _ _ _ _ _ (s .pre) (answer g ∙ q .before .before .if1 .taken)) (q .keep .ensures)
+    kept-is _ _ _ _ _ _ _ _ (s .pre) (g .before .add-base .result) true 0 (g .ask .result .lookups) (s .args .out .now) _ (q .keep .result) (g .before .add-base .ensures) refl refl
+    (solid-turn _ _ _ _ _ _ _ _ (s .pre) (g .ask .result) (answer g) (q .before .before .if1 .taken)) (q .keep .ensures)
 
 keep-requires-2 : tie.Need-keep-requires-2
 keep-requires-2 c κs =
     let g = c .before .before .before in
     let s = g .before .before .before .before .before .before .before in
-    let f = keep-fits _ _ _ _ _ _ _ _ (s .pre) (omega (arith, s .good)) false 0 0
-    (quiet-turn _ _ _ _ _ _ _ _ (s .pre) (answer g ∙ c .before .before .if1 .left) (not-true _ (c .before .if2 .taken))) in
+    let f = keep-fits _ _ _ _ _ _ _ _ (s .pre) (omega (arith, s .good)) false 0 _
+    (quiet-turn _ _ _ _ _ _ _ _ (s .pre) (g .ask .result) (answer g) (c .before .before .if1 .left) (not-true _ (c .before .if2 .taken))) in
     (omega (arith, s .good, s .pre .more), f)
 
 same-length-2 : tie.Need-same-length-2
@@ -59,14 +62,21 @@ returns-2 c =
     let q = c .before .before in
     let g = q .before .before .before .before in
     let s = g .before .before .before .before .before .before .before in
-    kept-is _ _ _ _ _ _ _ _ (s .pre) (g .before .add-base .result) false 0 0 (s .args .out .now) _ (q .keep2 .result) (g .before .add-base .ensures) refl refl
-    (quiet-turn _ _ _ _ _ _ _ _ (s .pre) (answer g ∙ q .before .before .before .if1 .left) (not-true _ (q .before .before .if2 .taken))) (q .keep2 .ensures)
+    kept-is _ _ _ _ _ _ _ _ (s .pre) (g .before .add-base .result) false 0 (g .ask .result .lookups) (s .args .out .now) _ (q .keep2 .result) (g .before .add-base .ensures) refl refl
+    (quiet-turn _ _ _ _ _ _ _ _ (s .pre) (g .ask .result) (answer g) (q .before .before .before .if1 .left) (not-true _ (q .before .before .if2 .taken))) (q .keep2 .ensures)
 
 bad-base-requires : tie.Need-bad-base-requires
 bad-base-requires c κs =
     let g = c .before .before .before in
-    let s = g .before .before .before .before .before .before .before in
-    (s .pre, record { kmer = g .before .add-base .ensures; weak = sym (g .get .ensures) ∙ c .before .before .if1 .left; previous = not-false _ (c .before .if2 .left) })
+    let s = g .before .before .before .before .before .before .before in (
+      s .pre,
+      record {
+        kmer = g .before .add-base .ensures;
+        weak = sym (g .ask .ensures .solid) ∙ c .before .before .if1 .left;
+        cost = g .ask .ensures .lookups;
+        previous = not-false _ (c .before .if2 .left);
+      },
+    )
 
 same-length-3 : tie.Need-same-length-3
 same-length-3 c = search needs
@@ -80,7 +90,7 @@ turn-spec =
     (tie.spec
     shared-slice-read-base
     add-base-requires
-    get-requires
+    ask-requires
     keep-requires
     same-length
     returns

@@ -4,6 +4,7 @@ use lib.Dec.{lit≤}
 use borrow.Author.Needs.{needs}
 use Rattle.rules.specs.Letters.{last}
 use Rattle.rules.specs.Exist.{row, one}
+use Rattle.kmer.specs.Kmer.{kmerOf}
 use Rattle.scenario.specs.Scenario.{nth}
 use Rattle.scenario.proofs.Numbers.{range, gives}
 use Rattle.scenario.proofs.one.correct.Statement.{statement}
@@ -13,11 +14,12 @@ row-of-requires : tie.Need-row-of-requires
 row-of-requires c κs = search needs
 
 returns : tie.Need-returns
-unfolding nth one row
+unfolding nth one row kmerOf
 returns c k sol s t =
     let n = c .before .args .number in
-    gives t _ 1 (c .row-of .ensures k sol (c .before .args .x) s) (lit≤ tt)
-    (range (λ i. last 1 (c .before .args .x) ≡ nth (one k sol (c .before .args .x) s) i .letters t) 0 3 (refl, (refl, (refl, tt))) n (omega arith) (omega arith))
+    let x = kmerOf (c .before .args .x) in
+    gives t x 1 (c .row-of .ensures k sol x s) (lit≤ tt)
+    (range (λ i. last 1 x ≡ nth (one k sol x s) i .letters t) 0 3 (refl, (refl, (refl, tt))) n (omega arith) (omega arith))
 
 pub correct-spec : {M : Type 1} → statement M
 correct-spec = tie.close (tie.spec row-of-requires returns)

@@ -4,9 +4,11 @@ use mathlib.Core.Path.{_≡_, refl}
 use lib.Dec.{lit≤}
 use lib.ListN.{length}
 use borrow.Author.Needs.{needs}
+use Rattle.rules.specs.Letters as letters
 use Rattle.rules.specs.Set.{solid, setOf}
 use Rattle.rules.specs.Counted.{Try, give, refuse}
 use Rattle.rules.specs.Exist.{Scenario, row, two}
+use Rattle.kmer.specs.Kmer.{kmerOf}
 use Rattle.scan.specs.declared.Next.the-variants.{Kmer, Refused}
 use Rattle.scenario.specs.declared.Trial.{Trial}
 use Rattle.scenario.specs.Scenario.{nth, trialOf, TrialIs}
@@ -17,7 +19,7 @@ use Rattle.scenario.proofs.two.apply.Tie as tie
 
 -- the scenario of a number
 abbrev sc : tie.After-row-of → ℕ → Scenario
-sc c n = let a = c .before .before .before .before .args in nth (two (a .head .k) (solid (setOf (a .set .now))) (a .x .code) (a .s .now)) n
+sc c n = let a = c .before .before .before .before .args in nth (two (a .head .k) (solid (setOf (a .set .now))) (kmerOf (a .x)) (a .s .now)) n
 
 abbrev number : tie.After-row-of → ℕ
 number c = c .before .before .before .before .args .number
@@ -26,7 +28,7 @@ number c = c .before .before .before .before .args .number
 long : (c : tie.Else1) (n : ℕ) → number (c .before .before) ≡ n → sc (c .before .before) n .least ≤ length (c .before .before .before .before .before .before .args .s .now)
 long c n e = rw (← e, ← (c .before .before .row-of .ensures _ _ _ _ .least)) (c .if1 .left)
 
-tried : (c : tie.Else1) (n : ℕ) {t : Try ℕ} {r : Trial} → number (c .before .before) ≡ n → sc (c .before .before) n .trial ≡ t
+tried : (c : tie.Else1) (n : ℕ) {t : Try letters.Kmer} {r : Trial} → number (c .before .before) ≡ n → sc (c .before .before) n .trial ≡ t
     → TrialIs (c .before .before .before .before .before .before .args .head .k) t r
     → TrialIs (c .before .before .before .before .before .before .args .head .k) (trialOf (c .before .before .before .before .before .before .args .s .now) (sc (c .before .before) (number (c .before .before)))) r
 tried c n e q h = rw (e, trial-long _ (sc (c .before .before) n) (long c n e), q) h

@@ -1,4 +1,5 @@
 use borrow.Author.Needs.{needs}
+use Rattle.kmer.specs.Kmer.{kmerOf}
 use Rattle.scenario.proofs.Numbers.{gives-one, gives-many}
 use Rattle.scenario.proofs.two.correct.Statement.{statement}
 use Rattle.scenario.proofs.two.correct.Tie as tie
@@ -10,16 +11,22 @@ row-of-requires : tie.Need-row-of-requires
 row-of-requires c κs = search needs
 
 returns : tie.Need-returns
+unfolding kmerOf
 returns c k sol s =
     let r = c .before in
     let a = r .before .before .args in
-    gives-one (a .x) (a .tried) _ (r .row-of .ensures k sol (a .x) s) (r .before .letters .ensures k sol (a .x) s (a .tried)) (c .if1 .taken)
+    let x = kmerOf (a .x) in
+    let t = kmerOf (a .tried) in
+    gives-one x t _ (r .row-of .ensures k sol x s) (r .before .letters .ensures k sol x s t) (c .if1 .taken)
 
 returns-2 : tie.Need-returns-2
+unfolding kmerOf
 returns-2 c k sol s =
     let r = c .before in
     let a = r .before .before .args in
-    gives-many (a .x) (a .tried) _ (r .row-of .ensures k sol (a .x) s) (r .before .letters .ensures k sol (a .x) s (a .tried)) (c .if1 .left)
+    let x = kmerOf (a .x) in
+    let t = kmerOf (a .tried) in
+    gives-many x t _ (r .row-of .ensures k sol x s) (r .before .letters .ensures k sol x s t) (c .if1 .left)
 
 pub correct-spec : {M : Type 1} → statement M
 correct-spec = tie.close (tie.spec letters-requires row-of-requires returns returns-2)

@@ -1,0 +1,29 @@
+use native.Mathlib.Omega.{arith}
+use mathlib.Core.Path.{_≡_, sym, ap, _∙_}
+use Rattle.rules.specs.Counted.{Counted}
+use mathlib.Core.Bool.{Bool}
+use Rattle.rules.proofs.Kmer.{ne-known}
+use Rattle.rules.proofs.Scan.{ask-is, ask-one, ask-none}
+use Rattle.kmer.specs.Kmer.{kmerOf}
+use borrow.Author.Needs.{needs}
+use Rattle.set.proofs.ask.Statement.{statement}
+use Rattle.set.proofs.ask.Tie as tie
+
+returns : tie.Need-returns
+unfolding kmerOf
+returns c =
+    let unknown : c .before .before .before .before .args .kmer .unknown ≡ 0 → ⊥ = λ e. omega arith in
+    let e = ask-none _ _ (ne-known _ unknown) in
+    record { solid = sym (ap (λ (t : Counted Bool). t .answer) e); lookups = sym (ap (λ (t : Counted Bool). t .lookups) e) }
+
+get-requires : tie.Need-get-requires
+get-requires c κs = search needs
+
+returns-2 : tie.Need-returns-2
+unfolding kmerOf
+returns-2 c =
+    let known : c .before .before .before .before .before .args .kmer .unknown ≡ 0 = omega arith in
+    record { solid = c .get .ensures ∙ sym (ask-is _ _ known); lookups = sym (ask-one _ _ known) }
+
+pub ask-spec : {M : Type 1} → statement M
+ask-spec = tie.close (tie.spec returns get-requires returns-2)
