@@ -19,3 +19,4 @@ pub mod Blocks
 pub mod MakeSet
 pub mod MakeSamples
 pub mod Demands
+pub mod Asked
