@@ -11,6 +11,7 @@ pub mod Walk
 pub mod Correctors
 pub mod Exactly
 pub mod Attempt
+pub mod Asked
 pub mod Opened
 pub mod Report
 pub mod Job
@@ -19,4 +20,3 @@ pub mod Blocks
 pub mod MakeSet
 pub mod MakeSamples
 pub mod Demands
-pub mod Asked
