@@ -2,6 +2,7 @@
 use crate::library::Library;
 use crate::oracle::{self, Keys};
 use crate::referee::calls::{self, Call, Entry, Job, Outcome};
+use crate::referee::ceilings::ceilings;
 use crate::referee::correctors::{Method, ALL_BY, ALL_EVENTS, BY, METHODS};
 use crate::referee::driver::Pass;
 use crate::referee::letters::code;
@@ -215,12 +216,13 @@ pub fn check_open(library: &dyn Library, site: &Site, tally: &mut Tally) -> Resu
     Ok(())
 }
 
-/// A call on all sides: every byte and count of every pass, the answer, and every lent byte afterwards. natir/br has no part where a read holds
-/// other bytes than the ten letters.
+/// A call on all sides: every byte and count of every pass, its ceilings, the answer, and every lent byte afterwards. natir/br has no part where
+/// a read holds other bytes than the ten letters.
 pub fn check_call(library: &dyn Library, site: &Site, job: &Job, buffers: &mut Buffers, tally: &mut Tally) -> Result<(), Disagreement> {
     let outcome = calls::call(&site.opened, job);
-    if let Some(keys) = &site.keys {
+    if let (Some(keys), Ok(set)) = (&site.keys, &site.opened) {
         for (read, passes) in calls::reads(job).into_iter().zip(&outcome.passes) {
+            check_ceilings(set, job, read, passes)?;
             if has_codes(read) {
                 check_passes(keys, job, read, passes, tally)?;
             } else {
@@ -253,6 +255,19 @@ pub fn check_call(library: &dyn Library, site: &Site, job: &Job, buffers: &mut B
             tally.several += several_confirms(&calls::entries(job)) as u64;
             tally.apart += tells_confirms_apart(site, job, &outcome) as u64;
         }
+    }
+    Ok(())
+}
+
+/// Demand 3, pass by pass.
+fn check_ceilings(set: &Set, job: &Job, read: &[u8], passes: &[Pass]) -> Result<(), Disagreement> {
+    let mut fed = read;
+    for (entry, pass) in calls::entries(job).into_iter().zip(passes) {
+        let Some(method) = Method::of(entry.method) else { break };
+        let (turns, lookups) = ceilings(set, method, entry.confirm, fed.len());
+        same("turns within their ceiling", pass.turns.min(turns), pass.turns)?;
+        same("lookups within their ceiling", pass.lookups.min(lookups), pass.lookups)?;
+        fed = &pass.bytes;
     }
     Ok(())
 }

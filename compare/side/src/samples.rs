@@ -17,7 +17,8 @@ pub const SAMPLES: [Sample; 31] = [
     (One, 1, "AACGCCG", "AACTCCG", None, Some(16)),
     (Two, 1, "AACCG", "AACCG", None, None),
     (Two, 2, "AACCG", "AACTCCG", None, None),
-    (Graph, 1, "AACGCCG", "AACTCCG", Some(1), Some(24)),
+    // 24 in document 01; document 02, W6.
+    (Graph, 1, "AACGCCG", "AACTCCG", Some(1), Some(21)),
     (Graph, 1, "AACGC", "AACGC", None, None),
     (GapSize, 1, "AACGCCG", "AACTCCG", None, Some(19)),
     (One, 1, "AA", "AA", None, None),
@@ -30,21 +31,21 @@ pub const SAMPLES: [Sample; 31] = [
     (One, 1, "AAN", "AAN", Some(0), Some(0)),
     (Two, 2, "AACNCCG", "AACNCCG", Some(4), Some(40)),
     (Two, 1, "AACCN", "AACTCCN", Some(3), Some(46)),
-    (Graph, 1, "AACNCCG", "AACTCCG", Some(1), Some(21)),
+    (Graph, 1, "AACNCCG", "AACTCCG", Some(1), Some(18)),
     (GapSize, 1, "AACNCCG", "AACTCCG", Some(4), Some(15)),
-    (GapSize, 1, "AACNNNNN", "AACTCCNN", Some(3), Some(47)),
+    (GapSize, 1, "AACNNNNN", "AACTCCNN", Some(3), Some(41)),
     // In T, which then equals no k-mer: the walk moves and pays. In the last two T would be x if the letter stood for A, as I does in 01.
-    (Graph, 1, "CGGN", "CGGN", Some(1), Some(25)),
-    (Graph, 1, "CCGTGGN", "CCGTGGN", None, Some(35)),
-    (Graph, 1, "AACGNCT", "AACGNCT", None, Some(51)),
-    (Graph, 1, "AACGICT", "AACGICT", None, Some(51)),
+    (Graph, 1, "CGGN", "CGGN", Some(1), Some(21)),
+    (Graph, 1, "CCGTGGN", "CCGTGGN", None, Some(30)),
+    (Graph, 1, "AACGNCT", "AACGNCT", None, Some(42)),
+    (Graph, 1, "AACGICT", "AACGICT", None, Some(42)),
     // What natir/br reads otherwise.
     (One, 1, "CTCN", "CTCN", Some(1), Some(8)),
     (One, 1, "CCGNA", "CCGGA", Some(2), Some(10)),
     // Lower case and U have codes; kept bases keep their byte.
     (One, 1, "aacgc", "aacTc", Some(2), Some(12)),
     (One, 1, "AACGUC", "AACTC", Some(2), Some(13)),
-    (Graph, 1, "aacguccg", "aacTCCg", Some(2), Some(20)),
+    (Graph, 1, "aacguccg", "aacTCCg", Some(2), Some(18)),
 ];
 
 /// Two of those reads, and what natir/br makes of them, which reads N as G (docs/DIFFERENCES.md).
@@ -68,7 +69,7 @@ pub fn wrong(library: &dyn Library) -> Vec<String> {
         }
     }
     let batch = job(Call::Batch, &[3, 1], b"AACGCCG\nAA\n");
-    if !gives(library, &batch, b"AACTCCG\nAA\n", Some(1), Some(24)) {
+    if !gives(library, &batch, b"AACTCCG\nAA\n", Some(1), Some(21)) {
         wrong.push("the printed batch differs".to_string());
     }
     let keys = Keys::new(K, &KEYS);

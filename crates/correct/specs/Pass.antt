@@ -24,7 +24,7 @@ PassIs room out n Full = room < length (n .bytes)
 
 -- The largest F of demand 3: GapSize's, at k = 31, confirm 255 and 16,777,216 keys.
 abbrev pub maxF : ℕ
-maxF = 503317293
+maxF = 402653997
 
 -- What i passes can count, none of them fed more than 1,048,576 bytes: sums of it do not wrap.
 pub record Small (i : ℕ) (p : rules.Pass) : Type 0 where

@@ -14,11 +14,11 @@ use lib.Seq.{take-append-le, take-all, take-nil, take-suc-set, set-out}
 use Rattle.rules.specs.Letters.{Kmer, same, lastLetter}
 use Rattle.rules.specs.Counted.{Try, after, refuse, give, next, _>>=_}
 use Rattle.rules.specs.Scan as rules
-use Rattle.rules.specs.Scan.{ask, sole, alternative, errorLen}
+use Rattle.rules.specs.Scan.{sole, alternative, errorLen}
 use Rattle.rules.specs.Exist.{Mend}
-use Rattle.rules.specs.Graph.{Walk, moveCost, start, moved, halt, walk, walkFrom, graphFrom, graph}
+use Rattle.rules.specs.Graph.{Walk, start, moved, halt, walk, walkFrom, graphFrom, graph}
 use Rattle.rules.proofs.Kmer.{Known}
-use Rattle.rules.proofs.Scan.{ask-one, scan-is}
+use Rattle.rules.proofs.Scan.{scan-is}
 use Rattle.scan.specs.declared.Attempt.{Attempt}
 use Rattle.scan.specs.declared.Scan.{Scan}
 use Rattle.scan.specs.Scan.{scanOf}
@@ -64,7 +64,7 @@ pub record Arrived (k n : ℕ) (sol : ℕ → Bool) (t x : Kmer) (l many : ℕ) 
 -- where a walk stands after i moves
 abbrev standing : Kmer → Kmer → ℕ → ℕ → List ℕ → Walk
 standing at mark i marks-at letters =
-    record { at = at; mark = mark; moves = i; marks-at = marks-at; letters = letters; lookups = 5 * i }
+    record { at = at; mark = mark; moves = i; marks-at = marks-at; letters = letters; lookups = 4 * i }
 
 -- what a walk from x to t still does after i moves, its letters in out
 pub record Going (k n : ℕ) (sol : ℕ → Bool) (t x at mark : Kmer) (i marks-at : ℕ) (out : List ℕ) : Type 0 where
@@ -89,69 +89,62 @@ module _ {k n : ℕ} {sol : ℕ → Bool} {t x at mark : Kmer} {i marks-at : ℕ
   one-move : 6 * n - i ≡ suc (6 * n - (i + 1))
   one-move = omega arith
 
-  five : moveCost k sol at ≡ 5
-  unfolding moveCost
-  five = omega (arith, ask-one sol at known, known-four k at low sol known)
+  four : sole k sol at .lookups ≡ 4
+  four = known-four k at low sol known
 
-  -- it is not solid
-  pub walk-dark : ask sol at .answer ≡ false → walkFrom k n sol t x ≡ halted (5 * i + 1)
+  pub walk-dead : sole k sol at .answer ≡ none → walkFrom k n sol t x ≡ halted (4 * i + 4)
   unfolding walk halt
-  walk-dark e = g .rest ∙ rw (one-move, walk, e, ask-one sol at known)
+  walk-dead e = g .rest ∙ rw (one-move, walk, e, four)
 
-  module _ (lit : ask sol at .answer ≡ true) where
-    pub walk-dead : sole k sol at .answer ≡ none → walkFrom k n sol t x ≡ halted (5 * i + 5)
-    unfolding walk halt
-    walk-dead e = g .rest ∙ rw (one-move, walk, lit, e, five)
+  module _ (y : Kmer) (e : sole k sol at .answer ≡ some y) where
+    letters′ : List ℕ
+    letters′ = g .letters ++ (lastLetter y ∷ [])
 
-    module _ (y : Kmer) (e : sole k sol at .answer ≡ some y) where
-      letters′ : List ℕ
-      letters′ = g .letters ++ (lastLetter y ∷ [])
+    count′ : length letters′ ≡ i + 2
+    unfolding letters′
+    count′ = length-append (g .letters) (lastLetter y ∷ []) ∙ omega (arith, g .count)
 
-      count′ : length letters′ ≡ i + 2
-      unfolding letters′
-      count′ = length-append (g .letters) (lastLetter y ∷ []) ∙ omega (arith, g .count)
+    holds′ : Holds letters′ (set out (i + 1) (lastLetter y))
+    unfolding letters′
+    holds′ = holds-more (g .letters) out (lastLetter y) (i + 1) (g .count) (g .holds)
 
-      holds′ : Holds letters′ (set out (i + 1) (lastLetter y))
-      unfolding letters′
-      holds′ = holds-more (g .letters) out (lastLetter y) (i + 1) (g .count) (g .holds)
+    pub walk-arrives : same y t ≡ true → Arrived k n sol t x (4 * i + 4) (i + 2) (set out (i + 1) (lastLetter y))
+    unfolding walk letters′
+    walk-arrives h =
+        record { letters = letters′; count = count′; holds = holds′; is = g .rest ∙ rw (one-move, walk, e, h, four) }
 
-      pub walk-arrives : same y t ≡ true → Arrived k n sol t x (5 * i + 5) (i + 2) (set out (i + 1) (lastLetter y))
-      unfolding walk letters′
-      walk-arrives h =
-          record { letters = letters′; count = count′; holds = holds′; is = g .rest ∙ rw (one-move, walk, lit, e, h, five) }
+    module _ (ne : same y t ≡ false) where
+      pub walk-meets : same y mark ≡ true → walkFrom k n sol t x ≡ halted (4 * i + 4)
+      unfolding walk halt
+      walk-meets h = g .rest ∙ rw (one-move, walk, e, ne, h, four)
 
-      module _ (ne : same y t ≡ false) where
-        pub walk-meets : same y mark ≡ true → walkFrom k n sol t x ≡ halted (5 * i + 5)
-        unfolding walk halt
-        walk-meets h = g .rest ∙ rw (one-move, walk, lit, e, ne, h, five)
+      module _ (new : same y mark ≡ false) where
+        goes : walkFrom k n sol t x ≡ walk k sol (6 * n - (i + 1)) t (moved (standing at mark i marks-at (g .letters)) y 4)
+        unfolding walk
+        goes = g .rest ∙ rw (one-move, walk, e, ne, new, four)
 
-        module _ (new : same y mark ≡ false) where
-          goes : walkFrom k n sol t x ≡ walk k sol (6 * n - (i + 1)) t (moved (standing at mark i marks-at (g .letters)) y 5)
-          unfolding walk
-          goes = g .rest ∙ rw (one-move, walk, lit, e, ne, new, five)
+        cost : 4 * (i + 1) ≡ 4 * i + 4
+        cost = omega arith
 
-          cost : 5 * (i + 1) ≡ 5 * i + 5
-          cost = omega arith
+        pub walk-marks : i + 1 ≡ marks-at → Going k n sol t x y y (i + 1) (2 * marks-at) (set out (i + 1) (lastLetter y))
+        unfolding moved letters′
+        walk-marks h =
+            record {
+              letters = letters′;
+              count = count′ ∙ omega arith;
+              holds = holds′;
+              rest = goes ∙ rw (cost, add-one, eq-eqb (suc i) marks-at (sym (add-one i) ∙ h));
+            }
 
-          pub walk-marks : i + 1 ≡ marks-at → Going k n sol t x y y (i + 1) (2 * marks-at) (set out (i + 1) (lastLetter y))
-          unfolding moved letters′
-          walk-marks h =
-              record {
-                letters = letters′;
-                count = count′ ∙ omega arith;
-                holds = holds′;
-                rest = goes ∙ rw (cost, add-one, eq-eqb (suc i) marks-at (sym (add-one i) ∙ h));
-              }
-
-          pub walk-goes : (i + 1 ≡ marks-at → ⊥) → Going k n sol t x y mark (i + 1) marks-at (set out (i + 1) (lastLetter y))
-          unfolding moved letters′
-          walk-goes h =
-              record {
-                letters = letters′;
-                count = count′ ∙ omega arith;
-                holds = holds′;
-                rest = goes ∙ rw (cost, add-one, ne-eqb (suc i) marks-at (λ q. h (add-one i ∙ q)));
-              }
+        pub walk-goes : (i + 1 ≡ marks-at → ⊥) → Going k n sol t x y mark (i + 1) marks-at (set out (i + 1) (lastLetter y))
+        unfolding moved letters′
+        walk-goes h =
+            record {
+              letters = letters′;
+              count = count′ ∙ omega arith;
+              holds = holds′;
+              rest = goes ∙ rw (cost, add-one, ne-eqb (suc i) marks-at (λ q. h (add-one i ∙ q)));
+            }
 
 -- T = x
 pub walk-stays : (k n : ℕ) (sol : ℕ → Bool) (t x : Kmer) → same x t ≡ true → walkFrom k n sol t x ≡ halted 0
@@ -160,11 +153,11 @@ walk-stays k n sol t x e = rw (e, walkFrom)
 
 -- the fuel has run out
 pub walk-over : {k n : ℕ} {sol : ℕ → Bool} {t x at mark : Kmer} {i marks-at : ℕ} {out : List ℕ} → Going k n sol t x at mark i marks-at out → 6 * n ≤ i
-    → walkFrom k n sol t x ≡ halted (5 * i)
+    → walkFrom k n sol t x ≡ halted (4 * i)
 unfolding walk halt
 walk-over {n = n} {i = i} g e =
     let z : 6 * n - i ≡ 0 = omega arith in
-    let l : 5 * i + 0 ≡ 5 * i = omega arith in
+    let l : 4 * i + 0 ≡ 4 * i = omega arith in
     g .rest ∙ rw (z, l)
 
 -- ---- the attempt that a walk makes, m lookups having been made before it

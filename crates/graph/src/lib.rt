@@ -1,4 +1,5 @@
-// Document 01, "Graph": ports src/correct/graph.rs. The mark takes the place of the source's hash set.
+// Document 01, "Graph": ports src/correct/graph.rs. The mark takes the place of the source's hash set. Document 02, W6: the source's
+// question whether the current k-mer is solid is not put.
 use kmer::Header;
 use kmer::Kmer;
 use scan::Attempt;
@@ -49,10 +50,6 @@ fn walk(set: &[u8], starts: &[u32], head: Header, scan: Scan, x: Kmer, out: &mut
     // It never runs out (the rules' theorem walk-moves).
     let fuel = 6 * head.n;
     for moves in 0..fuel {
-        lookups += 1;
-        if !set::get(set, starts, head, at) {
-            return Attempt::Refused(lookups);
-        }
         lookups += 4;
         let Sole::Nuc(nuc) = scan::sole_nuc(scan::next_nucs(set, starts, head, at)) else {
             return Attempt::Refused(lookups);

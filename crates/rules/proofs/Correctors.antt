@@ -53,18 +53,18 @@ module _ (j : ℕ) (sol : ℕ → Bool) (c′ F : ℕ) where
 -- ---- Graph
 
 module _ (k n : ℕ) (sol : ℕ → Bool) where
-  walkFrom-cost : (t x : Kmer) → walkFrom k n sol t x .lookups ≤ 30 * n
+  walkFrom-cost : (t x : Kmer) → walkFrom k n sol t x .lookups ≤ 24 * n
   unfolding walkFrom refuse start
   walkFrom-cost t x = go (same x t) refl
     where
-      go : (q : Bool) → same x t ≡ q → walkFrom k n sol t x .lookups ≤ 30 * n
+      go : (q : Bool) → same x t ≡ q → walkFrom k n sol t x .lookups ≤ 24 * n
       go true e = rw (e, walkFrom) (omega arith)
       go false e = rw (e, walkFrom) (omega (arith, walk-cost k sol (6 * n) t (start x)))
 
-  graphFrom-cost : (sc : Scan) (y : Kmer) → graphFrom k n sol sc y .lookups ≤ 4 + 30 * n
+  graphFrom-cost : (sc : Scan) (y : Kmer) → graphFrom k n sol sc y .lookups ≤ 4 + 24 * n
   unfolding graphFrom alternative give
   graphFrom-cost sc y =
-      le-trans (bind-cost (alternative k sol y) _ (30 * n) (λ x.
+      le-trans (bind-cost (alternative k sol y) _ (24 * n) (λ x.
       le-trans (bind-cost (walkFrom k n sol (sc .end) x) (λ ls. give (record { letters = ls; resume = suc (sc .index) })) 0 (λ ls. le-refl 0))
       (omega (arith, walkFrom-cost (sc .end) x))))
       (omega (arith, sole-cost k sol (dropLast y)))
@@ -76,8 +76,8 @@ module _ (k n : ℕ) (sol : ℕ → Bool) where
       let v = bind-some (walkFrom k n sol (sc .end) (w .0)) (λ ls. give (record { letters = ls; resume = suc (sc .index) })) m (w .2) in
       sym (ap (λ (m′ : Mend). m′ .resume) (Option·some-injective _ m (v .2)))
 
-  -- Graph from the scan of an attempt is fair to any F from 6 + 30n on
-  graphFrom-fair : (F b : ℕ) (s : List ℕ) (y : Kmer) → 6 + 30 * n ≤ F
+  -- Graph from the scan of an attempt is fair to any F from 6 + 24n on
+  graphFrom-fair : (F b : ℕ) (s : List ℕ) (y : Kmer) → 6 + 24 * n ≤ F
       → FairAt k sol F b s y (after (errorLen k sol y (b ∷ s) .lookups) (graphFrom k n sol (errorLen k sol y (b ∷ s)) y))
   unfolding after errorLen
   graphFrom-fair F b s y le =
@@ -94,7 +94,7 @@ module _ (k n : ℕ) (sol : ℕ → Bool) where
             );
       }
 
-  pub graph-fair : (F : ℕ) → 6 + 30 * n ≤ F → Fair k sol (graph k n sol) F
+  pub graph-fair : (F : ℕ) → 6 + 24 * n ≤ F → Fair k sol (graph k n sol) F
   unfolding graph
   graph-fair F le = record { least = omega arith; at = λ b s y. graphFrom-fair F b s y le }
 
@@ -196,7 +196,7 @@ module _ (k : ℕ) (sol : ℕ → Bool) where
         (omega (arith, gap-cost m (x ∷ []) x 0 (also-distinct refl end-distinct) (also g end)))))
         (omega (arith, sole-cost k sol (dropLast y)))
 
-module _ (j n : ℕ) (sol : ℕ → Bool) (c′ : ℕ) (few : Few (suc j) n sol) (F : ℕ) (enough : 17 + suc j + 3 * suc c′ + 30 * n ≤ F) where
+module _ (j n : ℕ) (sol : ℕ → Bool) (c′ : ℕ) (few : Few (suc j) n sol) (F : ℕ) (enough : 17 + suc j + 3 * suc c′ + 24 * n ≤ F) where
   abbrev k : ℕ
   k = suc j
 

@@ -142,11 +142,11 @@ module _ (bytes : List ℕ) (set : KmerSet) (o : opened bytes ≡ accepted set) 
 
   -- A walk makes fewer than 6n moves.
   pub walk-moves : (y x : Kmer) → alternative k (solid set) y .answer ≡ some x → (t : Kmer)
-      → walkFrom k n (solid set) t x .lookups ≤ 5 * (6 * n - 1)
+      → walkFrom k n (solid set) t x .lookups ≤ 4 * (6 * n - 1)
   unfolding walkFrom refuse start
   walk-moves y x a t = go (same x t) refl
     where
-      go : (q : Bool) → same x t ≡ q → walkFrom k n (solid set) t x .lookups ≤ 5 * (6 * n - 1)
+      go : (q : Bool) → same x t ≡ q → walkFrom k n (solid set) t x .lookups ≤ 4 * (6 * n - 1)
       go true e = rw (e, walkFrom) (omega arith)
       go false e =
           let same = walk-fuel k n (solid set) (few set) x (x-good k (solid set) y x a) (6 * n - 1) t (omega arith) in

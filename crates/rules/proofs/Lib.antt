@@ -11,6 +11,7 @@ pub mod Walk
 pub mod Correctors
 pub mod Exactly
 pub mod Attempt
+pub mod Asked
 pub mod Opened
 pub mod Report
 pub mod Job

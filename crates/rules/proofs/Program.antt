@@ -20,7 +20,7 @@ pub printedWhole :
     printed (record { set = some sampleBytes; job = some (3 ∷ 1 ∷ []); batch = some (A ∷ A ∷ C ∷ G ∷ C ∷ C ∷ G ∷ 10 ∷ A ∷ A ∷ 10 ∷ []) })
     ≡ A ∷ A ∷ C ∷ T ∷ C ∷ C ∷ G ∷ 10 ∷ A ∷ A ∷ 10  -- AACTCCG, AA
     ∷ 116 ∷ 117 ∷ 114 ∷ 110 ∷ 115 ∷ 32 ∷ 49 ∷ 32  -- turns 1
-    ∷ 108 ∷ 111 ∷ 111 ∷ 107 ∷ 117 ∷ 112 ∷ 115 ∷ 32 ∷ 50 ∷ 52 ∷ 32  -- lookups 24
+    ∷ 108 ∷ 111 ∷ 111 ∷ 107 ∷ 117 ∷ 112 ∷ 115 ∷ 32 ∷ 50 ∷ 49 ∷ 32  -- lookups 21
     ∷ 119 ∷ 114 ∷ 105 ∷ 116 ∷ 116 ∷ 101 ∷ 110 ∷ 32 ∷ 49 ∷ 49 ∷ 10 ∷ []  -- written 11
 unfolding printed sampleBytes
 printedWhole = refl

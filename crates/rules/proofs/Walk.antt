@@ -14,8 +14,8 @@ use lib.Dec.{eqb}
 use Rattle.rules.specs.Letters.{Kmer, same, met, lastLetter}
 use Rattle.rules.specs.Counted.{refuse}
 use Rattle.rules.specs.Scan.{ask, sole}
-use Rattle.rules.specs.Graph.{All, end, also, Distinct, end-distinct, also-distinct, spell, OnlySuccessor, Moves, move, more, Chain, Walk, moveCost, start, moved, halt, walk, walkFrom}
-use Rattle.rules.proofs.Scan.{ask-known, ask-cost, sole-is, sole-found, sole-lt, sole-cost}
+use Rattle.rules.specs.Graph.{All, end, also, Distinct, end-distinct, also-distinct, spell, OnlySuccessor, Moves, move, more, Chain, Walk, start, moved, halt, walk, walkFrom}
+use Rattle.rules.proofs.Scan.{ask-known, sole-is, sole-found, sole-lt, sole-cost}
 use Rattle.rules.proofs.Kmer.{same-true, same-self, same-ne, same-false}
 use Rattle.rules.proofs.Few.{or-right, or-false, SolidKmer, Few}
 
@@ -81,27 +81,27 @@ module _ (k : ℕ) (sol : ℕ → Bool) where
 
   -- ---- the walk, case by case
 
-  module _ (f : ℕ) (t : Kmer) (w : Walk) (lit : ask sol (w .at) .answer ≡ true) where
+  module _ (f : ℕ) (t : Kmer) (w : Walk) where
     abbrev cost : ℕ
-    cost = moveCost k sol (w .at)
+    cost = sole k sol (w .at) .lookups
 
     walk-dead : sole k sol (w .at) .answer ≡ none → walk k sol (suc f) t w ≡ halt w cost
     unfolding walk
-    walk-dead e = rw (lit, walk, e)
+    walk-dead e = rw (e, walk)
 
     module _ (y : Kmer) (e : sole k sol (w .at) .answer ≡ some y) where
       walk-hit : same y t ≡ true
           → walk k sol (suc f) t w ≡ record { answer = some (w .letters ++ (lastLetter y ∷ [])); lookups = w .lookups + cost }
       unfolding walk
-      walk-hit h = rw (lit, walk, e, h)
+      walk-hit h = rw (e, walk, h)
 
       walk-loop : same y t ≡ false → same y (w .mark) ≡ true → walk k sol (suc f) t w ≡ halt w cost
       unfolding walk
-      walk-loop h g = rw (lit, walk, e, h, g)
+      walk-loop h g = rw (e, walk, h, g)
 
       walk-goes : same y t ≡ false → same y (w .mark) ≡ false → walk k sol (suc f) t w ≡ walk k sol f t (moved w y cost)
       unfolding walk
-      walk-goes h g = rw (lit, walk, e, h, g)
+      walk-goes h g = rw (e, walk, h, g)
 
 moved-moves : (w : Walk) (y : Kmer) (l : ℕ) → moved w y l .moves ≡ suc (w .moves)
 unfolding moved
@@ -121,51 +121,45 @@ marked w y l = go (eqb (suc (w .moves)) (w .marks-at)) refl
     go false e = record { marks = inr (eqb-false _ _ e, rw (e, moved), rw (e, moved)) }
 
 module _ (k : ℕ) (sol : ℕ → Bool) where
-  -- a move costs 5 at most
-  pub move-cost : (y : Kmer) → moveCost k sol y ≤ 5
-  unfolding moveCost
-  move-cost y = omega (arith, ask-cost sol y, sole-cost k sol y)
-
-  -- a walk costs 5 at most for each move
-  pub walk-cost : (f : ℕ) (t : Kmer) (w : Walk) → walk k sol f t w .lookups ≤ w .lookups + 5 * f
+  -- a walk costs 4 at most for each move
+  pub walk-cost : (f : ℕ) (t : Kmer) (w : Walk) → walk k sol f t w .lookups ≤ w .lookups + 4 * f
   unfolding walk halt moved
   walk-cost zero t w = omega arith
-  walk-cost (suc f) t w = go (λ y. walk-cost f t (moved w y l)) (ask sol (w .at) .answer) refl (sole k sol (w .at) .answer) refl
+  walk-cost (suc f) t w = go (λ y. walk-cost f t (moved w y l)) (sole k sol (w .at) .answer) refl
     where
       l : ℕ
-      l = moveCost k sol (w .at)
+      l = sole k sol (w .at) .lookups
 
-      five : l ≤ 5
-      five = move-cost (w .at)
+      four : l ≤ 4
+      four = sole-cost k sol (w .at)
 
-      go : ((y : Kmer) → walk k sol f t (moved w y l) .lookups ≤ w .lookups + l + 5 * f)
-          → (p : Bool) → ask sol (w .at) .answer ≡ p → (o : Option Kmer) → sole k sol (w .at) .answer ≡ o → walk k sol (suc f) t w .lookups ≤ w .lookups + 5 * suc f
-      go i false e o g = rw (e, walk) (omega (arith, ask-cost sol (w .at)))
-      go i true e none g = rw (e, walk, g) (omega (arith, five))
-      go i true e (some y) g = on (same y t) refl (same y (w .mark)) refl
+      go : ((y : Kmer) → walk k sol f t (moved w y l) .lookups ≤ w .lookups + l + 4 * f)
+          → (o : Option Kmer) → sole k sol (w .at) .answer ≡ o → walk k sol (suc f) t w .lookups ≤ w .lookups + 4 * suc f
+      go i none g = rw (g, walk) (omega (arith, four))
+      go i (some y) g = on (same y t) refl (same y (w .mark)) refl
         where
-          on : (q : Bool) → same y t ≡ q → (r : Bool) → same y (w .mark) ≡ r → walk k sol (suc f) t w .lookups ≤ w .lookups + 5 * suc f
-          on true e2 r e3 = rw (e, walk, g, e2) (omega (arith, five))
-          on false e2 true e3 = rw (e, walk, g, e2, e3) (omega (arith, five))
-          on false e2 false e3 = rw (e, walk, g, e2, e3) (omega (arith, five, i y))
+          on : (q : Bool) → same y t ≡ q → (r : Bool) → same y (w .mark) ≡ r → walk k sol (suc f) t w .lookups ≤ w .lookups + 4 * suc f
+          on true e2 r e3 = rw (g, walk, e2) (omega (arith, four))
+          on false e2 true e3 = rw (g, walk, e2, e3) (omega (arith, four))
+          on false e2 false e3 = rw (g, walk, e2, e3) (omega (arith, four, i y))
 
   -- a chain is found: the mark is behind
-  complete : (f : ℕ) (t : Kmer) (w : Walk) (y : Kmer) (zs : List Kmer) → w .at ≡ y → ask sol y .answer ≡ true → Moves k sol y zs t → Distinct zs → met (w .mark) zs ≡ false
+  complete : (f : ℕ) (t : Kmer) (w : Walk) (y : Kmer) (zs : List Kmer) → w .at ≡ y → Moves k sol y zs t → Distinct zs → met (w .mark) zs ≡ false
       → length zs ≤ f → walk k sol f t w .answer ≡ some (w .letters ++ spell zs)
   unfolding spell met moved
-  complete zero t w y (z ∷ zs) e l m d a h = absurd (omega arith)
-  complete (suc f) t w y (z ∷ []) e l (move o) d a h =
-      rw (walk-hit k sol f z w (rw e l) z (rw e (sole-found k sol y z o)) (same-self z (ask-known sol z (o .is-solid))))
-  complete (suc f) t w y (z ∷ zs) e l (more o m) (also-distinct nz d) a h =
-      let v = moved w z (moveCost k sol (w .at)) in
-      let q = marked w z (moveCost k sol (w .at)) in
+  complete zero t w y (z ∷ zs) e m d a h = absurd (omega arith)
+  complete (suc f) t w y (z ∷ []) e (move o) d a h =
+      rw (walk-hit k sol f z w z (rw e (sole-found k sol y z o)) (same-self z (ask-known sol z (o .is-solid))))
+  complete (suc f) t w y (z ∷ zs) e (more o m) (also-distinct nz d) a h =
+      let v = moved w z (sole k sol (w .at) .lookups) in
+      let q = marked w z (sole k sol (w .at) .lookups) in
       let r = or-false (same (w .mark) z) (met (w .mark) zs) a in
       let nt : z ≡ t → ⊥ = λ c. true≢false (sym (last-met k sol m) ∙ ap (λ (c′ : Kmer). met c′ zs) (sym c) ∙ nz) in
       let nm : z ≡ w .mark → ⊥ = λ c. true≢false (sym (same-self z (ask-known sol z (o .is-solid))) ∙ ap (λ (c′ : Kmer). same c′ z) c ∙ r .0) in
       let behind : met (v .mark) zs ≡ false =
       ⊎-elim (λ c. ap (λ (u : Kmer). met u zs) (c .1) ∙ nz) (λ c. ap (λ (u : Kmer). met u zs) (c .1) ∙ r .1) (q .marks) in
-      let i = complete f t v z zs refl (o .is-solid) m d behind (omega arith) in
-      rw (walk-goes k sol f t w (rw e l) z (rw e (sole-found k sol y z o)) (same-ne z t nt) (same-ne z (w .mark) nm))
+      let i = complete f t v z zs refl m d behind (omega arith) in
+      rw (walk-goes k sol f t w z (rw e (sole-found k sol y z o)) (same-ne z t nt) (same-ne z (w .mark) nm))
       (i ∙ ap {B = Option (List ℕ)} some (append-assoc (w .letters) (lastLetter z ∷ []) (spell zs)))
 
   -- what is accepted is the way to the first t
@@ -175,14 +169,14 @@ module _ (k : ℕ) (sol : ℕ → Bool) where
     first : First t via
     spelled : ls ≡ w .letters ++ spell via
 
-  sound : (f : ℕ) (t : Kmer) (w : Walk) (ls : List ℕ) → ask sol (w .at) .answer ≡ true → walk k sol f t w .answer ≡ some ls → Found t w ls
+  sound : (f : ℕ) (t : Kmer) (w : Walk) (ls : List ℕ) → walk k sol f t w .answer ≡ some ls → Found t w ls
   unfolding walk halt spell moved
-  sound zero t w ls l h = absurd (Option·none-ne-some ls h)
-  sound (suc f) t w ls l h = go (λ v. sound f t v ls) (sole k sol (w .at) .answer) refl
+  sound zero t w ls h = absurd (Option·none-ne-some ls h)
+  sound (suc f) t w ls h = go (λ v. sound f t v ls) (sole k sol (w .at) .answer) refl
     where
-      go : ((v : Walk) → ask sol (v .at) .answer ≡ true → walk k sol f t v .answer ≡ some ls → Found t v ls)
+      go : ((v : Walk) → walk k sol f t v .answer ≡ some ls → Found t v ls)
           → (o : Option Kmer) → sole k sol (w .at) .answer ≡ o → Found t w ls
-      go ih none e = absurd (Option·none-ne-some ls (rw (walk-dead k sol f t w l e) at h))
+      go ih none e = absurd (Option·none-ne-some ls (rw (walk-dead k sol f t w e) at h))
       go ih (some y) e = on (same y t) refl (same y (w .mark)) refl
         where
           o : OnlySuccessor k sol (w .at) y
@@ -195,12 +189,12 @@ module _ (k : ℕ) (sol : ℕ → Bool) where
                 via = t ∷ [];
                 moves = move (subst (λ (z : Kmer). OnlySuccessor k sol (w .at) z) yt o);
                 first = first-one;
-                spelled = sym (Option·some-injective (w .letters ++ (lastLetter y ∷ [])) ls (rw (walk-hit k sol f t w l y e e1) at h))
+                spelled = sym (Option·some-injective (w .letters ++ (lastLetter y ∷ [])) ls (rw (walk-hit k sol f t w y e e1) at h))
                     ∙ ap (λ (z : Kmer). w .letters ++ (lastLetter z ∷ [])) yt;
               }
-          on false e1 true e2 = absurd (Option·none-ne-some ls (rw (walk-loop k sol f t w l y e e1 e2) at h))
+          on false e1 true e2 = absurd (Option·none-ne-some ls (rw (walk-loop k sol f t w y e e1 e2) at h))
           on false e1 false e2 =
-              let i = ih (moved w y (moveCost k sol (w .at))) (o .is-solid) (rw (walk-goes k sol f t w l y e e1 e2) at h) in
+              let i = ih (moved w y (sole k sol (w .at) .lookups)) (rw (walk-goes k sol f t w y e e1 e2) at h) in
               record {
                 via = y ∷ i .via;
                 moves = more o (i .moves);
@@ -313,7 +307,7 @@ module _ (k n : ℕ) (sol : ℕ → Bool) (few : Few k n sol) (x : Kmer) (good :
       go (also-distinct nx d) =
           let xt : x ≡ t → ⊥ = λ e. true≢false (sym (last-met k sol (c .moves)) ∙ ap (λ (u : Kmer). met u (c .via)) (sym e) ∙ nx) in
           let l = few (x ∷ c .via) (c .distinct) (also good (moves-good (c .moves))) in
-          rw (same-ne x t xt, walkFrom) (complete k sol (6 * n) t (start x) x (c .via) refl (good .1) (c .moves) d nx (omega arith))
+          rw (same-ne x t xt, walkFrom) (complete k sol (6 * n) t (start x) x (c .via) refl (c .moves) d nx (omega arith))
 
   pub found-chain : (t : Kmer) (ls : List ℕ) → walkFrom k n sol t x .answer ≡ some ls → (c : Chain k sol x t) × (ls ≡ spell (x ∷ c .via))
   unfolding walkFrom refuse start spell SolidKmer
@@ -322,7 +316,7 @@ module _ (k n : ℕ) (sol : ℕ → Bool) (few : Few k n sol) (x : Kmer) (good :
       go : (b : Bool) → same x t ≡ b → (c : Chain k sol x t) × (ls ≡ spell (x ∷ c .via))
       go true e = absurd (Option·none-ne-some ls (rw (e, walkFrom) at h))
       go false e =
-          let w = sound k sol (6 * n) t (start x) ls (good .1) (rw (e, walkFrom) at h) in (
+          let w = sound k sol (6 * n) t (start x) ls (rw (e, walkFrom) at h) in (
             record {
               via = w .via;
               moves = w .moves;
@@ -419,23 +413,20 @@ module _ (k n : ℕ) (sol : ℕ → Bool) (few : Few k n sol) (x : Kmer) (good :
   walk-enough (suc f) zero t w i p q = absurd (omega (arith, going-bound w i))
   walk-enough (suc f) (suc g) t w i p q = go (walk-enough f g t) (sole k sol (w .at) .answer) refl
     where
-      lit : ask sol (w .at) .answer ≡ true
-      lit = subst (λ (y : Kmer). ask sol y .answer ≡ true) (i .at-is) (it-good (w .moves) .1)
-
       go : ((v : Walk) → Going v → 6 * n ≤ v .moves + f + 1 → 6 * n ≤ v .moves + g + 1 → walk k sol f t v ≡ walk k sol g t v)
           → (o : Option Kmer) → sole k sol (w .at) .answer ≡ o → walk k sol (suc f) t w ≡ walk k sol (suc g) t w
-      go ih none e = walk-dead k sol f t w lit e ∙ sym (walk-dead k sol g t w lit e)
+      go ih none e = walk-dead k sol f t w e ∙ sym (walk-dead k sol g t w e)
       go ih (some y) e = on (same y t) refl (same y (w .mark)) refl
         where
           on : (a : Bool) → same y t ≡ a → (b : Bool) → same y (w .mark) ≡ b → walk k sol (suc f) t w ≡ walk k sol (suc g) t w
-          on true e1 b e2 = walk-hit k sol f t w lit y e e1 ∙ sym (walk-hit k sol g t w lit y e e1)
-          on false e1 true e2 = walk-loop k sol f t w lit y e e1 e2 ∙ sym (walk-loop k sol g t w lit y e e1 e2)
+          on true e1 b e2 = walk-hit k sol f t w y e e1 ∙ sym (walk-hit k sol g t w y e e1)
+          on false e1 true e2 = walk-loop k sol f t w y e e1 e2 ∙ sym (walk-loop k sol g t w y e e1 e2)
           on false e1 false e2 =
-              let m = moved-moves w y (moveCost k sol (w .at)) in
+              let m = moved-moves w y (sole k sol (w .at) .lookups) in
               let ky = ask-known sol y (sole-is k sol (w .at) y e .is-solid) in
-              walk-goes k sol f t w lit y e e1 e2
-              ∙ ih (moved w y (moveCost k sol (w .at))) (going-step w y (moveCost k sol (w .at)) i e (same-false y (w .mark) ky e2)) (omega arith) (omega arith)
-              ∙ sym (walk-goes k sol g t w lit y e e1 e2)
+              walk-goes k sol f t w y e e1 e2
+              ∙ ih (moved w y (sole k sol (w .at) .lookups)) (going-step w y (sole k sol (w .at) .lookups) i e (same-false y (w .mark) ky e2)) (omega arith) (omega arith)
+              ∙ sym (walk-goes k sol g t w y e e1 e2)
 
   -- Any fuel from 6n − 1 on gives the same walk: it makes fewer than 6n moves.
   pub walk-fuel : (f : ℕ) (t : Kmer) → 6 * n ≤ f + 1 → walk k sol f t (start x) ≡ walk k sol (6 * n) t (start x)

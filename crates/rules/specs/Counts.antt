@@ -1,4 +1,4 @@
--- Document 01, "Records", Counts, and demand 3; document 02, W1: the confirm of the pass that is counted.
+-- Document 01, "Records", Counts, and demand 3; document 02, W1: the confirm of the pass that is counted, W6: 24n for 30n.
 use Prim.Native.Nat.{ℕ, _+_, _*_, _-_, _≤_}
 use mathlib.Core.Path.{_≡_}
 use mathlib.Core.Bool.{true, false}
@@ -56,8 +56,8 @@ module _ (set : KmerSet) where
   unfoldable pub F : ℕ → Method → ℕ
   F c One = 12 + 3 * c
   F c Two = 69 + 13 * c
-  F c Graph = 6 + 30 * length (set .keys)
-  F c GapSize = 17 + set .k + 3 * c + 30 * length (set .keys)
+  F c Graph = 6 + 24 * length (set .keys)
+  F c GapSize = 17 + set .k + 3 * c + 24 * length (set .keys)
 
   -- 1 + W × F, with the confirm of the pass; a pass shorter than k adds nothing.
   unfoldable pub ceiling : Fed → ℕ

@@ -1,4 +1,4 @@
--- Document 01, "Correctors", Graph.
+-- Document 01, "Correctors", Graph; document 02, W6: a move no longer asks whether its current k-mer is solid.
 use Prim.Native.Nat.{ℕ, zero, suc, _+_, _*_, _<_}
 use mathlib.Core.Path.{_≡_}
 use mathlib.Core.Bool.{Bool, true, false}
@@ -84,27 +84,20 @@ unfoldable pub halt : Walk → ℕ → Try (List ℕ)
 halt w l = record { answer = none; lookups = w .lookups + l }
 
 module _ (k : ℕ) (sol : ℕ → Bool) where
-  -- What a move costs: the current k-mer is asked, and its successors are.
-  unfoldable pub moveCost : Kmer → ℕ
-  unfolding ask sole
-  moveCost y = ask sol y .lookups + sole k sol y .lookups
-
-  -- Each move: the current k-mer is asked, then its successors. No sole successor refuses; T accepts; equal to the mark refuses.
+  -- Each move: 4 lookups for the successors. No sole successor refuses; T accepts; equal to the mark refuses.
   -- The fuel never runs out where it is 6n (the theorem `fuel`).
   unfoldable pub walk : ℕ → Kmer → Walk → Try (List ℕ)
-  unfolding moved sole halt ask moveCost same
+  unfolding moved sole halt same
   walk zero t w = halt w 0
   walk (suc fuel) t w =
-      elim (ask sol (w .at) .answer) [
-        | false ↦ halt w (ask sol (w .at) .lookups)
-        | true ↦ elim (sole k sol (w .at) .answer) [
-          | none ↦ halt w (moveCost (w .at))
-          | some y ↦ elim (same y t) [
-            | true ↦ record { answer = some (w .letters ++ (lastLetter y ∷ [])); lookups = w .lookups + moveCost (w .at) }
-            | false ↦ elim (same y (w .mark)) [
-              | true ↦ halt w (moveCost (w .at))
-              | false ↦ walk fuel t (moved w y (moveCost (w .at)))
-            ]
+      let l : ℕ = sole k sol (w .at) .lookups in
+      elim (sole k sol (w .at) .answer) [
+        | none ↦ halt w l
+        | some y ↦ elim (same y t) [
+          | true ↦ record { answer = some (w .letters ++ (lastLetter y ∷ [])); lookups = w .lookups + l }
+          | false ↦ elim (same y (w .mark)) [
+            | true ↦ halt w l
+            | false ↦ walk fuel t (moved w y l)
           ]
         ]
       ]

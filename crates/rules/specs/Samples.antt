@@ -77,8 +77,8 @@ table =
     ∷ line One 1 (A ∷ A ∷ C ∷ G ∷ C ∷ C ∷ G ∷ []) (A ∷ A ∷ C ∷ T ∷ C ∷ C ∷ G ∷ []) 4 16
     ∷ line Two 1 (A ∷ A ∷ C ∷ C ∷ G ∷ []) (A ∷ A ∷ C ∷ C ∷ G ∷ []) 2 37
     ∷ line Two 2 (A ∷ A ∷ C ∷ C ∷ G ∷ []) (A ∷ A ∷ C ∷ T ∷ C ∷ C ∷ G ∷ []) 3 37
-    ∷ line Graph 1 (A ∷ A ∷ C ∷ G ∷ C ∷ C ∷ G ∷ []) (A ∷ A ∷ C ∷ T ∷ C ∷ C ∷ G ∷ []) 1 24
-    ∷ line Graph 1 (A ∷ A ∷ C ∷ G ∷ C ∷ []) (A ∷ A ∷ C ∷ G ∷ C ∷ []) 2 53
+    ∷ line Graph 1 (A ∷ A ∷ C ∷ G ∷ C ∷ C ∷ G ∷ []) (A ∷ A ∷ C ∷ T ∷ C ∷ C ∷ G ∷ []) 1 21
+    ∷ line Graph 1 (A ∷ A ∷ C ∷ G ∷ C ∷ []) (A ∷ A ∷ C ∷ G ∷ C ∷ []) 2 44
     ∷ line GapSize 1 (A ∷ A ∷ C ∷ G ∷ C ∷ C ∷ G ∷ []) (A ∷ A ∷ C ∷ T ∷ C ∷ C ∷ G ∷ []) 4 19
     ∷ line One 1 (A ∷ A ∷ []) (A ∷ A ∷ []) 0 0
     ∷ line Two 1 (A ∷ A ∷ []) (A ∷ A ∷ []) 0 0
@@ -112,10 +112,10 @@ jobTable =
     ∷ jobLine (2 ∷ 1 ∷ 2 ∷ 1 ∷ []) AACCG AACCG 4 74 330
     ∷ jobLine (2 ∷ 1 ∷ 2 ∷ 2 ∷ []) AACCG AACTCCG 5 74 356
     ∷ jobLine (2 ∷ 2 ∷ 2 ∷ 1 ∷ []) AACCG AACTCCG 7 42 520
-    ∷ jobLine (4 ∷ 4 ∷ []) AACGCCG AACGCCG 4 16 729
-    ∷ jobLine (4 ∷ 4 ∷ 4 ∷ 1 ∷ []) AACGCCG AACTCCG 8 35 1422
-    ∷ jobLine (4 ∷ 1 ∷ 4 ∷ 4 ∷ []) AACGCCG AACTCCG 8 24 1422
-    ∷ jobLine (1 ∷ 4 ∷ 3 ∷ 200 ∷ 1 ∷ 1 ∷ []) AACGCCG AACTCCG 9 42 783
+    ∷ jobLine (4 ∷ 4 ∷ []) AACGCCG AACGCCG 4 16 609
+    ∷ jobLine (4 ∷ 4 ∷ 4 ∷ 1 ∷ []) AACGCCG AACTCCG 8 35 1182
+    ∷ jobLine (4 ∷ 1 ∷ 4 ∷ 4 ∷ []) AACGCCG AACTCCG 8 24 1182
+    ∷ jobLine (1 ∷ 4 ∷ 3 ∷ 200 ∷ 1 ∷ 1 ∷ []) AACGCCG AACTCCG 9 39 663
     ∷ jobLine [] AACCG AACCG 0 0 0
     ∷ []
 
@@ -143,13 +143,13 @@ unknownTable =
     -- in the one base more
     ∷ line Two 1 (A ∷ A ∷ C ∷ C ∷ N ∷ C ∷ []) (A ∷ A ∷ C ∷ C ∷ N ∷ C ∷ []) 3 31
     -- passed by the scan, and in T: the walk then moves and pays, also where T's code is that of x (AACGNCT)
-    ∷ line Graph 1 (A ∷ A ∷ C ∷ N ∷ C ∷ C ∷ G ∷ []) (A ∷ A ∷ C ∷ T ∷ C ∷ C ∷ G ∷ []) 1 21
-    ∷ line Graph 1 (C ∷ G ∷ G ∷ N ∷ []) (C ∷ G ∷ G ∷ N ∷ []) 1 25
-    ∷ line Graph 1 (C ∷ C ∷ G ∷ T ∷ G ∷ G ∷ N ∷ []) (C ∷ C ∷ G ∷ T ∷ G ∷ G ∷ N ∷ []) 4 35
-    ∷ line Graph 1 (A ∷ A ∷ C ∷ G ∷ N ∷ []) (A ∷ A ∷ C ∷ G ∷ N ∷ []) 2 51
-    ∷ line Graph 1 (A ∷ A ∷ C ∷ G ∷ N ∷ C ∷ T ∷ []) (A ∷ A ∷ C ∷ G ∷ N ∷ C ∷ T ∷ []) 4 51
+    ∷ line Graph 1 (A ∷ A ∷ C ∷ N ∷ C ∷ C ∷ G ∷ []) (A ∷ A ∷ C ∷ T ∷ C ∷ C ∷ G ∷ []) 1 18
+    ∷ line Graph 1 (C ∷ G ∷ G ∷ N ∷ []) (C ∷ G ∷ G ∷ N ∷ []) 1 21
+    ∷ line Graph 1 (C ∷ C ∷ G ∷ T ∷ G ∷ G ∷ N ∷ []) (C ∷ C ∷ G ∷ T ∷ G ∷ G ∷ N ∷ []) 4 30
+    ∷ line Graph 1 (A ∷ A ∷ C ∷ G ∷ N ∷ []) (A ∷ A ∷ C ∷ G ∷ N ∷ []) 2 42
+    ∷ line Graph 1 (A ∷ A ∷ C ∷ G ∷ N ∷ C ∷ T ∷ []) (A ∷ A ∷ C ∷ G ∷ N ∷ C ∷ T ∷ []) 4 42
     ∷ line GapSize 1 (A ∷ A ∷ C ∷ N ∷ C ∷ C ∷ G ∷ []) (A ∷ A ∷ C ∷ T ∷ C ∷ C ∷ G ∷ []) 4 15
-    ∷ line GapSize 1 (A ∷ A ∷ C ∷ N ∷ N ∷ N ∷ N ∷ N ∷ []) (A ∷ A ∷ C ∷ T ∷ C ∷ C ∷ N ∷ N ∷ []) 3 47
+    ∷ line GapSize 1 (A ∷ A ∷ C ∷ N ∷ N ∷ N ∷ N ∷ N ∷ []) (A ∷ A ∷ C ∷ T ∷ C ∷ C ∷ N ∷ N ∷ []) 3 41
     -- lower case and U are read as their letters: aacgc, aacutg, AACUC
     ∷ line One 1 (97 ∷ 97 ∷ 99 ∷ 103 ∷ 99 ∷ []) (97 ∷ 97 ∷ 99 ∷ T ∷ 99 ∷ []) 2 12
     ∷ line One 1 (97 ∷ 97 ∷ 99 ∷ 117 ∷ 116 ∷ 103 ∷ []) (97 ∷ 97 ∷ 99 ∷ 117 ∷ 116 ∷ 103 ∷ []) 3 13

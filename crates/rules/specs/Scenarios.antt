@@ -36,8 +36,8 @@ scenarioTable =
     ∷ on 3 (23 ∷ 29 ∷ 43 ∷ 45 ∷ 53 ∷ []) (line Two 2 (T ∷ T ∷ G ∷ T ∷ C ∷ G ∷ G ∷ G ∷ C ∷ []) (T ∷ T ∷ G ∷ C ∷ G ∷ G ∷ G ∷ C ∷ []) 6 81)  -- DCI
     ∷ on 3 (29 ∷ []) (line Two 2 (C ∷ G ∷ C ∷ C ∷ C ∷ G ∷ []) (C ∷ G ∷ C ∷ G ∷ C ∷ G ∷ C ∷ G ∷ []) 3 37)  -- DCD
     ∷ on 3 (15 ∷ 24 ∷ 40 ∷ 60 ∷ []) (line One 1 (T ∷ C ∷ C ∷ A ∷ A ∷ A ∷ G ∷ []) (T ∷ C ∷ C ∷ A ∷ A ∷ A ∷ G ∷ []) 4 17)  -- a score not cut at the end
-    ∷ on 5 (252 ∷ 344 ∷ 741 ∷ 917 ∷ []) (line GapSize 1 (T ∷ A ∷ G ∷ G ∷ G ∷ G ∷ A ∷ C ∷ A ∷ []) (T ∷ A ∷ G ∷ G ∷ G ∷ A ∷ C ∷ A ∷ []) 2 14)  -- GapSize, index below k
+    ∷ on 5 (252 ∷ 344 ∷ 741 ∷ 917 ∷ []) (line GapSize 1 (T ∷ A ∷ G ∷ G ∷ G ∷ G ∷ A ∷ C ∷ A ∷ []) (T ∷ A ∷ G ∷ G ∷ G ∷ A ∷ C ∷ A ∷ []) 2 13)  -- GapSize, index below k
     ∷ on 5 (349 ∷ 373 ∷ 509 ∷ 1013 ∷ []) (line GapSize 1 (G ∷ C ∷ G ∷ G ∷ G ∷ G ∷ G ∷ C ∷ G ∷ C ∷ C ∷ []) (G ∷ C ∷ G ∷ G ∷ G ∷ C ∷ C ∷ C ∷ G ∷ C ∷ C ∷ []) 5 19)  -- GapSize, index above k
-    ∷ on 3 (6 ∷ 23 ∷ 51 ∷ 58 ∷ 60 ∷ []) (line GapSize 1 (A ∷ A ∷ C ∷ G ∷ C ∷ []) (A ∷ A ∷ C ∷ G ∷ C ∷ []) 2 53)  -- GapSize, a walk that is given up
+    ∷ on 3 (6 ∷ 23 ∷ 51 ∷ 58 ∷ 60 ∷ []) (line GapSize 1 (A ∷ A ∷ C ∷ G ∷ C ∷ []) (A ∷ A ∷ C ∷ G ∷ C ∷ []) 2 44)  -- GapSize, a walk that is given up
     ∷ on 3 (60 ∷ 63 ∷ []) (line GapSize 1 (T ∷ C ∷ C ∷ T ∷ C ∷ T ∷ C ∷ []) (T ∷ C ∷ C ∷ T ∷ C ∷ T ∷ C ∷ []) 4 16)  -- GapSize, a repeat
     ∷ []

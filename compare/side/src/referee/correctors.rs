@@ -138,6 +138,11 @@ impl<'a> Asking<'a> {
         self.set.solid(code)
     }
 
+    /// The Rust's lookups up to here.
+    fn rust_asked(&self) -> i64 {
+        self.lookups as i64 + self.again
+    }
+
     pub fn note(&mut self, event: Event) {
         self.events[event as usize] += 1;
     }
@@ -318,11 +323,10 @@ impl<'a> Asking<'a> {
         }
         let mut letters = vec![x.last_letter()];
         let (mut at, mut mark, mut moves, mut next_mark) = (x, x, 0_u64, 1);
-        let before = self.lookups;
+        let before = self.rust_asked();
         loop {
-            if !self.solid(at) {
-                return None;
-            }
+            // The Rust asks first whether the k-mer that it moves from is solid: document 02, W6, has no such question.
+            self.again += 1;
             at = self.sole(at)?;
             letters.push(at.last_letter());
             if at == end {
@@ -331,7 +335,7 @@ impl<'a> Asking<'a> {
             if at == mark {
                 self.note(Event::Mark);
                 // The Rust remembers every k-mer, and refuses on the first repeat.
-                self.again += self.rust_walk(x, end) - (self.lookups - before) as i64;
+                self.again += self.rust_walk(x, end) - (self.rust_asked() - before);
                 return None;
             }
             moves += 1;

@@ -4,6 +4,7 @@
 //! can be held against this one. The places where it asks again carry a comment that begins "The Rust".
 
 pub mod calls;
+pub mod ceilings;
 pub mod correctors;
 pub mod driver;
 pub mod letters;

@@ -6,17 +6,15 @@ use mathlib.Core.Option.{some}
 use mathlib.Core.Logic.{⊎-elim}
 use lib.ListN.{length}
 use borrow.Author.Needs.{needs}
-use borrow.Author.Tests.{not-true, not-false}
 use Rattle.rules.specs.Set.{maxKeys, solid, setOf}
-use Rattle.rules.specs.Scan.{ask, sole}
+use Rattle.rules.specs.Scan.{sole}
 use Rattle.rules.proofs.Kmer.{Known}
-use Rattle.rules.proofs.Scan.{ask-is}
 use Rattle.kmer.specs.declared.Kmer.{Kmer}
 use Rattle.kmer.specs.Kmer.{kmerOf, IsKmer}
 use Rattle.set.proofs.Opened.{opened-n-le}
 use Rattle.scan.specs.Scan.{scanOf}
 use Rattle.scan.proofs.Laws.{no-next, next-kmer, nuc-lt, sole-known, known-asked}
-use Rattle.graph.proofs.Laws.{Arrived, Going, going-start, walk-dark, walk-dead, walk-arrives, walk-meets, walk-marks, walk-goes, walk-stays, walk-over, walk-refused, walk-mends, walk-full}
+use Rattle.graph.proofs.Laws.{Arrived, Going, going-start, walk-dead, walk-arrives, walk-meets, walk-marks, walk-goes, walk-stays, walk-over, walk-refused, walk-mends, walk-full}
 use Rattle.graph.proofs.walk.Statement.{statement}
 use Rattle.graph.proofs.walk.Tie as tie
 
@@ -25,7 +23,7 @@ Inv-loop set starts head scan out₀ end lookups₀ at₀ mark₀ marks-at₀ fu
     (moves ≤ fuel)
     × (fuel ≤ 100663296)
     × (marks-at ≤ 2 * moves + 1)
-    × (lookups ≡ lookups₀ + 5 * moves)
+    × (lookups ≡ lookups₀ + 4 * moves)
     × (length out ≡ length out₀)
     × IsKmer (head .k) at
     × Known (kmerOf at)
@@ -47,23 +45,15 @@ room c = c .loop .inv .4 ∙ c .before .before .before .before .write-last .kept
 low : (c : tie.At-loop Inv-loop μ-loop) → 1 ≤ entry c .args .head .k
 low c = entry c .pre .0 .shifts .k-low
 
--- what the k-mer asked answered
-asked : (c : tie.After-get Inv-loop μ-loop) → let l = c .before .before in ask (sol l) (kmerOf (l .loop .at)) .answer ≡ c .get .result
-unfolding kmerOf
-asked c = (let l = c .before .before in ask-is (sol l) (kmerOf (l .loop .at)) (l .loop .inv .6) ∙ sym (c .get .ensures))
-
-lit : (c : tie.Else2 Inv-loop μ-loop) → let l = c .before .before .before in ask (sol l) (kmerOf (l .loop .at)) .answer ≡ true
-lit c = asked (c .before) ∙ not-false _ (c .if2 .left)
-
 -- the move: to the sole solid successor
 abbrev next : tie.After-add-nuc-to-end Inv-loop μ-loop → Kmer
 next c = c .add-nuc-to-end .result
 
-abbrev from : tie.After-add-nuc-to-end Inv-loop μ-loop → tie.Else2 Inv-loop μ-loop
+abbrev from : tie.After-add-nuc-to-end Inv-loop μ-loop → tie.In-loop Inv-loop μ-loop
 from c = c .before .before .before .before .before .before
 
 abbrev turn : tie.After-add-nuc-to-end Inv-loop μ-loop → tie.At-loop Inv-loop μ-loop
-turn c = from c .before .before .before
+turn c = from c .before
 
 told : (c : tie.After-add-nuc-to-end Inv-loop μ-loop)
     → let b = entry (turn c) in
@@ -79,17 +69,17 @@ move c = c .before .before
 room-after : (c : tie.After-write-last2 Inv-loop μ-loop) → length (c .write-last2 .last .0) ≡ length (entry (turn (move c)) .args .out .now)
 room-after c = c .write-last2 .kept .0 ∙ room (turn (move c))
 
-came : (c : tie.Then3 Inv-loop μ-loop)
+came : (c : tie.Then2 Inv-loop μ-loop)
     → let l = turn (c .before .before .before .before .before .before) in
     let b = entry l in
-    Arrived (b .args .head .k) (b .args .head .n) (sol l) (kmerOf (b .args .scan .end)) (kmerOf (b .args .x)) (5 * l .loop .moves + 5) (l .loop .moves + 2)
+    Arrived (b .args .head .k) (b .args .head .n) (sol l) (kmerOf (b .args .scan .end)) (kmerOf (b .args .x)) (4 * l .loop .moves + 4) (l .loop .moves + 2)
     (c .before .before .before .before .write-last2 .last .0)
 came c =
     let m = c .before .before .before .before .before .before in
     let l = turn m in
     rw (c .before .before .before .before .write-last2 .ensures)
-    (walk-arrives (low l) (l .loop .inv .6) (l .loop .inv .7) (from m .before .before .loop-test .taken) (lit (from m)) _ (told m .0)
-    (sym (c .before .same2 .ensures) ∙ c .if3 .taken))
+    (walk-arrives (low l) (l .loop .inv .6) (l .loop .inv .7) (from m .loop-test .taken) _ (told m .0)
+    (sym (c .before .same2 .ensures) ∙ c .if2 .taken))
 
 -- n is bounded
 keys : (c : tie.Start Inv-loop μ-loop) → c .args .head .n ≤ maxKeys
@@ -134,29 +124,9 @@ loop-holds c =
 add-lookups-2 : tie.Need-add-lookups-2 Inv-loop μ-loop
 add-lookups-2 c = omega (arith, c .before .loop .inv, entry (c .before) .pre)
 
-get-requires : tie.Need-get-requires Inv-loop μ-loop
-unfolding kmerOf
-get-requires c κs = (entry (c .before) .pre .0, c .before .loop .inv .5, c .before .loop .inv .6)
-
-same-length : tie.Need-same-length Inv-loop μ-loop
-same-length c = room (c .before .before .before)
-
-returns-2 : tie.Need-returns-2 Inv-loop μ-loop
-returns-2 c =
-    let l = c .before .before .before in
-    record {
-      is = walk-refused _ _ _ (scanOf (entry l .args .scan)) _ _ _ _
-          (walk-dark (low l) (l .loop .inv .6) (l .loop .inv .7) (c .before .before .loop-test .taken) (asked (c .before) ∙ not-true _ (c .if2 .taken)))
-          (omega (arith, l .loop .inv .3));
-      room = room l;
-    }
-
-add-lookups-3 : tie.Need-add-lookups-3 Inv-loop μ-loop
-add-lookups-3 c = omega (arith, c .before .before .before .loop .inv, entry (c .before .before .before) .pre)
-
 next-nucs-requires : tie.Need-next-nucs-requires Inv-loop μ-loop
 next-nucs-requires c κs =
-    let l = c .before .before .before in
+    let l = c .before in
     (entry l .pre .0, l .loop .inv .5, known-asked _ _ (low l) (l .loop .inv .6))
 
 sole-nuc-requires : tie.Need-sole-nuc-requires Inv-loop μ-loop
@@ -168,17 +138,17 @@ enum-known-nuc c = search needs
 enum-told : tie.Need-enum-told Inv-loop μ-loop
 enum-told c = search needs
 
-same-length-2 : tie.Need-same-length-2 Inv-loop μ-loop
-same-length-2 c = room (c .before .before .before .before .before .before .before)
+same-length : tie.Need-same-length Inv-loop μ-loop
+same-length c = room (c .before .before .before .before .before)
 
-returns-3 : tie.Need-returns-3 Inv-loop μ-loop
-returns-3 c =
+returns-2 : tie.Need-returns-2 Inv-loop μ-loop
+returns-2 c =
     let n = c .before .before in
     let a = n .before .before in
-    let l = a .before .before .before in
+    let l = a .before in
     record {
       is = walk-refused _ _ _ (scanOf (entry l .args .scan)) _ _ _ _
-          (walk-dead (low l) (l .loop .inv .6) (l .loop .inv .7) (a .before .before .loop-test .taken) (lit a)
+          (walk-dead (low l) (l .loop .inv .6) (l .loop .inv .7) (a .loop-test .taken)
           (no-next _ _ _ (n .sole-nuc .result) (n .before .next-nucs .ensures) (n .sole-nuc .ensures) (c .enum-told .given .1)))
           (omega (arith, l .loop .inv .3));
       room = room l;
@@ -187,7 +157,7 @@ returns-3 c =
 add-nuc-to-end-requires : tie.Need-add-nuc-to-end-requires Inv-loop μ-loop
 add-nuc-to-end-requires c κs =
     let n = c .before .before .before in
-    let l = n .before .before .before .before .before in
+    let l = n .before .before .before in
     let small = nuc-lt _ _ _ (n .sole-nuc .result) (n .before .next-nucs .ensures) (n .sole-nuc .ensures) _ (c .before .nuc .given .1) in
     (entry l .pre .0 .shifts, l .loop .inv .5, omega (arith, small))
 
@@ -200,61 +170,61 @@ write-last-requires-2 c κs = search needs
 same-requires-2 : tie.Need-same-requires-2 Inv-loop μ-loop
 same-requires-2 c κs = search needs
 
-add-if4 : tie.Need-add-if4 Inv-loop μ-loop
-add-if4 c = omega (arith, turn (c .before .before .before .before .before .before) .loop .inv)
+add-if3 : tie.Need-add-if3 Inv-loop μ-loop
+add-if3 c = omega (arith, turn (c .before .before .before .before .before .before) .loop .inv)
+
+add-t31 : tie.Need-add-t31 Inv-loop μ-loop
+add-t31 c = omega (arith, turn (c .before .before .before .before .before .before .before) .loop .inv)
 
 add-t32 : tie.Need-add-t32 Inv-loop μ-loop
-add-t32 c = omega (arith, turn (c .before .before .before .before .before .before .before) .loop .inv)
+add-t32 c = omega (arith, entry (turn (c .before .before .before .before .before .before .before .before)) .pre .3)
 
-add-t33 : tie.Need-add-t33 Inv-loop μ-loop
-add-t33 c = omega (arith, entry (turn (c .before .before .before .before .before .before .before .before)) .pre .3)
+same-length-2 : tie.Need-same-length-2 Inv-loop μ-loop
+same-length-2 c = room-after (c .before .before .before .before .before .before)
 
-same-length-3 : tie.Need-same-length-3 Inv-loop μ-loop
-same-length-3 c = room-after (c .before .before .before .before .before .before)
-
-returns-4 : tie.Need-returns-4 Inv-loop μ-loop
-returns-4 c =
+returns-3 : tie.Need-returns-3 Inv-loop μ-loop
+returns-3 c =
     let w = c .before .before .before .before .before .before in
     let l = turn (move w) in
     record {
-      is = walk-mends _ _ _ (scanOf (entry l .args .scan)) _ _ (came (c .before .before)) _ (omega (arith, l .loop .inv .3)) (c .before .if4 .taken);
+      is = walk-mends _ _ _ (scanOf (entry l .args .scan)) _ _ (came (c .before .before)) _ (omega (arith, l .loop .inv .3)) (c .before .if3 .taken);
       room = room-after w;
     }
 
-same-length-4 : tie.Need-same-length-4 Inv-loop μ-loop
-same-length-4 c = room-after (c .before .before .before .before .before)
+same-length-3 : tie.Need-same-length-3 Inv-loop μ-loop
+same-length-3 c = room-after (c .before .before .before .before .before)
 
-returns-5 : tie.Need-returns-5 Inv-loop μ-loop
-returns-5 c =
+returns-4 : tie.Need-returns-4 Inv-loop μ-loop
+returns-4 c =
     let w = c .before .before .before .before .before in
     let r = room-after w in
     record {
-      is = walk-full _ _ _ (scanOf (entry (turn (move w)) .args .scan)) _ _ (came (c .before)) _ (omega (arith, c .if4 .left));
+      is = walk-full _ _ _ (scanOf (entry (turn (move w)) .args .scan)) _ _ (came (c .before)) _ (omega (arith, c .if3 .left));
       room = r;
     }
 
 same-requires-3 : tie.Need-same-requires-3 Inv-loop μ-loop
 same-requires-3 c κs = search needs
 
-same-length-5 : tie.Need-same-length-5 Inv-loop μ-loop
-same-length-5 c = room-after (c .before .before .before .before .before .before)
+same-length-4 : tie.Need-same-length-4 Inv-loop μ-loop
+same-length-4 c = room-after (c .before .before .before .before .before .before)
 
-returns-6 : tie.Need-returns-6 Inv-loop μ-loop
-returns-6 c =
+returns-5 : tie.Need-returns-5 Inv-loop μ-loop
+returns-5 c =
     let w = c .before .before .before .before .before .before in
     let m = move w in
     let l = turn m in
     record {
       is = walk-refused _ _ _ (scanOf (entry l .args .scan)) _ _ _ _
-          (walk-meets (low l) (l .loop .inv .6) (l .loop .inv .7) (from m .before .before .loop-test .taken) (lit (from m)) _ (told m .0)
-          (sym (c .before .before .before .same2 .ensures) ∙ c .before .before .if3 .left)
-          (sym (c .before .same3 .ensures) ∙ c .if5 .taken))
+          (walk-meets (low l) (l .loop .inv .6) (l .loop .inv .7) (from m .loop-test .taken) _ (told m .0)
+          (sym (c .before .before .before .same2 .ensures) ∙ c .before .before .if2 .left)
+          (sym (c .before .same3 .ensures) ∙ c .if4 .taken))
           (omega (arith, l .loop .inv .3));
       room = room-after w;
     }
 
-add-if6 : tie.Need-add-if6 Inv-loop μ-loop
-add-if6 c = omega (arith, turn (c .before .before .before .before .before .before .before .before) .loop .inv)
+add-if5 : tie.Need-add-if5 Inv-loop μ-loop
+add-if5 c = omega (arith, turn (c .before .before .before .before .before .before .before .before) .loop .inv)
 
 mul-marks-at : tie.Need-mul-marks-at Inv-loop μ-loop
 mul-marks-at c = omega (arith, turn (c .before .before .before .before .before .before .before .before .before) .loop .inv)
@@ -263,19 +233,18 @@ add-moves : tie.Need-add-moves Inv-loop μ-loop
 add-moves c = omega (arith, turn (c .before .before .before .before .before .before .before .before .before) .loop .inv)
 
 loop-less : tie.Need-loop-less Inv-loop μ-loop
-loop-less c = omega (arith, from (c .before .before .before .before .before .before .before .before .before) .before .before .loop-test .taken)
+loop-less c = omega (arith, from (c .before .before .before .before .before .before .before .before .before) .loop-test .taken)
 
 loop-again : tie.Need-loop-again Inv-loop μ-loop
 loop-again c =
     let w = c .before .before .before .before .before .before .before in
     let m = move w in
     let i = turn m .loop .inv in
-    let lt = from m .before .before .loop-test .taken in
+    let lt = from m .loop-test .taken in
     let same = w .write-last2 .kept .0 ∙ i .4 in
-    let solid-at = lit (from m) in
     let known = sole-known _ _ _ _ (told m .0) in
-    let ne = sym (c .before .before .before .before .same2 .ensures) ∙ c .before .before .before .if3 .left in
-    let new = sym (c .before .before .same3 .ensures) ∙ c .before .if5 .left in
+    let ne = sym (c .before .before .before .before .same2 .ensures) ∙ c .before .before .before .if2 .left in
+    let new = sym (c .before .before .same3 .ensures) ∙ c .before .if4 .left in
     ⊎-elim
     (λ v. (
       omega arith,
@@ -285,7 +254,7 @@ loop-again c =
       same,
       told m .1,
       known,
-      rw (v .1, v .2, w .write-last2 .ensures) (walk-marks (low (turn m)) (i .6) (i .7) lt solid-at _ (told m .0) ne new (v .0 .taken)),
+      rw (v .1, v .2, w .write-last2 .ensures) (walk-marks (low (turn m)) (i .6) (i .7) lt _ (told m .0) ne new (v .0 .taken)),
     ))
     (λ v. (
       omega arith,
@@ -295,15 +264,15 @@ loop-again c =
       same,
       told m .1,
       known,
-      rw (v .1, v .2, w .write-last2 .ensures) (walk-goes (low (turn m)) (i .6) (i .7) lt solid-at _ (told m .0) ne new (v .0 .left)),
+      rw (v .1, v .2, w .write-last2 .ensures) (walk-goes (low (turn m)) (i .6) (i .7) lt _ (told m .0) ne new (v .0 .left)),
     ))
-    (c .if6 .came)
+    (c .if5 .came)
 
-same-length-6 : tie.Need-same-length-6 Inv-loop μ-loop
-same-length-6 c = room (c .before)
+same-length-5 : tie.Need-same-length-5 Inv-loop μ-loop
+same-length-5 c = room (c .before)
 
-returns-7 : tie.Need-returns-7 Inv-loop μ-loop
-returns-7 c =
+returns-6 : tie.Need-returns-6 Inv-loop μ-loop
+returns-6 c =
     let l = c .before in
     record {
       is = walk-refused _ _ _ (scanOf (entry l .args .scan)) _ _ _ _ (walk-over (l .loop .inv .7) (c .loop-test .left)) (omega (arith, l .loop .inv .3));
@@ -323,34 +292,30 @@ walk-spec =
     mul-fuel
     loop-holds
     add-lookups-2
-    get-requires
-    same-length
-    returns-2
-    add-lookups-3
     next-nucs-requires
     sole-nuc-requires
     enum-known-nuc
     enum-told
-    same-length-2
-    returns-3
+    same-length
+    returns-2
     add-nuc-to-end-requires
     add-write-last
     write-last-requires-2
     same-requires-2
-    add-if4
+    add-if3
+    add-t31
     add-t32
-    add-t33
+    same-length-2
+    returns-3
     same-length-3
     returns-4
+    same-requires-3
     same-length-4
     returns-5
-    same-requires-3
-    same-length-5
-    returns-6
-    add-if6
+    add-if5
     mul-marks-at
     add-moves
     loop-less
     loop-again
-    same-length-6
-    returns-7)
+    same-length-5
+    returns-6)
