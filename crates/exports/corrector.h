@@ -98,7 +98,7 @@ enum {
     CORRECTOR_KMERS = 2, /* of the read */
     CORRECTOR_SOLID = 3, /* those of them that are solid */
     CORRECTOR_SOLID_NUMBERS = 4, /* how many there are */
-    /* corrector_make_set */
+    /* corrector_make_set and corrector_make_index */
     CORRECTOR_LENGTH = 2, /* of the blocks, in bytes */
     CORRECTOR_MADE_NUMBERS = 3, /* how many there are */
     /* corrector_read and corrector_batch */
@@ -121,6 +121,12 @@ static inline size_t corrector_work_length(size_t output_length, size_t input_le
 static inline size_t corrector_set_length(size_t n)
 {
     return 512 * (1 + (n + 62) / 63);
+}
+
+/* The length of an index of a set with this k, in bytes. */
+static inline size_t corrector_index_length(size_t k)
+{
+    return 512 * ((((size_t)1 << (k < 6 ? 2 * k : 12)) + 63) / 63);
 }
 
 /* Whether a set is right, with its k and its number of keys n. Returns 0, or refusal 7 to 10. */
@@ -174,6 +180,18 @@ uint64_t corrector_count_solid(
 uint64_t corrector_make_set(
     const uint8_t *text, size_t text_length,
     uint64_t k, uint64_t least,
+    uint8_t *blocks, size_t blocks_length,
+    uint64_t *answer, size_t answer_length);
+
+/*
+ * Makes the index of a set by first letters: entry v, from 0 to 4^m, is the number of keys whose first m letters have a code below v, m being
+ * the smaller of 6 and k. It is blocks as a set's are, numbered from 0, with the entries from block 0 on.
+ *
+ * Returns 0, or refusal 7 to 10 of the set, then 14. Accepted, the index stands in the first CORRECTOR_LENGTH bytes of `blocks`, with zeros
+ * behind it; refused, `blocks` has not changed. corrector_index_length says how many bytes it takes.
+ */
+uint64_t corrector_make_index(
+    const uint8_t *set, size_t set_length,
     uint8_t *blocks, size_t blocks_length,
     uint64_t *answer, size_t answer_length);
 

@@ -429,6 +429,59 @@ static void test_make(const uint8_t *set)
     check("answers of make_set", short_made(counts_text, made) && short_made("CCG,4\nACT,9\n", falls));
 }
 
+/* ---- the sample set's index: m is 3, so that entry v is the number of keys below v */
+
+static void sample_index(uint8_t *index)
+{
+    static const uint64_t keys[] = {6, 23, 51, 58, 60};
+    memset(index, 0, SET);
+    for (uint64_t v = 0; v <= 64; v++) {
+        uint64_t entry = 0;
+        for (size_t i = 0; i < 5; i++)
+            entry += keys[i] < v;
+        put_word(index, v + v / 63, entry);
+    }
+    put_word(index, 63, 113);
+    put_word(index, 127, 12);
+}
+
+static int indexed(const uint8_t *set, size_t set_length, size_t room, const uint64_t *numbers, const uint8_t *index)
+{
+    uint8_t blocks[ROOM];
+    uint64_t answer[CORRECTOR_MADE_NUMBERS];
+    memset(blocks, FILL, ROOM);
+    uint64_t number = corrector_make_index(set, set_length, blocks, room, answer, CORRECTOR_MADE_NUMBERS);
+    size_t length = (size_t)answer[CORRECTOR_LENGTH];
+    return number == numbers[0] && memcmp(answer, numbers, sizeof answer) == 0 && memcmp(blocks, index, length) == 0
+        && all(blocks + length, room - length, number == 0 ? 0 : FILL) && all(blocks + room, ROOM - room, FILL);
+}
+
+static void test_index(const uint8_t *set)
+{
+    static const uint64_t made[] = {0, 0, SET}, one[] = {0, 0, BLOCK}, cut[] = {7, 0, 0}, damaged[] = {8, 1, 0}, header[] = {9, 0, 0}, key[] = {10, 1, 0},
+        too_short[] = {14, 0, 0};
+    uint8_t index[SET], wrong[SET], none[BLOCK] = {1}, zeros[BLOCK] = {0};
+    sample_index(index);
+    check("an index", indexed(set, SET, SET, made, index) && indexed(set, SET, ROOM, made, index) && corrector_index_length(3) == SET);
+    put_word(none, 63, 2);
+    put_word(zeros, 63, 1);
+    check("an index of no key", indexed(none, BLOCK, BLOCK, one, zeros) && corrector_index_length(1) == BLOCK);
+    check("lengths of an index", corrector_index_length(5) == 17 * BLOCK && corrector_index_length(7) == 66 * BLOCK && corrector_index_length(31) == 66 * BLOCK);
+    check("14 for an index", indexed(set, SET, SET - 1, too_short, index) && indexed(set, SET, 0, too_short, index));
+    check("7 before 14", indexed(set, SET - 1, 0, cut, index));
+    memcpy(wrong, set, SET);
+    wrong[SET - 1]++;
+    check("8 before 14", indexed(wrong, SET, 0, damaged, index) && indexed(wrong, SET, SET, damaged, index));
+    memcpy(wrong, set, SET);
+    put_word(wrong, 0, 2);
+    put_word(wrong, 63, 8);
+    check("9 before 14", indexed(wrong, SET, 0, header, index));
+    memcpy(wrong, set, SET);
+    put_word(wrong, 65, 6);
+    put_word(wrong, 127, 183);
+    check("10 before 14", indexed(wrong, SET, 0, key, index));
+}
+
 /* ---- threads: the set is shared, the buffers are each thread's own, and its stack is what the header asks for */
 
 static struct done alone[SAMPLES];
@@ -479,6 +532,7 @@ int main(void)
     test_answers(set);
     test_count(set);
     test_make(set);
+    test_index(set);
     test_threads(set);
     printf("%d passed, %d failed\n", passed, failed);
     return failed != 0;

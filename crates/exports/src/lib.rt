@@ -1,7 +1,7 @@
 // The calls of documents 01 and 02 for C and Rust: a slice passes as pointer and length, and what a call answers stands as numbers in a lent slice.
 // corrector.h says the same for a host.
 use blocks::Opened;
-use make_set::Made;
+use lay::Made;
 use refusal::Refusal;
 use report::Answer;
 use solid::Count;
@@ -14,10 +14,11 @@ ghost use Rattle.rules.specs.Job.{entriesOf, lines};
 ghost use Rattle.rules.specs.Calls.{correctRead, correctBatch};
 ghost use Rattle.rules.specs.Solid.{countSolid};
 ghost use Rattle.rules.specs.MakeSet.{makeSet};
+ghost use Rattle.rules.specs.Index.{makeIndex};
 ghost use Rattle.refusal.specs.Refusal.{refusalOf};
 ghost use Rattle.report.specs.Answer.{given, answerOf};
 ghost use Rattle.solid.specs.Solid.{countOf};
-ghost use Rattle.make_set.specs.Make.{outcomeOf};
+ghost use Rattle.lay.specs.Made.{outcomeOf};
 ghost use Rattle.exports.specs.Numbers.{numbersOf, refusedNumbers, openNumbers, OpenNumbers, solidNumbers, madeNumbers, Told, Exact, Ceiling, MadeExact};
 
 // The numbers of a call.
@@ -178,5 +179,14 @@ pub extern "C" fn corrector_make_set(
     ensures { λ r. ⌜ MadeExact (makeSet (now (text .entry)) k least (now (blocks .entry))) (now (answer .entry)) r (now (blocks .exit)) (now (answer .exit)) ⌝ }
 {
     let numbers = made_numbers(make_set::make_set(text, k, least, blocks));
+    tell(&numbers, answer)
+}
+
+// The index by first letters made from a set. Refusals 7 to 10 of the set, then 14, which leave the blocks as they are.
+#[no_mangle]
+pub extern "C" fn corrector_make_index(set: &[u8], blocks: &mut [u8], answer: &mut [u64]) -> u64
+    ensures { λ r. ⌜ MadeExact (makeIndex (now (set .entry)) (now (blocks .entry))) (now (answer .entry)) r (now (blocks .exit)) (now (answer .exit)) ⌝ }
+{
+    let numbers = made_numbers(index::make_index(set, blocks));
     tell(&numbers, answer)
 }

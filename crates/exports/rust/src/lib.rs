@@ -142,7 +142,35 @@ pub fn set_length(n: usize) -> usize {
 /// # Ok::<(), corrector::Refusal>(())
 /// ```
 pub fn make_set(text: &[u8], k: u64, least: u64, blocks: &mut [u8]) -> Result<usize, Refusal> {
-    match raw::make_set(text, k, least, blocks) {
+    made(raw::make_set(text, k, least, blocks))
+}
+
+/// The length of an index of a set with this k, in bytes.
+pub fn index_length(k: usize) -> usize {
+    512 * (4_usize.pow(k.min(6) as u32) + 1).div_ceil(63)
+}
+
+/// Makes the index of a set by first letters: entry v, from 0 to 4^m, is the number of keys whose first m letters have a code below v, m being
+/// the smaller of 6 and k. It is blocks as a set's are, numbered from 0, with the entries from block 0 on.
+///
+/// Accepted, `blocks` has the index in its first bytes, as many as the call answers, and zeros behind them; [`index_length`] says how many. A set
+/// is refused as by [`open`], then a buffer that is too short; refused, `blocks` has not changed.
+///
+/// ```
+/// # let mut set = vec![0; corrector::set_length(5)];
+/// # corrector::make_set(b"ACT,9\nCCG,4\nCTC,7\nAAC,5\nTCC,8\n", 3, 1, &mut set)?;
+/// let k = corrector::open(&set)?.k;
+/// let mut index = vec![0; corrector::index_length(k)];
+/// assert_eq!(corrector::make_index(&set, &mut index)?, index.len());
+/// # Ok::<(), corrector::Refusal>(())
+/// ```
+pub fn make_index(set: &[u8], blocks: &mut [u8]) -> Result<usize, Refusal> {
+    made(raw::make_index(set, blocks))
+}
+
+// The length of the blocks that a maker answers.
+fn made(numbers: [u64; 3]) -> Result<usize, Refusal> {
+    match numbers {
         [0, _, length] => Ok(length as usize),
         [number, place, _] => Err(Refusal::from_numbers(number, place)),
     }

@@ -20,6 +20,9 @@ extern "C" {
     fn corrector_make_set(
         text: *const u8, text_length: usize, k: u64, least: u64, blocks: *mut u8, blocks_length: usize, answer: *mut u64, answer_length: usize,
     ) -> u64;
+    fn corrector_make_index(
+        set: *const u8, set_length: usize, blocks: *mut u8, blocks_length: usize, answer: *mut u64, answer_length: usize,
+    ) -> u64;
 }
 
 /// What a read or a batch call is lent, but for its answer.
@@ -97,5 +100,13 @@ pub fn make_set(text: &[u8], k: u64, least: u64, blocks: &mut [u8]) -> [u64; 3] 
     unsafe {
         corrector_make_set(text.as_ptr(), text.len(), k, least, blocks.as_mut_ptr(), blocks.len(), answer.as_mut_ptr(), answer.len());
     }
+    answer
+}
+
+/// Number, place, length of the blocks.
+pub fn make_index(set: &[u8], blocks: &mut [u8]) -> [u64; 3] {
+    let mut answer = [0; 3];
+    // SAFETY: each pointer and length are a live slice's; `blocks` and `answer` are lent to this call alone.
+    unsafe { corrector_make_index(set.as_ptr(), set.len(), blocks.as_mut_ptr(), blocks.len(), answer.as_mut_ptr(), answer.len()) };
     answer
 }
