@@ -5,10 +5,11 @@ use borrow.Author.Tests.{eqb-true, eqb-false, eq-eqb}
 use mathlib.Core.Path.{_≡_, refl, sym, ap, _∙_, subst}
 use mathlib.Core.Bool.{Bool, true, false, _||_, true≢false, false≢true}
 use mathlib.Core.List.{List, [], _∷_, _++_, map}
-use lib.ListN.{length, length-append, length-map}
+use lib.ListN.{length, take, drop, length-append, length-map, take-append-drop}
+use lib.Seq.{slice}
 use lib.Dec.{eqb}
 use Rattle.rules.specs.Letters.{Kmer, among, same, met, revcomp, evenOnes, canonical}
-use Rattle.rules.specs.Set.{KmerSet, solid}
+use Rattle.rules.specs.Set.{KmerSet, firstCode, entryIn, keysFor, solid}
 use Rattle.rules.specs.Scan.{ask}
 use Rattle.rules.specs.Graph.{All, end, also, Distinct, also-distinct}
 use Rattle.rules.proofs.Kmer.{Known, same-code, revcomp-twice}
@@ -88,6 +89,13 @@ unfolding among
 among-right y [] bs h = h
 among-right y (a ∷ us) bs h = or-right (eqb y a) (among-right y us bs h)
 
+-- what stands in a part of a list stands in it
+among-take : (y n : ℕ) (us : List ℕ) → among y (take n us) ≡ true → among y us ≡ true
+among-take y n us h = subst (λ (ws : List ℕ). among y ws ≡ true) (take-append-drop n us) (among-left y (take n us) (drop n us) h)
+
+among-drop : (y n : ℕ) (us : List ℕ) → among y (drop n us) ≡ true → among y us ≡ true
+among-drop y n us h = subst (λ (ws : List ℕ). among y ws ≡ true) (take-append-drop n us) (among-right y (take n us) (drop n us) h)
+
 among-map : (f : ℕ → ℕ) (y : ℕ) (us : List ℕ) → among y us ≡ true → among (f y) (map f us) ≡ true
 unfolding among
 among-map f y [] h = absurd (false≢true h)
@@ -110,12 +118,30 @@ module _ (set : KmerSet) where
   both : List ℕ
   both = set .keys ++ map (revcomp (set .k)) (set .keys)
 
+  -- Whatever index is offered, only keys are looked at.
+  pub solid-among : (y : ℕ) → solid set y ≡ true → among (canonical (set .k) y) (set .keys) ≡ true
+  unfolding solid keysFor
+  solid-among y h = go (set .index) refl
+    where
+      key : ℕ
+      key = canonical (set .k) y
+
+      v : ℕ
+      v = firstCode (set .k) key
+
+      go : (index : List ℕ) → set .index ≡ index → among key (set .keys) ≡ true
+      go [] e = rw (e, keysFor) at h
+      go (b ∷ bs) e =
+          let part : among key (slice (entryIn (set .index) v) (entryIn (set .index) (suc v)) (set .keys)) ≡ true = rw (e, keysFor) at h in
+          among-take key (entryIn (set .index) (suc v)) (set .keys)
+          (among-drop key (entryIn (set .index) v) (take (entryIn (set .index) (suc v)) (set .keys)) part)
+
   covers : (y : ℕ) → y < 4 ^ set .k → solid set y ≡ true → among y both ≡ true
-  unfolding solid canonical both
+  unfolding canonical both
   covers y lt h = go (evenOnes (set .k) y) refl
     where
       key : among (canonical (set .k) y) (set .keys) ≡ true
-      key = h
+      key = solid-among y h
 
       go : (t : Bool) → evenOnes (set .k) y ≡ t → among y both ≡ true
       go true e = among-left y (set .keys) (map (revcomp (set .k)) (set .keys)) (rw (e, canonical) at key)

@@ -13,15 +13,14 @@ use lib.Dec.{eqb, ltb, lit<}
 use lib.ListN.{length, getD, take, drop, replicate, length-drop, take-append-drop, List·getD-eq-default}
 use lib.Pow.{pow-add}
 use lib.Seq.{slice, drop-nil, getD-take, getD-drop, take-take, length-take-le, take-at}
-use Rattle.rules.specs.Letters.{canonical}
+use Rattle.rules.specs.Letters.{among, canonical}
 use Rattle.rules.specs.Refusal.{Refusal, Outcome, accepted, refused, unless}
-use Rattle.rules.specs.Letters.{among}
-use Rattle.rules.specs.Set.{KmerSet, solid, blockWord, checkRight, opened}
+use Rattle.rules.specs.Set.{KmerSet, offering, firstLetters, firstCode, entryIn, keysFor, solid, blockWord, checkRight, setOf, opened}
 use Rattle.rules.specs.Blocks.{blocksFor, unmade}
 use Rattle.rules.specs.MakeSet.{Keys}
-use Rattle.rules.specs.Index.{firstLetters, firstCode, countBelow, indexEntry, entriesFrom, indexEntries, indexList, indexBlocks, makeIndex, sameBytes, indexCheck, entryIn, solidIn}
+use Rattle.rules.specs.Index.{countBelow, indexEntry, entriesFrom, indexEntries, indexList, indexBlocks, makeIndex, sameBytes, indexCheck}
 use Rattle.rules.proofs.Kmer.{four-pos}
-use Rattle.rules.proofs.Opened.{both, unless-passed}
+use Rattle.rules.proofs.Opened.{both, unless-passed, opened-set}
 use Rattle.rules.proofs.Keys.{opened-keys}
 use Rattle.rules.proofs.Blocks.{Bytes, Words, blocks-length, blocks-listed, blocks-checked, blocks-are, Into, into-accepted, into-refused}
 
@@ -212,11 +211,6 @@ module _ (set : KmerSet) (h : Keys (set .k) (set .keys)) where
       (λ i l e. let g : v < v = rw e at (entry-starts set h v .before i l) in omega arith)
       (λ i l g e. let b : suc v ≤ v = rw e at (entry-starts set h (suc v) .after i l g) in omega arith)
 
-  -- For every k-mer, restricted and direct lookup agree.
-  pub restricted-agrees : (y : ℕ) → solidIn (indexEntry set) set y ≡ solid set y
-  unfolding solidIn solid
-  restricted-agrees y = found-between (canonical (set .k) y)
-
 -- ---- the entries that blocks hold
 
 pub entries-length : (set : KmerSet) (v n : ℕ) → length (entriesFrom set v n) ≡ n
@@ -275,9 +269,16 @@ module _ (set : KmerSet) (h : Keys (set .k) (set .keys)) where
           (sym (not-among x (set .keys) (λ i l e. f (first-lt (set .k) x .0 (rw e at (h .small i l))))))
 
   -- So a lookup that reads its entries there agrees with the direct one, whatever number it is asked for.
-  pub blocks-agree : (y : ℕ) → solidIn (entryIn (indexBlocks set)) set y ≡ solid set y
-  unfolding solidIn solid
-  blocks-agree y = read-between (canonical (set .k) y)
+  pub blocks-agree : (y : ℕ) → solid (offering (indexBlocks set) set) y ≡ solid (offering [] set) y
+  unfolding solid keysFor offering
+  blocks-agree y = go (indexBlocks set) refl
+    where
+      key : ℕ
+      key = canonical (set .k) y
+
+      go : (index : List ℕ) → indexBlocks set ≡ index → solid (offering index set) y ≡ among key (set .keys)
+      go [] e = refl
+      go (b ∷ bs) e = rw (← e) (read-between key)
 
 -- ---- refusal 15
 
@@ -363,16 +364,24 @@ module _ (set : KmerSet) where
 -- ---- of every set that opens
 
 module _ (bytes : List ℕ) (set : KmerSet) (o : opened bytes ≡ accepted set) where
+  -- No index comes with it.
+  pub offering-none : offering [] set ≡ set
+  unfolding offering setOf
+  offering-none = ap (offering []) (opened-set bytes set o) ∙ sym (opened-set bytes set o)
+
   -- The keys from entry v up to entry v + 1 hold a k-mer's canonical code exactly when it is solid.
-  pub opened-agrees : (y : ℕ) → solidIn (indexEntry set) set y ≡ solid set y
-  opened-agrees = restricted-agrees set (opened-keys bytes set o)
+  pub opened-agrees : (y : ℕ) → (let key : ℕ = canonical (set .k) y in let v : ℕ = firstCode (set .k) key in
+      among key (slice (indexEntry set v) (indexEntry set (suc v)) (set .keys)) ≡ solid set y)
+  unfolding solid keysFor offering
+  opened-agrees y =
+      found-between set (opened-keys bytes set o) (canonical (set .k) y) ∙ ap (λ (s : KmerSet). solid s y) offering-none
 
   -- A lookup by an offered index that passes 15 answers what the direct one does.
-  pub offered-agrees : (index : List ℕ) → (index ≡ [] → ⊥) → indexCheck set index ≡ none → (y : ℕ) → solidIn (entryIn index) set y ≡ solid set y
-  offered-agrees index offered passes y = go (index-passes set index .0 passes)
+  pub offered-agrees : (index : List ℕ) → indexCheck set index ≡ none → (y : ℕ) → solid (offering index set) y ≡ solid set y
+  offered-agrees index passes y = go (index-passes set index .0 passes) ∙ ap (λ (s : KmerSet). solid s y) offering-none
     where
-      go : (index ≡ []) ⊎ (index ≡ indexBlocks set) → solidIn (entryIn index) set y ≡ solid set y
-      go (inl e) = absurd (offered e)
+      go : (index ≡ []) ⊎ (index ≡ indexBlocks set) → solid (offering index set) y ≡ solid (offering [] set) y
+      go (inl e) = rw e
       go (inr e) = rw e (blocks-agree set (opened-keys bytes set o) y)
 
   -- An accepted call of the maker: what it leaves.

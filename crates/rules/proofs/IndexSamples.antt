@@ -6,17 +6,17 @@ use mathlib.Core.Option.{Option, none, some}
 use mathlib.Core.List.{List, [], _∷_, _++_, map}
 use lib.ListN.{length, replicate, set, take}
 use Rattle.rules.specs.Refusal.{accepted, refused}
-use Rattle.rules.specs.Set.{KmerSet, blockWord}
+use Rattle.rules.specs.Set.{KmerSet, offering, firstCode, entryIn, solid, blockWord}
 use Rattle.rules.specs.Blocks.{blocksFor, Made}
 use Rattle.rules.specs.MakeSet.{setBlocks}
-use Rattle.rules.specs.Index.{firstCode, indexEntry, indexEntries, indexList, indexBlocks, makeIndex, indexCheck, entryIn, solidIn}
+use Rattle.rules.specs.Index.{indexEntry, indexEntries, indexList, indexBlocks, makeIndex, indexCheck}
 use Rattle.rules.specs.Samples.{sampleSet, sampleBytes}
 
 -- ---- entries
 
 -- A set.
 pub withKeys : ℕ → List ℕ → KmerSet
-withKeys k keys = record { k = k; keys = keys }
+withKeys k keys = record { k = k; keys = keys; index = [] }
 
 -- m is the smaller of 6 and k: how many entries there are at k = 1, 3, 5, 7 and 31, and how many blocks.
 pub sizes :
@@ -73,16 +73,16 @@ words = (refl, refl, refl, refl, refl, refl, refl)
 -- By the sample's index: ACT and its reverse complement AGT, CCG, CTC, AAC and TCC, whose canonical codes have other first letters than they themselves;
 -- AAA and CCC, which are no keys; 70, which is no code of three letters.
 pub lookups :
-    map (solidIn (entryIn sampleIndex) sampleSet) (6 ∷ 14 ∷ 23 ∷ 25 ∷ 1 ∷ 37 ∷ 0 ∷ 21 ∷ 70 ∷ [])
+    map (solid (offering sampleIndex sampleSet)) (6 ∷ 14 ∷ 23 ∷ 25 ∷ 1 ∷ 37 ∷ 0 ∷ 21 ∷ 70 ∷ [])
     ≡ true ∷ true ∷ true ∷ true ∷ true ∷ true ∷ false ∷ false ∷ false ∷ []
-unfolding solidIn entryIn sampleIndex sampleSet
+unfolding solid offering sampleIndex sampleSet
 lookups = refl
 
 -- At k = 7, 5 and 6 are both found among the keys of their first letters; 4, whose canonical code is 11946, and 10 are not.
 pub lookupsOfSeven :
-    (let seven : KmerSet = withKeys 7 (3 ∷ 5 ∷ 6 ∷ 9 ∷ 16383 ∷ []) in map (solidIn (indexEntry seven) seven) (3 ∷ 5 ∷ 6 ∷ 9 ∷ 16383 ∷ 4 ∷ 10 ∷ []))
+    (let seven : KmerSet = withKeys 7 (3 ∷ 5 ∷ 6 ∷ 9 ∷ 16383 ∷ []) in map (solid (offering (indexBlocks seven) seven)) (3 ∷ 5 ∷ 6 ∷ 9 ∷ 16383 ∷ 4 ∷ 10 ∷ []))
     ≡ true ∷ true ∷ true ∷ true ∷ true ∷ false ∷ false ∷ []
-unfolding solidIn indexEntry withKeys
+unfolding solid offering indexBlocks withKeys
 lookupsOfSeven = refl
 
 -- ---- the maker

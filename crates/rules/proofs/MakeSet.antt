@@ -185,7 +185,7 @@ module _ (k : ℕ) (keys : List ℕ) (h : Keys k keys) where
       let e : 63 * (1 + blocksFor n - 1) ≡ 63 * blocksFor n = omega arith in
       rw (size, e) (none-failing (keyRight bytes) 0 (63 * blocksFor n) (λ i l g. right-key i (omega arith)))
 
-  set-is : setOf bytes ≡ record { k = k; keys = keys }
+  set-is : setOf bytes ≡ record { k = k; keys = keys; index = [] }
   unfolding setOf n
   set-is =
       rw (k-is, n-is, keys-are bytes keys (λ i l. key-is i (omega arith)) 0 (length keys) (omega arith))
@@ -195,7 +195,7 @@ module _ (k : ℕ) (keys : List ℕ) (h : Keys k keys) where
   checks-none = rw (size-right, checks, header, right-keys)
 
   -- The blocks of rising canonical keys below 4^k open, with exactly that k and those keys.
-  pub set-opens : opened (setBlocks k keys) ≡ accepted (record { k = k; keys = keys })
+  pub set-opens : opened (setBlocks k keys) ≡ accepted (record { k = k; keys = keys; index = [] })
   unfolding bytes opened
   set-opens = rw (checks-none, opened) (ap accepted set-is)
 
@@ -338,7 +338,7 @@ made-laid text k least buffer size h = go (textCheck text k least) refl
 
 -- What an accepted call writes opens with exactly the kept lines' keys in order.
 pub made-opens : (text : List ℕ) (k least : ℕ) (buffer : List ℕ) (size : ℕ) → makeSet text k least buffer .answer ≡ accepted size
-    → opened (take size (makeSet text k least buffer .buffer)) ≡ accepted (record { k = k; keys = textKeys k least text })
+    → opened (take size (makeSet text k least buffer .buffer)) ≡ accepted (record { k = k; keys = textKeys k least text; index = [] })
 made-opens text k least buffer size h =
     let l = made-laid text k least buffer size h in
     rw (l .into .buffer-is, take-at (setBlocks k (textKeys k least text)) (replicate (length buffer - size) 0) size (l .into .long))

@@ -97,7 +97,7 @@ sampleOpens = (refl, refl, refl)
 
 -- A call on a set's bytes: job and input, and the lengths of output and work, both filled with 1.
 pub given : List ℕ → List ℕ → List ℕ → ℕ → ℕ → Given
-given bytes job input out work = record { set = bytes; job = job; input = input; output = replicate out 1; work = replicate work 1 }
+given bytes job input out work = record { set = bytes; index = []; job = job; input = input; output = replicate out 1; work = replicate work 1 }
 
 -- Job 3, 1 with lines AACGCCG and AA: both lines, 1 turn, 21 lookups, 11 bytes, and zeros behind them.
 pub printedCase :

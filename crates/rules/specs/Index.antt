@@ -1,25 +1,14 @@
--- Document 02, W7: the index by first letters, its maker, refusal 15, and a lookup with it.
-use Prim.Native.Nat.{ℕ, zero, suc, _+_, _-_, _/_, _%_, _^_, min}
+-- Document 02, W7: the index by first letters, its maker, and refusal 15. A lookup with it is `solid` of Set.
+use Prim.Native.Nat.{ℕ, zero, suc, _+_, _^_}
 use mathlib.Core.Bool.{Bool, true, false, _&&_}
 use mathlib.Core.Option.{none}
 use mathlib.Core.List.{List, [], _∷_}
-use lib.Seq.{slice}
 use lib.Dec.{eqb, ltb}
-use Rattle.rules.specs.Letters.{canonical}
 use Rattle.rules.specs.Refusal.{accepted, refused, Check, unless}
-use Rattle.rules.specs.Letters.{among}
-use Rattle.rules.specs.Set.{KmerSet, blockWord, opened}
+use Rattle.rules.specs.Set.{KmerSet, firstLetters, firstCode, opened}
 use Rattle.rules.specs.Blocks.{blocksFrom, blocksFor, Made, unmade, laidInto}
 
 -- ---- the list
-
--- m is the smaller of 6 and k.
-abbrev pub firstLetters : ℕ → ℕ
-firstLetters k = min 6 k
-
--- The code of the first m letters of y's k letters.
-unfoldable pub firstCode : ℕ → ℕ → ℕ
-firstCode k y = y / 4 ^ (k - firstLetters k)
 
 -- How many of a list have first m letters with a code below v.
 unfoldable pub countBelow : ℕ → ℕ → List ℕ → ℕ
@@ -72,18 +61,3 @@ unfoldable pub indexCheck : KmerSet → List ℕ → Check
 unfolding sameBytes indexBlocks unless
 indexCheck set [] = none
 indexCheck set (b ∷ bs) = unless (sameBytes (b ∷ bs) (indexBlocks set)) 15
-
--- ---- a lookup with an index
-
--- Entry v as the bytes of an index say it: 63 entries to a block.
-unfoldable pub entryIn : List ℕ → ℕ → ℕ
-unfolding blockWord
-entryIn index v = blockWord index (v / 63) (v % 63)
-
--- A lookup looks only at the keys numbered from entry v up to, not including, entry v + 1, v being the code of its canonical k-mer's first m letters.
-unfoldable pub solidIn : (ℕ → ℕ) → KmerSet → ℕ → Bool
-unfolding canonical firstCode among
-solidIn entry set y =
-    let key : ℕ = canonical (set .k) y in
-    let v : ℕ = firstCode (set .k) key in
-    among key (slice (entry v) (entry (suc v)) (set .keys))
