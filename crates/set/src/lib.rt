@@ -13,7 +13,7 @@ ghost use Rattle.kmer.specs.Kmer.{Shifts, kmerOf, IsKmer};
 ghost use Rattle.keys.specs.Find.{Bracket};
 ghost use lib.Dec.{eqb};
 ghost use Rattle.set.specs.Ready as table;
-ghost use Rattle.set.specs.Ready.{tableLength, prefix, Below, Filled, Ready};
+ghost use Rattle.set.specs.Ready.{tableLength, prefix, Below, Filled, Table, Ready};
 ghost use Rattle.set.specs.Ends.{Marked, Run, highest};
 ghost use Rattle.set.specs.Found.{isKey};
 ghost use Rattle.set.specs.Asked.{AskedIs};
@@ -52,12 +52,13 @@ struct Range {
 }
 
 // The key of a k-mer, among those of its prefix.
-fn range_of(set: &[u8], starts: &[u32], head: Header, kmer: Kmer) -> Range
-    requires { ⌜ Ready (now set) (now starts) head × IsKmer (head .k) kmer ⌝ }
-    ensures { λ r. ⌜ (r .key ≡ canonical (head .k) (kmer .code)) × Bracket (now (set .entry)) (head .n) (r .key) (r .from) (r .end) ⌝ }
+fn range_of(set: &[u8], starts: &[u32], n: usize, shift: u32, kmer: Kmer) -> Range
+    requires { ⌜ Table (now set) (now starts) n shift × IsKmer (headerK (now set)) kmer ⌝ }
+    ensures { λ r. ⌜
+        (r .key ≡ canonical (headerK (now (set .entry))) (kmer .code)) × Bracket (now (set .entry)) n (r .key) (r .from) (r .end) ⌝ }
 {
-    let key = kmer::canonical(kmer, head);
-    let prefix = prefix_of(key, head.shift);
+    let key = kmer::canonical(kmer);
+    let prefix = prefix_of(key, shift);
     Range {
         key,
         from: start(starts, prefix),
@@ -65,9 +66,10 @@ fn range_of(set: &[u8], starts: &[u32], head: Header, kmer: Kmer) -> Range
     }
 }
 
-// A lookup is made only of a k-mer without unknown letters.
-pub fn get(set: &[u8], starts: &[u32], head: Header, kmer: Kmer) -> bool
-    requires { ⌜ Ready (now set) (now starts) head × IsKmer (head .k) kmer × (kmer .unknown ≡ 0) ⌝ }
+// A lookup is made only of a k-mer without unknown letters. Of the header it takes what it needs: a struct that is handed over is laid into
+// memory for each lookup. Since `get` and `ask` both call it, it stays a function of its own.
+fn look_up(set: &[u8], starts: &[u32], n: usize, shift: u32, kmer: Kmer) -> bool
+    requires { ⌜ Table (now set) (now starts) n shift × IsKmer (headerK (now set)) kmer × (kmer .unknown ≡ 0) ⌝ }
     ensures { λ r. ⌜ r ≡ solid (setOf (now (set .entry))) (kmer .code) ⌝ }
 {
     // Both codes are read here: the compiler then chooses between them without a branch.
@@ -76,8 +78,15 @@ pub fn get(set: &[u8], starts: &[u32], head: Header, kmer: Kmer) -> bool
         rev: kmer.rev,
         unknown: 0,
     };
-    let range = range_of(set, starts, head, both);
-    is_key(keys::find(set, range.key, head.shift, head.n, range.from, range.end))
+    let range = range_of(set, starts, n, shift, both);
+    is_key(keys::find(set, range.key, shift, n, range.from, range.end))
+}
+
+pub fn get(set: &[u8], starts: &[u32], head: Header, kmer: Kmer) -> bool
+    requires { ⌜ Ready (now set) (now starts) head × IsKmer (head .k) kmer × (kmer .unknown ≡ 0) ⌝ }
+    ensures { λ r. ⌜ r ≡ solid (setOf (now (set .entry))) (kmer .code) ⌝ }
+{
+    look_up(set, starts, head.n, head.shift, kmer)
 }
 
 // A k-mer asked: whether it is solid, and the lookups made.
@@ -97,10 +106,8 @@ pub fn ask(set: &[u8], starts: &[u32], head: Header, kmer: Kmer) -> Asked
             lookups: 0,
         };
     }
-    Asked {
-        solid: get(set, starts, head, kmer),
-        lookups: 1,
-    }
+    let solid = look_up(set, starts, head.n, head.shift, kmer);
+    Asked { solid, lookups: 1 }
 }
 
 // The line that a lookup of the k-mer reads first.
@@ -113,7 +120,7 @@ pub fn first_line(set: &[u8], starts: &[u32], head: Header, kmer: Kmer) -> usize
         rev: kmer.rev,
         unknown: 0,
     };
-    let range = range_of(set, starts, head, both);
+    let range = range_of(set, starts, head.n, head.shift, both);
     keys::first_line(range.key, head.shift, range.from, range.end)
 }
 
