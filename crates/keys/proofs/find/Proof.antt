@@ -1,4 +1,5 @@
 use Rattle.keys.proofs.Bracket.{answers-all, answers-none}
+use Rattle.keys.proofs.Part.{fewer}
 use borrow.Author.Needs.{needs}
 use Rattle.keys.proofs.find.Statement.{statement}
 use Rattle.keys.proofs.find.Tie as tie
@@ -10,7 +11,9 @@ sub-if2 : tie.Need-sub-if2
 sub-if2 c = search needs
 
 in-few-requires : tie.Need-in-few-requires
-in-few-requires c κs = search needs
+in-few-requires c κs =
+    let p = c .before .before .before .pre in
+    (fewer (p .0) _ _ (p .2 .within .0) (p .2 .within .1), search needs, search needs)
 
 returns-2 : tie.Need-returns-2
 returns-2 c = answers-all (c .before .before .before .before .pre .2) (c .in-few .result) (c .in-few .ensures)

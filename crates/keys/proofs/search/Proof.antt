@@ -1,19 +1,24 @@
-use Prim.Native.Nat.{_+_, _-_, _≤_, _<_}
+use Prim.Native.Nat.{ℕ, _+_, _-_, _≤_, _<_}
 use native.Mathlib.Omega.{arith}
 use native.Mathlib.Nat.{add-zero}
-use mathlib.Core.Path.{sym, _∙_}
+use mathlib.Core.Path.{_≡_, refl, sym, _∙_}
+use mathlib.Core.Bool.{Bool, true, false, _||_, false≢true}
+use lib.Dec.{ltb, leb}
+use borrow.Author.Tests.{ltb-false, leb-false}
 use borrow.Author.Needs.{needs}
-use Rattle.keys.specs.Find.{Bracket, firstKey}
+use Rattle.keys.specs.Find.{Bracket, firstKey, Lines}
 use Rattle.keys.proofs.Bracket.{higher-from, answers-none}
+use Rattle.keys.proofs.Part.{three-lines}
 use Rattle.keys.proofs.Window.{window, behind-window}
 use Rattle.keys.proofs.search.Statement.{statement}
 use Rattle.keys.proofs.search.Tie as tie
 
 abbrev Inv-loop : tie.InvT-loop
-Inv-loop set key n from end first low₀ high₀ i₀ step₀ low high i step = Bracket set n key low high × (low < high → (low ≤ i) × (i < high)) × (step ≤ 16777216)
+Inv-loop part skip key first last from end guessed low₀ high₀ i₀ step₀ low high i step =
+    Bracket skip part first last key low high × (low < high → (low ≤ i) × (i < high)) × (step ≤ 16777216)
 
 abbrev μ-loop : tie.MeasureT-loop
-μ-loop set key n from end first low₀ high₀ i₀ step₀ low high i step = high - low
+μ-loop part skip key first last from end guessed low₀ high₀ i₀ step₀ low high i step = high - low
 
 loop-holds : tie.Need-loop-holds Inv-loop μ-loop
 loop-holds c = (c .before .pre .1, λ l. (c .before .pre .2, c .before .pre .3), search needs)
@@ -24,11 +29,14 @@ inside c = c .before .loop .inv .1 (c .loop-test .taken)
 line-before-requires : tie.Need-line-before-requires Inv-loop μ-loop
 line-before-requires c κs = let l = c .before in omega (arith, inside c, l .loop .inv .0 .within, l .before .before .pre .0 .few)
 
+first-key-requires : tie.Need-first-key-requires Inv-loop μ-loop
+first-key-requires c κs = search needs
+
 add-first-key : tie.Need-add-first-key Inv-loop μ-loop
 add-first-key c = search needs
 
-first-key-requires : tie.Need-first-key-requires Inv-loop μ-loop
-first-key-requires c κs = search needs
+first-key-requires-2 : tie.Need-first-key-requires-2 Inv-loop μ-loop
+first-key-requires-2 c κs = search needs
 
 bisect-requires : tie.Need-bisect-requires Inv-loop μ-loop
 bisect-requires c κs = search needs
@@ -36,18 +44,36 @@ bisect-requires c κs = search needs
 returns : tie.Need-returns Inv-loop μ-loop
 returns c = search needs
 
-in-window-requires : tie.Need-in-window-requires Inv-loop μ-loop
-in-window-requires c κs = search needs
+neither : (p q : Bool) → (p || q) ≡ false → (p ≡ false) × (q ≡ false)
+neither true q e = absurd (false≢true (sym e))
+neither false q e = (refl, e)
 
--- The three lines are full of keys.
-full : (c : tie.Else1 Inv-loop μ-loop) → firstKey (c .before .before .line-before .result + 3) ≤ c .before .before .before .before .before .before .args .n
-full c = omega (arith, c .if1 .left, c .before .first-key .ensures)
+-- The three lines hold none but the part's keys, and another key stands behind them.
+full : (c : tie.Else1 Inv-loop μ-loop) →
+    let b = c .before .before .before in
+    let a = b .before .before .before .before .args in
+    (a .first ≤ firstKey (b .line-before .result)) × (firstKey (b .line-before .result + 3) < a .last)
+full c =
+    let f = c .before .before in
+    let a = f .before .before .before .before .before .args in
+    let t = neither (ltb (f .first-key .result) (a .first)) (leb (a .last) (c .before .first-key2 .result)) (c .if1 .left) in
+    omega (arith, ltb-false (f .first-key .result) (a .first) (t .0), leb-false (a .last) (c .before .first-key2 .result) (t .1), f .first-key .ensures, c .before .first-key2 .ensures)
+
+lines : (c : tie.Else1 Inv-loop μ-loop) →
+    let b = c .before .before .before in
+    let a = b .before .before .before .before .args in
+    Lines (a .skip) (a .part .now) (b .line-before .result) (b .line-before .result + 3)
+lines c = three-lines (c .before .before .before .before .before .before .before .pre .0) _ (full c .0) (full c .1)
+
+in-window-requires : tie.Need-in-window-requires Inv-loop μ-loop
+in-window-requires c κs = lines c
 
 window-line-requires : tie.Need-window-line-requires Inv-loop μ-loop
 window-line-requires c κs =
     let w = c .before in
-    let s = w .before .before .before .before .before .before .before in
-    (s .pre .0, window _ _ _ (s .pre .0) _ (full (w .before)) (sym (w .in-window .ensures) ∙ c .if2 .taken))
+    let s = w .before .before .before .before .before .before .before .before in
+    let f = full (w .before) in
+    (s .pre .0, window (s .pre .0) _ _ (f .0) (f .1) (sym (w .in-window .ensures) ∙ c .if2 .taken), lines (w .before))
 
 in-line-requires : tie.Need-in-line-requires Inv-loop μ-loop
 in-line-requires c κs = search needs
@@ -62,10 +88,12 @@ lesser-requires : tie.Need-lesser-requires Inv-loop μ-loop
 lesser-requires c κs = search needs
 
 line-key-requires : tie.Need-line-key-requires Inv-loop μ-loop
-line-key-requires c κs = search needs
+line-key-requires c κs =
+    let w = lines (c .before .before .before) in
+    (record { few = omega (arith, w .few); starts = w .starts; ends = omega (arith, w .ends) }, search needs)
 
-first-key-requires-2 : tie.Need-first-key-requires-2 Inv-loop μ-loop
-first-key-requires-2 c κs = search needs
+first-key-requires-3 : tie.Need-first-key-requires-3 Inv-loop μ-loop
+first-key-requires-3 c κs = search needs
 
 back-requires : tie.Need-back-requires Inv-loop μ-loop
 back-requires c κs = search needs
@@ -73,20 +101,20 @@ back-requires c κs = search needs
 loop-less : tie.Need-loop-less Inv-loop μ-loop
 loop-less c =
     let f = c .before in
-    let b = f .before .before .before .before .before .before .before .before in
-    omega (arith, inside (b .before), b .line-before .ensures, f .first-key2 .ensures)
+    let b = f .before .before .before .before .before .before .before .before .before in
+    omega (arith, inside (b .before), b .line-before .ensures, f .first-key3 .ensures)
 
 loop-again : tie.Need-loop-again Inv-loop μ-loop
 loop-again c =
     let f = c .before in
     let k = f .before .before in
     let w = k .before .before .before in
-    let l = w .before .before .before .before .before in
+    let l = w .before .before .before .before .before .before in
     let p = l .before .before .pre .0 in (
       record {
-        within = omega (arith, f .first-key2 .ensures, full (w .before), p .few);
+        within = omega (arith, f .first-key3 .ensures, full (w .before), l .loop .inv .0 .within);
         below = l .loop .inv .0 .below;
-        above = rw (f .first-key2 .ensures) (higher-from _ _ _ p _ (rw (k .line-key .ensures, add-zero) at (f .before .if3 .taken)));
+        above = rw (f .first-key3 .ensures) (higher-from p _ _ (full (w .before) .0) (rw (k .line-key .ensures, add-zero) at (f .before .if3 .taken)));
       },
       c .back .ensures,
       omega (arith, k .before .lesser .ensures),
@@ -95,8 +123,8 @@ loop-again c =
 add-first-key-2 : tie.Need-add-first-key-2 Inv-loop μ-loop
 add-first-key-2 c = search needs
 
-first-key-requires-3 : tie.Need-first-key-requires-3 Inv-loop μ-loop
-first-key-requires-3 c κs = search needs
+first-key-requires-4 : tie.Need-first-key-requires-4 Inv-loop μ-loop
+first-key-requires-4 c κs = search needs
 
 add-low : tie.Need-add-low Inv-loop μ-loop
 add-low c = search needs
@@ -107,19 +135,19 @@ on-requires c κs = search needs
 loop-less-2 : tie.Need-loop-less-2 Inv-loop μ-loop
 loop-less-2 c =
     let f = c .before in
-    let b = f .before .before .before .before .before .before .before .before in
-    omega (arith, inside (b .before), b .line-before .ensures, f .first-key3 .ensures)
+    let b = f .before .before .before .before .before .before .before .before .before in
+    omega (arith, inside (b .before), b .line-before .ensures, f .first-key4 .ensures)
 
 loop-again-2 : tie.Need-loop-again-2 Inv-loop μ-loop
 loop-again-2 c =
     let f = c .before in
     let k = f .before .before in
     let w = k .before .before .before in
-    let l = w .before .before .before .before .before in
+    let l = w .before .before .before .before .before .before in
     let p = l .before .before .pre .0 in (
       record {
-        within = l .loop .inv .0 .within;
-        below = rw (f .first-key3 .ensures) (behind-window _ _ _ p _ (full (w .before)) (sym (w .in-window .ensures) ∙ k .before .before .if2 .left)
+        within = omega (arith, f .first-key4 .ensures, full (w .before), l .loop .inv .0 .within);
+        below = rw (f .first-key4 .ensures) (behind-window p _ _ (full (w .before) .1) (sym (w .in-window .ensures) ∙ k .before .before .if2 .left)
             (rw (k .line-key .ensures, add-zero) at (f .before .if3 .left)));
         above = l .loop .inv .0 .above;
       },
@@ -138,8 +166,9 @@ search-spec =
     μ-loop
     loop-holds
     line-before-requires
-    add-first-key
     first-key-requires
+    add-first-key
+    first-key-requires-2
     bisect-requires
     returns
     in-window-requires
@@ -149,12 +178,12 @@ search-spec =
     mul-lesser
     lesser-requires
     line-key-requires
-    first-key-requires-2
+    first-key-requires-3
     back-requires
     loop-less
     loop-again
     add-first-key-2
-    first-key-requires-3
+    first-key-requires-4
     add-low
     on-requires
     loop-less-2
