@@ -109,7 +109,15 @@ fn window_line(part: &[u8], skip: usize, key: u64, first: usize, last: usize, li
 }
 
 // A plain bisection, for the keys at the ends of the part, where no three whole lines are.
-fn bisect(part: &[u8], skip: usize, key: u64, first: usize, last: usize, from: usize, end: usize) -> Found
+fn bisect(
+    part: &[u8],
+    skip: usize,
+    key: u64,
+    first: usize,
+    last: usize,
+    from: usize,
+    end: usize,
+) -> Found
     requires { ⌜ Sorted skip (now part) first last × Bracket skip (now part) first last key from end ⌝ }
     ensures { λ r. ⌜ Answers skip (now (part .entry)) key first last r ⌝ }
 {
@@ -161,7 +169,16 @@ fn back(low: usize, high: usize, step: usize) -> usize
 // The line of the first guess and the two beside it are read at once, and no branch depends on which of them the key belongs to: it would
 // often be guessed wrong, and all that follows would wait for memory. Where the key belongs elsewhere, the lines next to these are read,
 // for nearly always it is close; the steps double, so that a bad guess costs no more than a bisection.
-fn search(part: &[u8], skip: usize, key: u64, first: usize, last: usize, from: usize, end: usize, guessed: usize) -> Found
+fn search(
+    part: &[u8],
+    skip: usize,
+    key: u64,
+    first: usize,
+    last: usize,
+    from: usize,
+    end: usize,
+    guessed: usize,
+) -> Found
     requires { ⌜ Sorted skip (now part) first last × Bracket skip (now part) first last key from end × (from ≤ guessed) × (guessed < end) ⌝ }
     ensures { λ r. ⌜ Answers skip (now (part .entry)) key first last r ⌝ }
 {
@@ -172,7 +189,7 @@ fn search(part: &[u8], skip: usize, key: u64, first: usize, last: usize, from: u
     let mut step = 6;
     while low < high {
         let line = line_before(i);
-        // A key behind the lines: a check word at their end, which is read too, is then in the part.
+        // Another key has to stand behind the lines: a check word at their end, which is read too, then lies in the part.
         if (first_key(line) < first) | (last <= first_key(line + 3)) {
             return bisect(part, skip, key, first, last, low, high);
         }
@@ -237,7 +254,16 @@ pub fn touch(set: &[u8], line: u32) -> u64 {
 }
 
 // A key that can stand only from key `from` on and before key `end`. The keys there are guessed to be spread evenly by their bits below `shift`.
-pub fn find(part: &[u8], skip: usize, key: u64, shift: u32, first: usize, last: usize, from: usize, end: usize) -> Found
+pub fn find(
+    part: &[u8],
+    skip: usize,
+    key: u64,
+    shift: u32,
+    first: usize,
+    last: usize,
+    from: usize,
+    end: usize,
+) -> Found
     requires { ⌜ Sorted skip (now part) first last × (shift < 64) × Bracket skip (now part) first last key from end ⌝ }
     ensures { λ r. ⌜ Answers skip (now (part .entry)) key first last r ⌝ }
 {

@@ -54,7 +54,7 @@ struct Range {
 // The key of a k-mer, among those of its prefix.
 fn range_of(set: &[u8], starts: &[u32], head: Header, kmer: Kmer) -> Range
     requires { ⌜ Ready (now set) (now starts) head × IsKmer (head .k) kmer ⌝ }
-    ensures { λ r. ⌜ (r .key ≡ canonical (head .k) (kmer .code)) × Bracket (now (set .entry)) (head .n) (r .key) (r .from) (r .end) ⌝ }
+    ensures { λ r. ⌜ (r .key ≡ canonical (head .k) (kmer .code)) × Bracket 0 (now (set .entry)) 0 (head .n) (r .key) (r .from) (r .end) ⌝ }
 {
     let key = kmer::canonical(kmer, head);
     let prefix = prefix_of(key, head.shift);
@@ -77,7 +77,7 @@ pub fn get(set: &[u8], starts: &[u32], head: Header, kmer: Kmer) -> bool
         unknown: 0,
     };
     let range = range_of(set, starts, head, both);
-    is_key(keys::find(set, range.key, head.shift, head.n, range.from, range.end))
+    is_key(keys::find(set, 0, range.key, head.shift, 0, head.n, range.from, range.end))
 }
 
 // A k-mer asked: whether it is solid, and the lookups made.

@@ -52,8 +52,7 @@ returns c =
     let second : p .pick .result ≡ cond (leb (keyIn (a .skip) (a .part .now) (firstKey (a .line + 1))) (a .key)) 1 0 =
     p .pick .ensures ∙ ap (λ (w : ℕ). cond (leb w (a .key)) 1 0) (f .line-key .ensures ∙ ap (keyIn (a .skip) (a .part .now)) (add-zero _)) in
     let third : c .pick2 .result ≡ cond (leb (keyIn (a .skip) (a .part .now) (firstKey (a .line + 2))) (a .key)) 1 0 =
-    c .pick2 .ensures ∙ ap (λ (w : ℕ). cond (leb w (a .key)) 1 0) (f2 .line-key2 .ensures ∙ ap (keyIn (a .skip) (a .part .now)) (add-zero _)) in
-    (
+    c .pick2 .ensures ∙ ap (λ (w : ℕ). cond (leb w (a .key)) 1 0) (f2 .line-key2 .ensures ∙ ap (keyIn (a .skip) (a .part .now)) (add-zero _)) in (
       rw (second, third) (three (s .pre .0) (a .key) (a .line) (s .pre .1) _ _ refl refl),
       (let w = s .pre .2 in record {
         few = omega (arith, few c, w .few);
