@@ -77,7 +77,16 @@ pub fn get(set: &[u8], starts: &[u32], head: Header, kmer: Kmer) -> bool
         unknown: 0,
     };
     let range = range_of(set, starts, head, both);
-    is_key(keys::find(set, 0, range.key, head.shift, 0, head.n, range.from, range.end))
+    is_key(keys::find(
+        set,
+        0,
+        range.key,
+        head.shift,
+        0,
+        head.n,
+        range.from,
+        range.end,
+    ))
 }
 
 // A k-mer asked: whether it is solid, and the lookups made.
