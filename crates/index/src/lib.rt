@@ -17,7 +17,7 @@ ghost use Rattle.lay.specs.Made.{madeOf};
 ghost use Rattle.index.specs.Index.{Opens, wordRight};
 
 // m, the smaller of 6 and k.
-fn letters(k: usize) -> usize
+pub fn letters(k: usize) -> usize
     ensures { λ r. ⌜ r ≡ firstLetters k ⌝ }
 {
     number::lesser(6, k)
@@ -135,7 +135,7 @@ fn entry_right(set: &[u8], k: usize, n: usize, v: usize, entry: usize) -> bool
 }
 
 // Word v of the list that an index's blocks hold.
-fn entry_at(index: &[u8], v: usize) -> usize
+pub fn entry_at(index: &[u8], v: usize) -> usize
     requires { ⌜ 512 * (1 + v / 63) ≤ length (now index) ⌝ }
     ensures { λ r. ⌜ r ≡ entryIn (now (index .entry)) v ⌝ }
 {

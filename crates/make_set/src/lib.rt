@@ -107,7 +107,7 @@ pub fn make_set(text: &[u8], k: u64, least: u64, blocks: &mut [u8]) -> Made
     if 31 < k {
         return Made::Refused(Refusal::Header);
     }
-    let head = kmer::header_of(k as usize, 0, 0);
+    let head = kmer::header_of(k as usize, 0, 0, 0);
     let judged = judge(text, head, least);
     let Judged::Kept(n) = judged else {
         return Made::Refused(refused(judged));

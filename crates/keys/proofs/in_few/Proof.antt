@@ -6,9 +6,9 @@ use mathlib.Core.Bool.{Bool, true, false, _||_, cond, false≢true}
 use mathlib.Core.List.{List}
 use lib.Dec.{eqb}
 use borrow.Author.Tests.{eqb-true, eq-eqb}
-use Rattle.rules.specs.Set.{keyWord}
 use Rattle.keys.specs.declared.Found.the-variants.{At, Nothing}
-use Rattle.keys.specs.Find.{Answers}
+use Rattle.keys.specs.Find.{keyIn, Answers}
+use Rattle.keys.proofs.Part.{key-room}
 use borrow.Author.Needs.{needs}
 use Rattle.keys.proofs.in_few.Statement.{statement}
 use Rattle.keys.proofs.in_few.Tie as tie
@@ -29,16 +29,16 @@ lesser-requires-2 : tie.Need-lesser-requires-2
 lesser-requires-2 c κs = search needs
 
 key-at-requires : tie.Need-key-at-requires
-key-at-requires c κs = search needs
+key-at-requires c κs = key-room (c .before .before .before .pre .0) _ (omega arith) (omega arith)
 
 key-at-requires-2 : tie.Need-key-at-requires-2
-key-at-requires-2 c κs = search needs
+key-at-requires-2 c κs = key-room (c .before .before .before .before .pre .0) _ (omega arith) (omega arith)
 
 key-at-requires-3 : tie.Need-key-at-requires-3
-key-at-requires-3 c κs = search needs
+key-at-requires-3 c κs = key-room (c .before .before .before .before .before .pre .0) _ (omega arith) (omega arith)
 
 key-at-requires-4 : tie.Need-key-at-requires-4
-key-at-requires-4 c κs = search needs
+key-at-requires-4 c κs = key-room (c .before .before .before .before .before .before .pre .0) _ (omega arith) (omega arith)
 
 pick-requires : tie.Need-pick-requires
 pick-requires c κs = search needs
@@ -65,26 +65,26 @@ nowhere false false true s e = absurd (false≢true (sym e))
 nowhere false false false true e = absurd (false≢true (sym e))
 nowhere false false false false e = (refl, refl, refl, refl)
 
-module _ (bytes : List ℕ) (x from end second third last : ℕ) (some : from < end) (four : end ≤ from + 4)
+module _ (skip : ℕ) (part : List ℕ) (x from end second third last : ℕ) (some : from < end) (four : end ≤ from + 4)
     (second-is : second ≡ min (from + 1) last) (third-is : third ≡ min (from + 2) last) (last-is : last ≡ end - 1) where
   abbrev is : ℕ → Bool
-  is i = eqb x (keyWord bytes i)
+  is i = eqb x (keyIn skip part i)
 
   few-at : (((is from || is second) || is third) || is last) ≡ true
-      → Answers bytes x from end (At (cond (is from) from (cond (is second) second (cond (is third) third last))))
+      → Answers skip part x from end (At (cond (is from) from (cond (is second) second (cond (is third) third last))))
   few-at e =
-      chosen (λ (i : ℕ). (from ≤ i) × (i < end) × (keyWord bytes i ≡ x)) (is from) (is second) (is third) (is last) from second third last
+      chosen (λ (i : ℕ). (from ≤ i) × (i < end) × (keyIn skip part i ≡ x)) (is from) (is second) (is third) (is last) from second third last
       (λ d. (omega arith, omega arith, sym (eqb-true x _ d)))
       (λ d. (omega arith, omega arith, sym (eqb-true x _ d)))
       (λ d. (omega arith, omega arith, sym (eqb-true x _ d)))
       (λ d. (omega arith, omega arith, sym (eqb-true x _ d)))
       e
 
-  few-none : (((is from || is second) || is third) || is last) ≡ false → Answers bytes x from end Nothing
+  few-none : (((is from || is second) || is third) || is last) ≡ false → Answers skip part x from end Nothing
   few-none e i l h same = go (decLt i (from + 1)) (decLt i (from + 2)) (decLt i last)
     where
       not : (j : ℕ) → is j ≡ false → i ≡ j → ⊥
-      not j d k = false≢true (sym d ∙ eq-eqb x (keyWord bytes j) (sym same ∙ ap (keyWord bytes) k))
+      not j d k = false≢true (sym d ∙ eq-eqb x (keyIn skip part j) (sym same ∙ ap (keyIn skip part) k))
 
       tests : (is from ≡ false) × (is second ≡ false) × (is third ≡ false) × (is last ≡ false)
       tests = nowhere (is from) (is second) (is third) (is last) e
@@ -108,8 +108,8 @@ returns c =
     let s = l .before .before .before in
     let a = s .args in
     rw (c .pick3 .ensures, p2 .pick2 .ensures, p1 .pick .ensures, k1 .key-at .ensures, k2 .key-at2 .ensures, k3 .key-at3 .ensures)
-    (few-at (a .set .now) (a .key) (a .from) (a .end) (l .before .lesser .result) (l .lesser2 .result) (a .end - 1)
-    (s .pre .0) (s .pre .1) (l .before .lesser .ensures) (l .lesser2 .ensures) refl
+    (few-at (a .skip) (a .part .now) (a .key) (a .from) (a .end) (l .before .lesser .result) (l .lesser2 .result) (a .end - 1)
+    (s .pre .1) (s .pre .2) (l .before .lesser .ensures) (l .lesser2 .ensures) refl
     (rw (k1 .key-at .ensures, k2 .key-at2 .ensures, k3 .key-at3 .ensures, k4 .key-at4 .ensures) at (t .if1 .taken)))
 
 returns-2 : tie.Need-returns-2
@@ -121,8 +121,8 @@ returns-2 c =
     let l = k1 .before in
     let s = l .before .before .before in
     let a = s .args in
-    few-none (a .set .now) (a .key) (a .from) (a .end) (l .before .lesser .result) (l .lesser2 .result) (a .end - 1)
-    (s .pre .0) (s .pre .1) (l .before .lesser .ensures) (l .lesser2 .ensures) refl
+    few-none (a .skip) (a .part .now) (a .key) (a .from) (a .end) (l .before .lesser .result) (l .lesser2 .result) (a .end - 1)
+    (s .pre .1) (s .pre .2) (l .before .lesser .ensures) (l .lesser2 .ensures) refl
     (rw (k1 .key-at .ensures, k2 .key-at2 .ensures, k3 .key-at3 .ensures, k4 .key-at4 .ensures) at (c .if1 .left))
 
 pub in-few-spec : {M : Type 1} → statement M
