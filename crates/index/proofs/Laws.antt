@@ -12,10 +12,10 @@ use mathlib.Core.List.{List, [], _∷_}
 use lib.Dec.{eqb, ltb, lit≤}
 use lib.ListN.{length, getD}
 use Rattle.rules.specs.Refusal.{unless, firstFailing}
-use Rattle.rules.specs.Set.{KmerSet, headerK, headerN, keyWord, isNone, checkRight, setCheck, setOf}
+use Rattle.rules.specs.Set.{KmerSet, firstLetters, firstCode, headerK, headerN, keyWord, isNone, checkRight, setCheck, setOf}
 use Rattle.rules.specs.Blocks.{blocksFor}
 use Rattle.rules.specs.MakeSet.{Keys}
-use Rattle.rules.specs.Index.{firstLetters, firstCode, indexEntry, indexEntries, indexList, indexBlocks, sameBytes, indexCheck}
+use Rattle.rules.specs.Index.{indexEntry, indexEntries, indexList, indexBlocks, sameBytes, indexCheck}
 use Rattle.rules.proofs.Kmer.{two-four}
 use Rattle.rules.proofs.Keys.{none-fails, is-none, keys-length, keys-at, checked-keys}
 use Rattle.rules.proofs.Blocks.{Bytes}

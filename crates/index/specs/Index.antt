@@ -6,8 +6,8 @@ use mathlib.Core.Option.{none}
 use mathlib.Core.List.{List}
 use lib.Dec.{eqb}
 use lib.ListN.{getD}
-use Rattle.rules.specs.Set.{KmerSet, headerK, headerN, setCheck}
-use Rattle.rules.specs.Index.{indexList, entryIn}
+use Rattle.rules.specs.Set.{KmerSet, entryIn, headerK, headerN, setCheck}
+use Rattle.rules.specs.Index.{indexList}
 
 -- The set's bytes open, with this k and this n.
 pub record Opens (bytes : List ℕ) (k n : ℕ) : Type 0 where

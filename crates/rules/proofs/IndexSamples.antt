@@ -1,4 +1,4 @@
--- Document 02, W7: the index, what its maker answers, and refusal 15, by computation. Serves W7's readings.
+-- Document 02, W7: the index, what its maker answers, refusal 15, and calls with an index, by computation. Serves W7's readings.
 use Prim.Native.Nat.{ℕ}
 use mathlib.Core.Path.{_≡_, refl}
 use mathlib.Core.Bool.{true, false}
@@ -10,7 +10,9 @@ use Rattle.rules.specs.Set.{KmerSet, offering, firstCode, entryIn, solid
 use Rattle.rules.specs.Blocks.{blocksFor, Made}
 use Rattle.rules.specs.MakeSet.{setBlocks}
 use Rattle.rules.specs.Index.{indexEntry, indexEntries, indexList, indexBlocks, makeIndex, indexCheck}
-use Rattle.rules.specs.Samples.{sampleSet, sampleBytes}
+use Rattle.rules.specs.Calls.{Given, correctRead, correctBatch}
+use Rattle.rules.specs.Samples.{A, C, T, G, AACCG, AACGTC, AACGCCG, AACTCCG, sampleSet, sampleBytes}
+use Rattle.rules.proofs.Samples.{given, refusalOf}
 
 -- ---- entries
 
@@ -148,3 +150,83 @@ pub wrong :
     ≡ replicate 13 (some (15, 0))
 unfolding refusalOffered sampleIndex sampleBytes indexBlocks withKeys
 wrong = refl
+
+-- ---- calls
+
+-- A call with an index offered.
+pub offer : List ℕ → Given → Given
+offer index g = record { set = g .set; index = index; job = g .job; input = g .input; output = g .output; work = g .work }
+
+-- With its index, and with an empty one, which is not offered, the printed case is as it is without: bytes, turns, lookups.
+pub printedCaseIndexed :
+    map (λ index. correctBatch (offer index (given sampleBytes (3 ∷ 1 ∷ []) (AACGCCG ++ (10 ∷ A ∷ A ∷ 10 ∷ [])) 12 24))) (sampleIndex ∷ [] ∷ [])
+    ≡ replicate 2 (record {
+      answer = accepted (record { written = 11; turns = 1; lookups = 21; attempts = 1; accepted = 1; yield = 1000 });
+      output = AACTCCG ++ (10 ∷ A ∷ A ∷ 10 ∷ 0 ∷ []);
+      work = replicate 24 0;
+    })
+unfolding correctBatch offer given sampleBytes sampleIndex
+printedCaseIndexed = refl
+
+-- A read through all four methods: Two at confirm 1 leaves AACCG and at confirm 2 mends it, One, Graph and GapSize then find it right.
+pub fourMethodsIndexed :
+    map (λ index. correctRead (offer index (given sampleBytes (2 ∷ 1 ∷ 2 ∷ 2 ∷ 1 ∷ 1 ∷ 3 ∷ 1 ∷ 4 ∷ 1 ∷ []) AACCG 8 16))) (sampleIndex ∷ [] ∷ [])
+    ≡ replicate 2 (record {
+      answer = accepted (record { written = 7; turns = 17; lookups = 89; attempts = 2; accepted = 1; yield = 500 });
+      output = AACTCCG ++ (0 ∷ []);
+      work = replicate 16 0;
+    })
+unfolding correctRead offer given sampleBytes sampleIndex
+fourMethodsIndexed = refl
+
+-- k = 1, key 3: GCAG. C is solid, since its canonical code is that of G. m is 1.
+pub oneLetterIndexed :
+    map (λ index. correctRead (offer index (given (setBlocks 1 (3 ∷ [])) (1 ∷ 1 ∷ []) (G ∷ C ∷ A ∷ G ∷ []) 4 8))) (indexBlocks (withKeys 1 (3 ∷ [])) ∷ [] ∷ [])
+    ≡ replicate 2 (record {
+      answer = accepted (record { written = 4; turns = 3; lookups = 8; attempts = 1; accepted = 0; yield = 0 });
+      output = G ∷ C ∷ A ∷ G ∷ [];
+      work = replicate 8 0;
+    })
+unfolding correctRead offer given setBlocks indexBlocks withKeys
+oneLetterIndexed = refl
+
+-- 15 leaves every lent byte as it is.
+pub fifteen :
+    correctRead (offer (take 1023 sampleIndex) (given sampleBytes (1 ∷ 1 ∷ []) AACGTC 9 18))
+    ≡ record { answer = refused (record { number = 15; place = 0 }); output = replicate 9 1; work = replicate 18 1 }
+unfolding correctRead offer given sampleBytes sampleIndex
+fifteen = refl
+
+-- Offered with a call: the right one; none; one cut by a byte, with another byte, longer by a block of zeros, of another set, of another k.
+pub offered :
+    map (λ index. refusalOf (correctRead (offer index (given sampleBytes (1 ∷ 1 ∷ []) AACGTC 9 18))))
+    (sampleIndex
+    ∷ []
+    ∷ take 1023 sampleIndex
+    ∷ set sampleIndex 8 1
+    ∷ (sampleIndex ++ replicate 512 0)
+    ∷ indexBlocks (withKeys 3 (6 ∷ 23 ∷ 51 ∷ 58 ∷ []))
+    ∷ indexBlocks (withKeys 1 (0 ∷ 3 ∷ []))
+    ∷ [])
+    ≡ none ∷ none ∷ replicate 5 (some (15, 0))
+unfolding refusalOf correctRead offer given sampleBytes sampleIndex indexBlocks withKeys
+offered = refl
+
+-- With a wrong index: 5, and 6 of a batch, come before 15, and so do the set's 7 to 10; 15 comes before 11. With the right one 11 is given.
+pub fifteenInTurn :
+    map refusalOf
+    (correctRead (offer (0 ∷ []) (given sampleBytes (1 ∷ 1 ∷ []) AACGTC 9 17))
+    ∷ correctBatch (offer (0 ∷ []) (given sampleBytes (1 ∷ 1 ∷ []) AACGTC 9 18))
+    ∷ correctRead (offer (0 ∷ []) (given [] (1 ∷ 1 ∷ []) AACGTC 9 18))
+    ∷ correctRead (offer (0 ∷ []) (given (set sampleBytes 520 7) (1 ∷ 1 ∷ []) AACGTC 9 18))
+    ∷ correctRead (offer (0 ∷ []) (given (set (set sampleBytes 0 2) 504 8) (1 ∷ 1 ∷ []) AACGTC 9 18))
+    ∷ correctRead (offer (0 ∷ []) (given (set (set sampleBytes 520 6) 1016 183) (1 ∷ 1 ∷ []) AACGTC 9 18))
+    ∷ correctRead (offer (0 ∷ []) (given sampleBytes (3 ∷ 1 ∷ []) AACGTC 5 12))
+    ∷ correctBatch (offer (0 ∷ []) (given sampleBytes [] (A ∷ 10 ∷ 10 ∷ []) 2 6))
+    ∷ correctRead (offer sampleIndex (given sampleBytes (3 ∷ 1 ∷ []) AACGTC 5 12))
+    ∷ correctBatch (offer sampleIndex (given sampleBytes [] (A ∷ 10 ∷ 10 ∷ []) 2 6))
+    ∷ [])
+    ≡ some (5, 0) ∷ some (6, 0) ∷ some (7, 0) ∷ some (8, 1) ∷ some (9, 0) ∷ some (10, 1)
+    ∷ some (15, 0) ∷ some (15, 0) ∷ some (11, 0) ∷ some (11, 1) ∷ []
+unfolding refusalOf correctRead correctBatch offer given sampleBytes sampleIndex
+fifteenInTurn = refl

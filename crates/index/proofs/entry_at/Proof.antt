@@ -1,4 +1,4 @@
-use Rattle.rules.specs.Index.{entryIn}
+use Rattle.rules.specs.Set.{entryIn}
 use borrow.Author.Needs.{needs}
 use Rattle.index.proofs.entry_at.Statement.{statement}
 use Rattle.index.proofs.entry_at.Tie as tie
