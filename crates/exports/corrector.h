@@ -62,8 +62,8 @@ struct corrector_entry {
 };
 
 /*
- * Why a call is refused: what it returns, and number 0 of its answer. Checked upward, so that the least that applies is told;
- * corrector_make_set has an order of its own.
+ * Why a call is refused: what it returns, and number 0 of its answer. Checked upward, so that the least that applies is told, but for 11,
+ * which comes last; corrector_make_set has an order of its own.
  */
 enum corrector_refusal {
     CORRECTOR_NOT_REFUSED = 0,
@@ -80,7 +80,8 @@ enum corrector_refusal {
     CORRECTOR_NO_ROOM = 11,       /* a result does not fit the output; place: the line, 0 for a single read */
     CORRECTOR_LINE = 12,          /* a line of counts breaks the form; place: the line */
     CORRECTOR_NOT_RISING = 13,    /* the canonical code of a kept line doesn't rise; place: the line */
-    CORRECTOR_TOO_SHORT = 14      /* the buffer is too short for the blocks */
+    CORRECTOR_TOO_SHORT = 14,     /* the buffer is too short for the blocks */
+    CORRECTOR_INDEX = 15          /* an offered index isn't the set's; checked behind 10 and before 11 */
 };
 
 /*
@@ -140,10 +141,13 @@ uint64_t corrector_open(
  * Afterwards: accepted, the output has the result in its first CORRECTOR_WRITTEN bytes and zeros behind it, and work is all zero;
  * refused with 11, both are all zero; refused otherwise, neither has changed.
  *
- * The set is opened at each call: many reads against one set are better sent as a batch.
+ * The set is opened at each call: many reads against one set are better sent as a batch. An index of the set, made by corrector_make_index,
+ * saves a call the walk over all keys by which it would fill its own table; it changes no result and no number. An index of length 0 counts
+ * as not offered.
  */
 uint64_t corrector_read(
     const uint8_t *set, size_t set_length,
+    const uint8_t *index, size_t index_length,
     const uint8_t *job, size_t job_length,
     const uint8_t *read, size_t read_length,
     uint8_t *output, size_t output_length,
@@ -153,6 +157,7 @@ uint64_t corrector_read(
 /* The same for a batch: lines each ended by byte 10, corrected in turn; so is the output. The numbers are sums over the lines. */
 uint64_t corrector_batch(
     const uint8_t *set, size_t set_length,
+    const uint8_t *index, size_t index_length,
     const uint8_t *job, size_t job_length,
     const uint8_t *batch, size_t batch_length,
     uint8_t *output, size_t output_length,

@@ -9,7 +9,7 @@ ghost use mathlib.Core.Path.{_≡_};
 ghost use mathlib.Core.List.{[], _∷_};
 ghost use Prim.Native.Nat.{_<_};
 ghost use lib.ListN.{length};
-ghost use Rattle.rules.specs.Set.{setOf, opened};
+ghost use Rattle.rules.specs.Set.{setOf, offering, opened};
 ghost use Rattle.rules.specs.Job.{entriesOf, lines};
 ghost use Rattle.rules.specs.Calls.{correctRead, correctBatch};
 ghost use Rattle.rules.specs.Solid.{countSolid};
@@ -124,6 +124,7 @@ pub extern "C" fn corrector_open(set: &[u8], answer: &mut [u64]) -> u64
 #[no_mangle]
 pub extern "C" fn corrector_read(
     set: &[u8],
+    index: &[u8],
     job: &[u8],
     read: &[u8],
     output: &mut [u8],
@@ -131,18 +132,19 @@ pub extern "C" fn corrector_read(
     answer: &mut [u64],
 ) -> u64
     ensures exact { λ r. ⌜
-        Exact (correctRead (given (now (set .entry)) (now (job .entry)) (now (read .entry)) (now (output .entry)) (now (work .entry))))
+        Exact (correctRead (given (now (set .entry)) (now (index .entry)) (now (job .entry)) (now (read .entry)) (now (output .entry)) (now (work .entry))))
         (now (answer .entry)) r (now (output .exit)) (now (work .exit)) (now (answer .exit)) ⌝ }
     ensures ceiling { λ r. ⌜
-        Ceiling (setOf (now (set .entry))) (entriesOf (now (job .entry))) (now (read .entry) ∷ []) r (now (answer .exit)) ⌝ }
+        Ceiling (offering (now (index .entry)) (setOf (now (set .entry)))) (entriesOf (now (job .entry))) (now (read .entry) ∷ []) r (now (answer .exit)) ⌝ }
 {
-    tell_answer(job::correct_read(set, job, read, output, work), answer)
+    tell_answer(job::correct_read(set, index, job, read, output, work), answer)
 }
 
 // The batch call.
 #[no_mangle]
 pub extern "C" fn corrector_batch(
     set: &[u8],
+    index: &[u8],
     job: &[u8],
     batch: &[u8],
     output: &mut [u8],
@@ -150,12 +152,12 @@ pub extern "C" fn corrector_batch(
     answer: &mut [u64],
 ) -> u64
     ensures exact { λ r. ⌜
-        Exact (correctBatch (given (now (set .entry)) (now (job .entry)) (now (batch .entry)) (now (output .entry)) (now (work .entry))))
+        Exact (correctBatch (given (now (set .entry)) (now (index .entry)) (now (job .entry)) (now (batch .entry)) (now (output .entry)) (now (work .entry))))
         (now (answer .entry)) r (now (output .exit)) (now (work .exit)) (now (answer .exit)) ⌝ }
     ensures ceiling { λ r. ⌜
-        Ceiling (setOf (now (set .entry))) (entriesOf (now (job .entry))) (lines (now (batch .entry))) r (now (answer .exit)) ⌝ }
+        Ceiling (offering (now (index .entry)) (setOf (now (set .entry)))) (entriesOf (now (job .entry))) (lines (now (batch .entry))) r (now (answer .exit)) ⌝ }
 {
-    tell_answer(job::correct_batch(set, job, batch, output, work), answer)
+    tell_answer(job::correct_batch(set, index, job, batch, output, work), answer)
 }
 
 // The k-mers of a read, and the solid ones among them. Refusals 1 and 7 to 10.

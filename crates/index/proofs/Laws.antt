@@ -47,14 +47,14 @@ module _ (bytes : List ℕ) (o : setCheck bytes ≡ none) where
   unfolding setOf
   set-keys = checked-keys bytes o
 
-  n-keys : length (setOf bytes .keys) ≡ headerN bytes
+  pub n-keys : length (setOf bytes .keys) ≡ headerN bytes
   unfolding setOf
   n-keys = keys-length bytes 0 (headerN bytes)
 
   pub entry-le : (v : ℕ) → indexEntry (setOf bytes) v ≤ headerN bytes
   entry-le v = omega (arith, Rules.entry-le (setOf bytes) set-keys v, n-keys)
 
-  key-is : (i : ℕ) → i < headerN bytes → getD (setOf bytes .keys) i 0 ≡ keyWord bytes i
+  pub key-is : (i : ℕ) → i < headerN bytes → getD (setOf bytes .keys) i 0 ≡ keyWord bytes i
   unfolding setOf
   key-is i l = keys-at bytes 0 (headerN bytes) i l ∙ (let e : 0 + i ≡ i = omega arith in ap (keyWord bytes) e)
 

@@ -260,7 +260,7 @@ pub fn first_line(
     end: usize,
 ) -> usize
     requires { ⌜ (shift < 64) × (end ≤ maxKeys) ⌝ }
-    ensures { λ r. ⌜ WithinKeys first last r ⌝ }
+    ensures { λ r. ⌜ (r ≤ maxKeys) × WithinKeys first last r ⌝ }
 {
     if end <= from {
         return NO_LINE;

@@ -95,9 +95,9 @@ module _ (n : ℕ) (g : Given) (out : g .output ≡ zeros n) where
 
 -- A page that was empty, behind the call: its output, and the zeros that were not lent.
 module _ (set job batch page₀ work : List ℕ) (a : Answer) (o w : List ℕ) (empty : Page [] 0 page₀) (zero-work : work ≡ zeros 65536)
-    (h : Exact (correctBatch (given set job batch (take 32768 page₀) work)) a o w) (long : length o ≡ length (take 32768 page₀)) where
+    (h : Exact (correctBatch (given set [] job batch (take 32768 page₀) work)) a o w) (long : length o ≡ length (take 32768 page₀)) where
   abbrev g : Given
-  g = given set job batch (zeros 32768) (zeros 65536)
+  g = given set [] job batch (zeros 32768) (zeros 65536)
 
   abbrev page : List ℕ
   page = o ++ drop 32768 page₀
@@ -109,8 +109,8 @@ module _ (set job batch page₀ work : List ℕ) (a : Answer) (o w : List ℕ) (
   lent = ap (λ (x : List ℕ). o ++ drop 32768 x) (empty .page) ∙ ap (λ (x : List ℕ). o ++ x) (drop-zeros 32768 32896)
 
   exact : Exact (correctBatch g) a o w
-  exact = subst (λ (x : List ℕ). Exact (correctBatch (given set job batch x (zeros 65536))) a o w) zero-output
-      (subst (λ (x : List ℕ). Exact (correctBatch (given set job batch (take 32768 page₀) x)) a o w) zero-work h)
+  exact = subst (λ (x : List ℕ). Exact (correctBatch (given set [] job batch x (zeros 65536))) a o w) zero-output
+      (subst (λ (x : List ℕ). Exact (correctBatch (given set [] job batch (take 32768 page₀) x)) a o w) zero-work h)
 
   leaves : Leaves 32768 (correctBatch g)
   leaves = batch-leaves 32768 g refl

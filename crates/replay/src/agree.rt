@@ -70,9 +70,9 @@ fn call(
     work: &mut [u8],
 ) -> Answer {
     if number(record, 0) == 3 {
-        return job::correct_read(set, job, input, output, work);
+        return job::correct_read(set, b"", job, input, output, work);
     }
-    job::correct_batch(set, job, input, output, work)
+    job::correct_batch(set, b"", job, input, output, work)
 }
 
 pub fn call_agrees(

@@ -6,8 +6,8 @@ ghost use mathlib.Core.Path.{_≡_};
 ghost use mathlib.Core.Option.{none};
 ghost use Prim.Native.Nat.{ℕ, _+_, _-_, _*_, _/_, _^_, _≤_, _<_, max};
 ghost use lib.ListN.{length, getD};
-ghost use Rattle.rules.specs.Set.{maxK, maxKeys, blocks, headerK, headerN, keyWord, setCheck, setOf, solid};
-ghost use Rattle.rules.specs.Index.{firstLetters, entryIn, indexBlocks, indexCheck};
+ghost use Rattle.rules.specs.Set.{maxK, maxKeys, blocks, headerK, headerN, keyWord, setCheck, setOf, firstLetters, entryIn, solid};
+ghost use Rattle.rules.specs.Index.{indexBlocks, indexCheck};
 ghost use Rattle.rules.specs.Letters.{canonical};
 ghost use Rattle.rules.specs.Scan as rules;
 ghost use Rattle.kmer.specs.Kmer.{Shifts, kmerOf, IsKmer};
@@ -170,7 +170,7 @@ pub fn ask(set: &[u8], starts: &[u32], head: Header, kmer: Kmer) -> Asked
 // The first of the lines that a lookup of the k-mer reads first, none that it may not read.
 pub fn first_line(set: &[u8], starts: &[u32], head: Header, kmer: Kmer) -> usize
     requires { ⌜ Ready (now set) (now starts) head × IsKmer (head .k) kmer ⌝ }
-    ensures { λ r. ⌜ LineOf (now (set .entry)) (head .shift + head .finer) (canonical (head .k) (kmer .code)) r ⌝ }
+    ensures { λ r. ⌜ (r ≤ maxKeys) × LineOf (now (set .entry)) (head .shift + head .finer) (canonical (head .k) (kmer .code)) r ⌝ }
 {
     let both = Kmer {
         code: kmer.code,

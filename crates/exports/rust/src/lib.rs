@@ -24,7 +24,7 @@
 //! let read = b"AACGCCG";
 //! let mut output = [0; 16];
 //! let mut work = vec![0; corrector::work_length(output.len(), read.len())];
-//! let report = corrector::correct_read(&set, Job::new(&entries), read, &mut output, &mut work)?;
+//! let report = corrector::correct_read(&set, None, Job::new(&entries), read, &mut output, &mut work)?;
 //! assert_eq!(output[..report.written], *b"AACTCCG");
 //! # Ok::<(), corrector::Refusal>(())
 //! ```
@@ -105,13 +105,27 @@ pub fn open(set: &[u8]) -> Result<Set, Refusal> {
 /// Accepted, `output` has the result in its first [`written`](Report::written) bytes and zeros behind it, and `work` is all zero. Refused
 /// with [`Refusal::NoRoom`], both are all zero; refused otherwise, neither has changed. The set is checked at each call, so many reads are
 /// better sent as a batch.
-pub fn correct_read(set: &[u8], job: Job<'_>, read: &[u8], output: &mut [u8], work: &mut [u8]) -> Result<Report, Refusal> {
-    answer(raw::correct(raw::Call::Read, raw::Lent { set, job: job.as_bytes(), input: read, output, work }))
+///
+/// An index of the set, from [`make_index`], saves a call the walk over all keys by which it would fill its own table. It changes no result and
+/// no number; an index of another set is refused. An empty one counts as none.
+pub fn correct_read(set: &[u8], index: Option<&[u8]>, job: Job<'_>, read: &[u8], output: &mut [u8], work: &mut [u8]) -> Result<Report, Refusal> {
+    answer(raw::correct(raw::Call::Read, lent(set, index, job, read, output, work)))
 }
 
 /// Corrects a batch, lines each ended by byte 10, as [`correct_read`] does a read. The output is lines too.
-pub fn correct_batch(set: &[u8], job: Job<'_>, batch: &[u8], output: &mut [u8], work: &mut [u8]) -> Result<Report, Refusal> {
-    answer(raw::correct(raw::Call::Batch, raw::Lent { set, job: job.as_bytes(), input: batch, output, work }))
+pub fn correct_batch(set: &[u8], index: Option<&[u8]>, job: Job<'_>, batch: &[u8], output: &mut [u8], work: &mut [u8]) -> Result<Report, Refusal> {
+    answer(raw::correct(raw::Call::Batch, lent(set, index, job, batch, output, work)))
+}
+
+fn lent<'a>(
+    set: &'a [u8],
+    index: Option<&'a [u8]>,
+    job: Job<'a>,
+    input: &'a [u8],
+    output: &'a mut [u8],
+    work: &'a mut [u8],
+) -> raw::Lent<'a> {
+    raw::Lent { set, index: index.unwrap_or_default(), job: job.as_bytes(), input, output, work }
 }
 
 /// The k-mers of a read, and the solid ones among them. A read that is shorter than k has none.

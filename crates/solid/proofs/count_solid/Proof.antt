@@ -78,7 +78,7 @@ slice-aggregate-prepare c = search needs
 prepare-requires : tie.Need-prepare-requires
 prepare-requires c κs =
     let k = opening (c .before .before) in
-    (k .1, k .2, k .3, length-replicate {A = ℕ} tableLength 0)
+    (k .1, k .2, k .3, length-replicate {A = ℕ} tableLength 0, index-passes _ [] .1 (inl refl))
 
 slice-aggregate-count-kmers : tie.Need-slice-aggregate-count-kmers
 slice-aggregate-count-kmers c = search needs
@@ -86,7 +86,7 @@ slice-aggregate-count-kmers c = search needs
 count-kmers-requires : tie.Need-count-kmers-requires
 count-kmers-requires c κs =
     let p = c .before .before in
-    let r = p .prepare .ensures in
+    let r = p .prepare .ensures .0 in
     let k = opening (p .before .before .before) in
     (r, omega (arith, r .k-is, k .2, p .before .before .if1 .left))
 
@@ -102,7 +102,7 @@ returns-4 c =
     let e = p .before .before in
     let k = opening (e .before) in
     let o = e .before .before .before .before in
-    let same = p .prepare .ensures .k-is ∙ sym (k .2) in
+    let same = p .prepare .ensures .0 .k-is ∙ sym (k .2) in
     sym (count-all _ _ (short (o .before)) (k .0) _ (k .2) _ (e .if1 .left) (rw same at (c .count-kmers .ensures)))
 
 pub count-solid-spec : {M : Type 1} → statement M
