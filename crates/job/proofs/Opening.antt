@@ -9,7 +9,7 @@ use Rattle.rules.specs.Refusal.{Check, accepted, refused, _orElse_, unless}
 use Rattle.rules.specs.Set.{setOf, offering, opened}
 use Rattle.rules.specs.Index.{indexCheck}
 use Rattle.rules.specs.Job.{entriesOf, Confirmed, lines}
-use Rattle.rules.specs.Calls.{Given, After, inputCheck, batchRight, givenCheck, corrected, correctRead, correctBatch}
+use Rattle.rules.specs.Calls.{Given, After, withoutIndex, inputCheck, batchRight, givenCheck, corrected, correctRead, correctBatch}
 use Rattle.refusal.specs.declared.Refusal.{Refusal}
 use Rattle.refusal.specs.declared.Refusal.the-variants.{Batch, Index}
 use Rattle.report.specs.declared.Answer.{Answer}
@@ -34,7 +34,7 @@ module _ (g : Given) where
 
   -- What a call whose set opened does with its reads, an ending behind each.
   abbrev with-set : List ℕ → List (List ℕ) → After
-  with-set ending reads = corrected (setOf (g .set)) (entriesOf (g .job)) ending g reads
+  with-set ending reads = corrected (setOf (g .set)) (entriesOf (g .job)) ending (withoutIndex g) reads
 
   module _ (r : Refusal) where
     pub read-refused : checks ≡ some (refusalOf r) → Exact (correctRead g) (Refused r) (g .output) (g .work)
@@ -56,7 +56,7 @@ module _ (g : Given) where
   unfolding correctRead givenCheck
   read-corrected r {o} {w} e opens i low h = (
     subst (λ (a : After). Exact a r o w) (sym (call-opened [] (g .input ∷ []) checks g (setOf (g .set)) e opens i)) h,
-    under-ceiling (setOf (g .set)) (entriesOf (g .job)) [] g (g .input ∷ []) (g .set) opens (g .index) i low r h,
+    under-ceiling (setOf (g .set)) (entriesOf (g .job)) [] (withoutIndex g) (g .input ∷ []) (g .set) opens (g .index) i low r h,
   )
 
   -- 6 comes after 5.
@@ -100,5 +100,5 @@ module _ (g : Given) where
         batch-corrected r {o} {w} i low h = (
           subst (λ (a : After). Exact a r o w)
               (sym (call-opened (10 ∷ []) (lines (g .input)) (checks orElse six) g (setOf (g .set)) passed opens i)) h,
-          under-ceiling (setOf (g .set)) (entriesOf (g .job)) (10 ∷ []) g (lines (g .input)) (g .set) opens (g .index) i low r h,
+          under-ceiling (setOf (g .set)) (entriesOf (g .job)) (10 ∷ []) (withoutIndex g) (lines (g .input)) (g .set) opens (g .index) i low r h,
         )

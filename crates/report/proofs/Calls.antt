@@ -12,7 +12,7 @@ use Rattle.rules.specs.Job.{Entry, result, entriesOf}
 use Rattle.rules.specs.Counts.{Fed, sum, passesOf, allPasses}
 use Rattle.rules.specs.Index.{indexCheck}
 use Rattle.rules.proofs.Offered.{same-corrected}
-use Rattle.rules.specs.Calls.{Given, unchanged, noRoom, longest, tooLong, results, report, corrected, call}
+use Rattle.rules.specs.Calls.{Given, withoutIndex, unchanged, noRoom, longest, tooLong, results, report, corrected, call}
 
 -- ---- sums over passes
 
@@ -74,7 +74,7 @@ module _ (ending : List ℕ) (reads : List (List ℕ)) (check : Check) (g : Give
     call-index-wrong r i = rw (call, e, o, i)
 
     -- With an index that passes 15 the call corrects as without one.
-    pub call-opened : indexCheck set (g .index) ≡ none → call ending reads check g ≡ corrected set (entriesOf (g .job)) ending g reads
-    unfolding call
+    pub call-opened : indexCheck set (g .index) ≡ none → call ending reads check g ≡ corrected set (entriesOf (g .job)) ending (withoutIndex g) reads
+    unfolding call corrected noRoom withoutIndex
     call-opened i =
         rw (call, e, o, i) (same-corrected (g .set) set o (g .index) i (entriesOf (g .job)) ending g reads)
