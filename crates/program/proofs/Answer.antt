@@ -10,11 +10,12 @@ use Rattle.rules.specs.Refusal.{Refusal, Check, Outcome, accepted, refused, _or
 use Rattle.rules.specs.Report as Reports
 use Rattle.rules.specs.Set.{KmerSet, opened}
 use Rattle.rules.specs.Job.{Entry, entriesOf, lines}
-use Rattle.rules.specs.Calls.{Given, After, unchanged, noRoom, tooLong, results, report, corrected, call, batchRight, givenCheck, correctBatch}
+use Rattle.rules.specs.Index.{indexCheck}
+use Rattle.rules.specs.Calls.{Given, withoutIndex, After, unchanged, noRoom, tooLong, results, report, corrected, call, batchRight, givenCheck, correctBatch}
 use Rattle.rules.specs.Program.{zeros, refusalLine, countsLine, printedFor}
 use Rattle.refusal.specs.declared.Refusal.{Refusal as Refused·by}
 use Rattle.refusal.specs.Refusal.{refusalOf}
-use Rattle.report.proofs.Calls.{corrected-full, corrected-fits, call-refused, call-not-opened, call-opened}
+use Rattle.report.proofs.Calls.{corrected-full, corrected-fits, call-refused, call-not-opened, call-index-wrong, call-opened}
 use Rattle.report.specs.declared.Report.{Report}
 use Rattle.report.specs.declared.Answer.{Answer}
 use Rattle.report.specs.declared.Answer.the-variants.{Report as Reported, Refused}
@@ -82,12 +83,17 @@ module _ (n : ℕ) (g : Given) (out : g .output ≡ zeros n) where
           go none t = rw (corrected-fits set es ending g reads t) fits-leaves
 
     call-leaves : (check : Check) → Leaves n (call ending reads check g)
+    unfolding corrected noRoom withoutIndex
     call-leaves (some x) = rw (call-refused ending reads (some x) g x refl) (unchanged-leaves x)
     call-leaves none = go (opened (g .set)) refl
       where
         go : (o : Outcome KmerSet) → opened (g .set) ≡ o → Leaves n (call ending reads none g)
         go (refused x) o = rw (call-not-opened ending reads none g x refl o) (unchanged-leaves x)
-        go (accepted set) o = rw (call-opened ending reads none g set refl o) (corrected-leaves set (entriesOf (g .job)))
+        go (accepted set) o = at (indexCheck set (g .index)) refl
+          where
+            at : (i : Check) → indexCheck set (g .index) ≡ i → Leaves n (call ending reads none g)
+            at (some x) i = rw (call-index-wrong ending reads none g set refl o x i) (unchanged-leaves x)
+            at none i = rw (call-opened ending reads none g set refl o i) (corrected-leaves set (entriesOf (g .job)))
 
   batch-leaves : Leaves n (correctBatch g)
   unfolding correctBatch
