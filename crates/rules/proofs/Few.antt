@@ -9,7 +9,7 @@ use lib.ListN.{length, take, drop, length-append, length-map, take-append-drop}
 use lib.Seq.{slice}
 use lib.Dec.{eqb}
 use Rattle.rules.specs.Letters.{Kmer, among, same, met, revcomp, evenOnes, canonical}
-use Rattle.rules.specs.Set.{KmerSet, firstCode, entryIn, keysFor, solid}
+use Rattle.rules.specs.Set.{KmerSet, rangeStart, rangeEnd, keysFor, solid}
 use Rattle.rules.specs.Scan.{ask}
 use Rattle.rules.specs.Graph.{All, end, also, Distinct, also-distinct}
 use Rattle.rules.proofs.Kmer.{Known, same-code, revcomp-twice}
@@ -90,11 +90,15 @@ among-right y [] bs h = h
 among-right y (a ∷ us) bs h = or-right (eqb y a) (among-right y us bs h)
 
 -- what stands in a part of a list stands in it
-among-take : (y n : ℕ) (us : List ℕ) → among y (take n us) ≡ true → among y us ≡ true
-among-take y n us h = subst (λ (ws : List ℕ). among y ws ≡ true) (take-append-drop n us) (among-left y (take n us) (drop n us) h)
+among-part : (y lo hi : ℕ) (us : List ℕ) → among y (slice lo hi us) ≡ true → among y us ≡ true
+among-part y lo hi us h = below (behind h)
+  where
+    behind : among y (slice lo hi us) ≡ true → among y (take hi us) ≡ true
+    behind g =
+        subst (λ (ws : List ℕ). among y ws ≡ true) (take-append-drop lo (take hi us)) (among-right y (take lo (take hi us)) (slice lo hi us) g)
 
-among-drop : (y n : ℕ) (us : List ℕ) → among y (drop n us) ≡ true → among y us ≡ true
-among-drop y n us h = subst (λ (ws : List ℕ). among y ws ≡ true) (take-append-drop n us) (among-right y (take n us) (drop n us) h)
+    below : among y (take hi us) ≡ true → among y us ≡ true
+    below g = subst (λ (ws : List ℕ). among y ws ≡ true) (take-append-drop hi us) (among-left y (take hi us) (drop hi us) g)
 
 among-map : (f : ℕ → ℕ) (y : ℕ) (us : List ℕ) → among y us ≡ true → among (f y) (map f us) ≡ true
 unfolding among
@@ -113,28 +117,23 @@ SolidKmer k sol y = (y .code < 4 ^ k) × (ask sol y .answer ≡ true)
 unfoldable pub Few : ℕ → ℕ → (ℕ → Bool) → Type 0
 Few k n sol = (ys : List Kmer) → Distinct ys → All (SolidKmer k sol) ys → length ys ≤ 2 * n
 
+-- only keys are looked at
+looked-at : (k : ℕ) (keys index : List ℕ) (y key : ℕ) → among y (keysFor (record { k = k; keys = keys; index = index }) key) ≡ true → among y keys ≡ true
+unfolding keysFor
+looked-at k keys [] y key h = h
+looked-at k keys (b ∷ bs) y key h =
+    let s : KmerSet = record { k = k; keys = keys; index = b ∷ bs } in
+    among-part y (rangeStart s key) (rangeEnd s key) keys h
+
 module _ (set : KmerSet) where
   -- the keys, and their reverse complements
   both : List ℕ
   both = set .keys ++ map (revcomp (set .k)) (set .keys)
 
-  -- Whatever index is offered, only keys are looked at.
+  -- a solid code's canonical code is a key, whatever index is offered
   pub solid-among : (y : ℕ) → solid set y ≡ true → among (canonical (set .k) y) (set .keys) ≡ true
-  unfolding solid keysFor
-  solid-among y h = go (set .index) refl
-    where
-      key : ℕ
-      key = canonical (set .k) y
-
-      v : ℕ
-      v = firstCode (set .k) key
-
-      go : (index : List ℕ) → set .index ≡ index → among key (set .keys) ≡ true
-      go [] e = rw (e, keysFor) at h
-      go (b ∷ bs) e =
-          let part : among key (slice (entryIn (set .index) v) (entryIn (set .index) (suc v)) (set .keys)) ≡ true = rw (e, keysFor) at h in
-          among-take key (entryIn (set .index) (suc v)) (set .keys)
-          (among-drop key (entryIn (set .index) v) (take (entryIn (set .index) (suc v)) (set .keys)) part)
+  unfolding solid
+  solid-among y h = looked-at (set .k) (set .keys) (set .index) (canonical (set .k) y) _ h
 
   covers : (y : ℕ) → y < 4 ^ set .k → solid set y ≡ true → among y both ≡ true
   unfolding canonical both

@@ -11,7 +11,7 @@ use Rattle.rules.specs.Blocks.{blocksFor, Made}
 use Rattle.rules.specs.MakeSet.{setBlocks}
 use Rattle.rules.specs.Index.{indexEntry, indexEntries, indexList, indexBlocks, makeIndex, indexCheck}
 use Rattle.rules.specs.Calls.{Given, correctRead, correctBatch}
-use Rattle.rules.specs.Samples.{A, C, T, G, AACCG, AACGTC, AACGCCG, AACTCCG, sampleSet, sampleBytes}
+use Rattle.rules.specs.Samples.{A, C, T, G, AACCG, AACGTC, AACGCCG, AACTCCG, sampleSet, wordBytes, sampleBytes}
 use Rattle.rules.proofs.Samples.{given, refusalOf}
 
 -- ---- entries
@@ -49,9 +49,21 @@ entries = (refl, refl)
 
 -- ---- blocks
 
+-- The sample's index, two blocks: entries 0 to 62 and check word 113, entries 63 and 64, spare words and check word 12.
 pub sampleIndex : List ℕ
-unfolding indexBlocks sampleSet
-sampleIndex = indexBlocks sampleSet
+unfolding wordBytes
+sampleIndex =
+    wordBytes (replicate 7 0 ++ replicate 17 1 ++ replicate 28 2 ++ replicate 7 3 ++ replicate 2 4 ++ replicate 2 5 ++ (113 ∷ []))
+    ++ wordBytes (5 ∷ 5 ∷ replicate 61 0 ++ (12 ∷ []))
+
+-- The index of key 3 at k = 1.
+pub oneIndex : List ℕ
+unfolding wordBytes
+oneIndex = wordBytes (0 ∷ 0 ∷ 0 ∷ 0 ∷ 1 ∷ replicate 58 0 ++ (2 ∷ []))
+
+pub blocksAre : (indexBlocks sampleSet ≡ sampleIndex) × (indexBlocks (withKeys 1 (3 ∷ [])) ≡ oneIndex)
+unfolding indexBlocks sampleSet sampleIndex withKeys oneIndex
+blocksAre = (refl, refl)
 
 -- The whole index of A and G, and of no key at k = 1: entries from word 0 on, spare words zero, then the check word of block 0.
 pub bytes :
@@ -61,7 +73,7 @@ pub bytes :
 unfolding indexBlocks withKeys
 bytes = (refl, refl)
 
--- The sample's index has two blocks: entries 62 and 63 on either side of block 0's check word, entry 64, spare words, and the two check words.
+-- What is read from the sample's index: entries 62 and 63 on either side of block 0's check word, entry 64, spare words, and the two check words.
 pub words :
     (length sampleIndex ≡ 1024)
     × (map (entryIn sampleIndex) (0 ∷ 6 ∷ 7 ∷ 62 ∷ 63 ∷ 64 ∷ 65 ∷ 125 ∷ []) ≡ 0 ∷ 0 ∷ 1 ∷ 5 ∷ 5 ∷ 5 ∷ 0 ∷ 0 ∷ [])
@@ -168,7 +180,7 @@ pub printedCaseIndexed :
 unfolding correctBatch offer given sampleBytes sampleIndex
 printedCaseIndexed = refl
 
--- A read through all four methods: Two at confirm 1 leaves AACCG and at confirm 2 mends it, One, Graph and GapSize then find it right.
+-- A read through all four methods: Two leaves AACCG at confirm 1 and mends it at confirm 2; One, Graph and GapSize then find it right.
 pub fourMethodsIndexed :
     map (λ index. correctRead (offer index (given sampleBytes (2 ∷ 1 ∷ 2 ∷ 2 ∷ 1 ∷ 1 ∷ 3 ∷ 1 ∷ 4 ∷ 1 ∷ []) AACCG 8 16))) (sampleIndex ∷ [] ∷ [])
     ≡ replicate 2 (record {
@@ -181,52 +193,41 @@ fourMethodsIndexed = refl
 
 -- k = 1, key 3: GCAG. C is solid, since its canonical code is that of G. m is 1.
 pub oneLetterIndexed :
-    map (λ index. correctRead (offer index (given (setBlocks 1 (3 ∷ [])) (1 ∷ 1 ∷ []) (G ∷ C ∷ A ∷ G ∷ []) 4 8))) (indexBlocks (withKeys 1 (3 ∷ [])) ∷ [] ∷ [])
+    map (λ index. correctRead (offer index (given (setBlocks 1 (3 ∷ [])) (1 ∷ 1 ∷ []) (G ∷ C ∷ A ∷ G ∷ []) 4 8))) (oneIndex ∷ [] ∷ [])
     ≡ replicate 2 (record {
       answer = accepted (record { written = 4; turns = 3; lookups = 8; attempts = 1; accepted = 0; yield = 0 });
       output = G ∷ C ∷ A ∷ G ∷ [];
       work = replicate 8 0;
     })
-unfolding correctRead offer given setBlocks indexBlocks withKeys
+unfolding correctRead offer given setBlocks oneIndex
 oneLetterIndexed = refl
 
--- 15 leaves every lent byte as it is.
+-- An index cut by a byte: 15 leaves every lent byte as it is.
 pub fifteen :
     correctRead (offer (take 1023 sampleIndex) (given sampleBytes (1 ∷ 1 ∷ []) AACGTC 9 18))
     ≡ record { answer = refused (record { number = 15; place = 0 }); output = replicate 9 1; work = replicate 18 1 }
 unfolding correctRead offer given sampleBytes sampleIndex
 fifteen = refl
 
--- Offered with a call: the right one; none; one cut by a byte, with another byte, longer by a block of zeros, of another set, of another k.
+-- Other wrong ones offered with a call: with another byte, longer by a block of zeros, of another set.
 pub offered :
     map (λ index. refusalOf (correctRead (offer index (given sampleBytes (1 ∷ 1 ∷ []) AACGTC 9 18))))
-    (sampleIndex
-    ∷ []
-    ∷ take 1023 sampleIndex
-    ∷ set sampleIndex 8 1
-    ∷ (sampleIndex ++ replicate 512 0)
-    ∷ indexBlocks (withKeys 3 (6 ∷ 23 ∷ 51 ∷ 58 ∷ []))
-    ∷ indexBlocks (withKeys 1 (0 ∷ 3 ∷ []))
-    ∷ [])
-    ≡ none ∷ none ∷ replicate 5 (some (15, 0))
+    (set sampleIndex 8 1 ∷ (sampleIndex ++ replicate 512 0) ∷ indexBlocks (withKeys 3 (6 ∷ 23 ∷ 51 ∷ 58 ∷ [])) ∷ [])
+    ≡ replicate 3 (some (15, 0))
 unfolding refusalOf correctRead offer given sampleBytes sampleIndex indexBlocks withKeys
 offered = refl
 
--- With a wrong index: 5, and 6 of a batch, come before 15, and so do the set's 7 to 10; 15 comes before 11. With the right one 11 is given.
+-- With a wrong index: 5, and 6 of a batch, come before 15, and so do the set's 7 and 10; 15 comes before 11, which the right index meets.
 pub fifteenInTurn :
     map refusalOf
     (correctRead (offer (0 ∷ []) (given sampleBytes (1 ∷ 1 ∷ []) AACGTC 9 17))
     ∷ correctBatch (offer (0 ∷ []) (given sampleBytes (1 ∷ 1 ∷ []) AACGTC 9 18))
     ∷ correctRead (offer (0 ∷ []) (given [] (1 ∷ 1 ∷ []) AACGTC 9 18))
-    ∷ correctRead (offer (0 ∷ []) (given (set sampleBytes 520 7) (1 ∷ 1 ∷ []) AACGTC 9 18))
-    ∷ correctRead (offer (0 ∷ []) (given (set (set sampleBytes 0 2) 504 8) (1 ∷ 1 ∷ []) AACGTC 9 18))
     ∷ correctRead (offer (0 ∷ []) (given (set (set sampleBytes 520 6) 1016 183) (1 ∷ 1 ∷ []) AACGTC 9 18))
     ∷ correctRead (offer (0 ∷ []) (given sampleBytes (3 ∷ 1 ∷ []) AACGTC 5 12))
     ∷ correctBatch (offer (0 ∷ []) (given sampleBytes [] (A ∷ 10 ∷ 10 ∷ []) 2 6))
-    ∷ correctRead (offer sampleIndex (given sampleBytes (3 ∷ 1 ∷ []) AACGTC 5 12))
     ∷ correctBatch (offer sampleIndex (given sampleBytes [] (A ∷ 10 ∷ 10 ∷ []) 2 6))
     ∷ [])
-    ≡ some (5, 0) ∷ some (6, 0) ∷ some (7, 0) ∷ some (8, 1) ∷ some (9, 0) ∷ some (10, 1)
-    ∷ some (15, 0) ∷ some (15, 0) ∷ some (11, 0) ∷ some (11, 1) ∷ []
+    ≡ some (5, 0) ∷ some (6, 0) ∷ some (7, 0) ∷ some (10, 1) ∷ some (15, 0) ∷ some (15, 0) ∷ some (11, 1) ∷ []
 unfolding refusalOf correctRead correctBatch offer given sampleBytes sampleIndex
 fifteenInTurn = refl

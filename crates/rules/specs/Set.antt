@@ -58,15 +58,19 @@ unfoldable pub entryIn : List ℕ → ℕ → ℕ
 unfolding blockWord
 entryIn index v = blockWord index (v / 63) (v % 63)
 
--- The keys that a lookup of a canonical code looks at: all; with an index only those numbered from entry v up to, not including, entry v + 1, v being
--- the code of its first m letters.
-unfoldable pub keysFor : KmerSet → ℕ → List ℕ
+-- Entries v and v + 1 of the offered index, v being the code of a canonical code's first m letters.
+unfoldable pub rangeStart : KmerSet → ℕ → ℕ
 unfolding firstCode entryIn
-keysFor s key =
-    elim (s .index) [
-      | [] ↦ s .keys
-      | b ∷ bs ↦ (let v : ℕ = firstCode (s .k) key in slice (entryIn (s .index) v) (entryIn (s .index) (suc v)) (s .keys))
-    ]
+rangeStart s key = entryIn (s .index) (firstCode (s .k) key)
+
+unfoldable pub rangeEnd : KmerSet → ℕ → ℕ
+unfolding firstCode entryIn
+rangeEnd s key = entryIn (s .index) (suc (firstCode (s .k) key))
+
+-- The keys that a lookup of a canonical code looks at: all; with an index only those numbered from entry v up to, not including, entry v + 1.
+unfoldable pub keysFor : KmerSet → ℕ → List ℕ
+unfolding rangeStart rangeEnd
+keysFor s key = elim (s .index) [ [] ↦ s .keys | b ∷ bs ↦ slice (rangeStart s key) (rangeEnd s key) (s .keys) ]
 
 -- A code is solid when its canonical code is a key; asking once is one lookup.
 unfoldable pub solid : KmerSet → ℕ → Bool
