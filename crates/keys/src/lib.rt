@@ -18,6 +18,20 @@ fn pick(test: bool, yes: usize, no: usize) -> usize
     if test { yes } else { no }
 }
 
+// One key or two: in a small set a prefix rarely has more.
+fn in_two(set: &[u8], key: u64, from: usize, end: usize) -> Found
+    requires { ⌜ (from < end) × (end ≤ from + 2) × (end ≤ 63 * (blocks (now set) - 1)) × (end ≤ maxKeys) ⌝ }
+    ensures { λ r. ⌜ Answers (now (set .entry)) key from end r ⌝ }
+{
+    let last = end - 1;
+    let is_first = key == blocks::key_at(set, from);
+    let is_last = key == blocks::key_at(set, last);
+    if is_first | is_last {
+        return Found::At(pick(is_first, from, last));
+    }
+    Found::Nothing
+}
+
 // Up to four keys, all of them compared: where a prefix has few, a branch on each would often be guessed wrong.
 fn in_few(set: &[u8], key: u64, from: usize, end: usize) -> Found
     requires { ⌜ (from < end) × (end ≤ from + 4) × (end ≤ 63 * (blocks (now set) - 1)) × (end ≤ maxKeys) ⌝ }
@@ -231,6 +245,9 @@ pub fn find(set: &[u8], key: u64, shift: u32, n: usize, from: usize, end: usize)
 {
     if end <= from {
         return Found::Nothing;
+    }
+    if end - from <= 2 {
+        return in_two(set, key, from, end);
     }
     if end - from <= 4 {
         return in_few(set, key, from, end);
