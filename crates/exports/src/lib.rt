@@ -137,7 +137,10 @@ pub extern "C" fn corrector_read(
     ensures ceiling { λ r. ⌜
         Ceiling (offering (now (index .entry)) (setOf (now (set .entry)))) (entriesOf (now (job .entry))) (now (read .entry) ∷ []) r (now (answer .exit)) ⌝ }
 {
-    tell_answer(job::correct_read(set, index, job, read, output, work), answer)
+    tell_answer(
+        job::correct_read(set, index, job, read, output, work),
+        answer,
+    )
 }
 
 // The batch call.
@@ -157,7 +160,10 @@ pub extern "C" fn corrector_batch(
     ensures ceiling { λ r. ⌜
         Ceiling (offering (now (index .entry)) (setOf (now (set .entry)))) (entriesOf (now (job .entry))) (lines (now (batch .entry))) r (now (answer .exit)) ⌝ }
 {
-    tell_answer(job::correct_batch(set, index, job, batch, output, work), answer)
+    tell_answer(
+        job::correct_batch(set, index, job, batch, output, work),
+        answer,
+    )
 }
 
 // The k-mers of a read, and the solid ones among them. Refusals 1 and 7 to 10.

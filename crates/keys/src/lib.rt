@@ -37,8 +37,22 @@ fn key_at(part: &[u8], skip: usize, i: usize) -> u64
     blocks::word_at(part, place(i) - skip)
 }
 
-// Up to four keys, all of them compared: where a prefix has few, a branch on each would often be guessed wrong.
-pub fn in_few(part: &[u8], skip: usize, key: u64, from: usize, end: usize) -> Found
+// One key or two: in a small set a prefix rarely has more.
+fn in_two(part: &[u8], skip: usize, key: u64, from: usize, end: usize) -> Found
+    requires { ⌜ Sorted skip (now part) from end × (from < end) × (end ≤ from + 2) ⌝ }
+    ensures { λ r. ⌜ Answers skip (now (part .entry)) key from end r ⌝ }
+{
+    let last = end - 1;
+    let is_first = key == key_at(part, skip, from);
+    let is_last = key == key_at(part, skip, last);
+    if is_first | is_last {
+        return Found::At(pick(is_first, from, last));
+    }
+    Found::Nothing
+}
+
+// Up to four keys, all of them compared: a branch on each would often be guessed wrong.
+fn in_four(part: &[u8], skip: usize, key: u64, from: usize, end: usize) -> Found
     requires { ⌜ Sorted skip (now part) from end × (from < end) × (end ≤ from + 4) ⌝ }
     ensures { λ r. ⌜ Answers skip (now (part .entry)) key from end r ⌝ }
 {
@@ -57,6 +71,16 @@ pub fn in_few(part: &[u8], skip: usize, key: u64, from: usize, end: usize) -> Fo
         ));
     }
     Found::Nothing
+}
+
+pub fn in_few(part: &[u8], skip: usize, key: u64, from: usize, end: usize) -> Found
+    requires { ⌜ Sorted skip (now part) from end × (from < end) × (end ≤ from + 4) ⌝ }
+    ensures { λ r. ⌜ Answers skip (now (part .entry)) key from end r ⌝ }
+{
+    if end - from <= 2 {
+        return in_two(part, skip, key, from, end);
+    }
+    in_four(part, skip, key, from, end)
 }
 
 // Keys lie in lines of 64 bytes, each one access to memory: 8 words, of which the last in each block is its check word.
@@ -251,14 +275,7 @@ fn guess(key: u64, shift: u32, from: usize, end: usize) -> usize
 pub const NO_LINE: usize = 16777216;
 
 // The first of the three lines that a search for the key reads first, all of them within the keys from `first` on and before `last`.
-pub fn first_line(
-    key: u64,
-    shift: u32,
-    first: usize,
-    last: usize,
-    from: usize,
-    end: usize,
-) -> usize
+pub fn first_line(key: u64, shift: u32, first: usize, last: usize, from: usize, end: usize) -> usize
     requires { ⌜ (shift < 64) × (end ≤ maxKeys) ⌝ }
     ensures { λ r. ⌜ (r ≤ maxKeys) × WithinKeys first last r ⌝ }
 {

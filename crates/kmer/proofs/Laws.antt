@@ -20,7 +20,7 @@ use Rattle.rules.proofs.Opened.{both}
 use Rattle.rules.proofs.Kmer.{known-true, ne-known, same-code, four-pos, push-is, push-lt, complement-lt, revcomp-lt, revcomp-first, ones-in, two-four}
 use Rattle.kmer.specs.declared.Header.{Header}
 use Rattle.kmer.specs.declared.Kmer.{Kmer}
-use Rattle.kmer.specs.Kmer.{basePairs, Shifts, kmerOf, IsKmer, HasLetters}
+use Rattle.kmer.specs.Kmer.{Shifts, kmerOf, IsKmer, HasLetters}
 
 -- k is at most 31, so a k-mer is below 2 ^ 62
 pub bound : (k : ℕ) → k ≤ 31 → 4 ^ k ≤ 2 ^ 62
@@ -126,8 +126,8 @@ shifted head y a s l h = rw (s .mask-is) (go (head .k) (s .k-low) (s .k-high) l)
 
 -- ---- the reverse complement, carried along
 
-pub pair-is : (a : ℕ) → a < 4 → bitAnd (basePairs / 2 ^ (2 * a)) 3 ≡ complement a
-unfolding basePairs complement
+pub pair-is : (a : ℕ) → a < 4 → (a + complement 0) % 4 ≡ complement a
+unfolding complement
 pair-is zero h = refl
 pair-is (suc zero) h = refl
 pair-is (suc (suc zero)) h = refl

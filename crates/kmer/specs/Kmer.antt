@@ -6,11 +6,6 @@ use Rattle.rules.specs.Letters as rules
 use Rattle.kmer.specs.declared.Header.{Header}
 use Rattle.kmer.specs.declared.Kmer.{Kmer}
 
--- The complements of the four codes, two bits each.
-unfoldable pub basePairs : ℕ
-unfolding complement
-basePairs = complement 0 + 4 * complement 1 + 16 * complement 2 + 64 * complement 3
-
 -- The header's mask belongs to its k.
 pub record Shifts (head : Header) : Type 0 where
   pub k-low : 1 ≤ head .k

@@ -4,7 +4,7 @@ ghost use mathlib.Core.Path.{_≡_};
 ghost use Prim.Native.Nat.{ℕ, _-_, _<_, _≤_, _^_};
 ghost use lib.ListN.{length, take};
 ghost use Rattle.rules.specs.Letters;
-ghost use Rattle.kmer.specs.Kmer.{basePairs, Shifts, kmerOf, IsKmer, HasLetters};
+ghost use Rattle.kmer.specs.Kmer.{Shifts, kmerOf, IsKmer, HasLetters};
 
 // What a set's header says, k and n, with what lookups and shifts need beside it.
 pub struct Header {
@@ -102,19 +102,12 @@ fn complement(nuc: u64) -> u64
     }
 }
 
-// The complements of the four codes, two bits each. The compiler makes one number of it, so that no match is made at each base.
-fn base_pairs() -> u64
-    ensures { λ r. ⌜ r ≡ basePairs ⌝ }
-{
-    complement(0) + 4 * complement(1) + 16 * complement(2) + 64 * complement(3)
-}
-
-// The complement, as one of those four.
+// The complement of any code lies as far behind it as that of A behind A. A match at each base would slow a pass.
 fn pair_of(nuc: u64) -> u64
     requires { ⌜ nuc < 4 ⌝ }
     ensures { λ r. ⌜ r ≡ Letters.complement nuc ⌝ }
 {
-    (base_pairs() >> (2 * nuc)) & 3
+    (nuc + complement(0)) % 4
 }
 
 pub fn mask(k: usize) -> u64

@@ -1,21 +1,18 @@
+use native.Mathlib.Omega.{arith}
 use borrow.Author.Needs.{needs}
+use Rattle.rules.proofs.Kmer.{complement-lt}
 use Rattle.kmer.proofs.Laws.{pair-is}
 use Rattle.kmer.proofs.pair_of.Statement.{statement}
 use Rattle.kmer.proofs.pair_of.Tie as tie
 
-base-pairs-requires : tie.Need-base-pairs-requires
-base-pairs-requires c κs = search needs
+complement-requires : tie.Need-complement-requires
+complement-requires c κs = search needs
 
-mul-result : tie.Need-mul-result
-mul-result c = search needs
-
-shr-result : tie.Need-shr-result
-shr-result c = search needs
+add-result : tie.Need-add-result
+add-result c = omega (arith, c .complement .ensures .0, complement-lt 0)
 
 returns : tie.Need-returns
-returns c =
-    let b = c .before in
-    rw (c .base-pairs .ensures) (pair-is (b .args .nuc) (b .pre))
+returns c = rw (c .complement .ensures .0) (pair-is (c .before .args .nuc) (c .before .pre))
 
 pub pair-of-spec : {M : Type 1} → statement M
-pair-of-spec = tie.close (tie.spec base-pairs-requires mul-result shr-result returns)
+pair-of-spec = tie.close (tie.spec complement-requires add-result returns)

@@ -55,8 +55,7 @@ returns c =
     let k-is = h .1 ∙ s .pre .1 in
     let e = count l ∙ ap indexEntries (s .pre .1) in
     let same = rw (e, s .pre .4) at (p .copy-entries .ensures) in
-    let shift-is : c .header .result .shift ≡ 2 * (s .args .k - firstLetters (s .args .k)) = omega (arith, h .3, l .letters .ensures) in
-    (
+    let shift-is : c .header .result .shift ≡ 2 * (s .args .k - firstLetters (s .args .k)) = omega (arith, h .3, l .letters .ensures) in (
       record {
         k-is = k-is;
         n-is = h .2 ∙ s .pre .2;

@@ -43,20 +43,20 @@ returns c =
     let f = c .before .before in
     let h = f .before .before in
     let s = h .before .before .before in
-    let k-is = h .header .ensures .1 ∙ s .pre .1 in
-    (record {
-      k-is = k-is;
-      n-is = h .header .ensures .2 ∙ s .pre .2;
-      shifts = h .header .ensures .0;
-      table = record {
-        opens = s .pre .0;
-        shift-le = rw (← k-is) (omega (arith, h .header .ensures, s .pre .5, s .pre .6));
-        starts-length = rw (← k-is) (omega (arith, entries h, s .pre .3));
-        starts-right = rw (← k-is) (rw (entries h .0) at (f .fill .ensures));
-      };
-    },
-    h .header .ensures .1,
-    omega (arith, h .header .ensures, s .pre .5, s .pre .6),
+    let k-is = h .header .ensures .1 ∙ s .pre .1 in (
+      record {
+        k-is = k-is;
+        n-is = h .header .ensures .2 ∙ s .pre .2;
+        shifts = h .header .ensures .0;
+        table = record {
+          opens = s .pre .0;
+          shift-le = rw (← k-is) (omega (arith, h .header .ensures, s .pre .5, s .pre .6));
+          starts-length = rw (← k-is) (omega (arith, entries h, s .pre .3));
+          starts-right = rw (← k-is) (rw (entries h .0) at (f .fill .ensures));
+        };
+      },
+      h .header .ensures .1,
+      omega (arith, h .header .ensures, s .pre .5, s .pre .6),
     )
 
 pub by-keys-spec : {M : Type 1} → statement M

@@ -44,8 +44,7 @@ loop-again c =
     let i = c .before in
     let l = i .before .loop in
     let s = i .before .before .before .before in
-    let e = c .entry-at .ensures in
-    (
+    let e = c .entry-at .ensures in (
       search needs,
       length-set (l .starts) (l .v) _ ∙ l .inv .1,
       entries-more (λ (u x : ℕ). x ≡ entryIn (s .args .index .now) u) (l .starts) (l .v) _ (search needs) (l .inv .2) e,

@@ -28,13 +28,13 @@ returns : tie.Need-returns
 returns c = (
   c .first-line .ensures .0,
   λ lo hi inside.
-    let p = c .before in
-    let r = p .before in
-    let s = r .before .before .before in
-    let key : r .range-of .result .key ≡ canonical (s .args .head .k) (s .args .kmer .code) =
-    r .range-of .ensures .0 ∙ ap (λ (k : ℕ). canonical k (s .args .kmer .code)) (sym (s .pre .0 .k-is)) in
-    let same = one-prefix (rw key at (p .span-of .ensures)) inside in
-    rw (← (same .0), ← (same .1)) (c .first-line .ensures .1),
+      let p = c .before in
+      let r = p .before in
+      let s = r .before .before .before in
+      let key : r .range-of .result .key ≡ canonical (s .args .head .k) (s .args .kmer .code) =
+      r .range-of .ensures .0 ∙ ap (λ (k : ℕ). canonical k (s .args .kmer .code)) (sym (s .pre .0 .k-is)) in
+      let same = one-prefix (rw key at (p .span-of .ensures)) inside in
+      rw (← (same .0), ← (same .1)) (c .first-line .ensures .1),
 )
 
 pub first-line-spec : {M : Type 1} → statement M
