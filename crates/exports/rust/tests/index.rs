@@ -1,8 +1,8 @@
-//! Indexes made from sets: document 02, W7.
+//! Indexes made from sets, and offered with them: document 02, W7.
 mod common;
 
 use common::{blocks_of, keys_of, sample_set, set_of, Rng};
-use corrector::{index_length, make_index, Refusal};
+use corrector::{correct_batch, correct_read, index_length, make_index, work_length, Job, Refusal, Report};
 
 const FILL: u8 = 170;
 
@@ -78,4 +78,69 @@ fn refusals() {
     refused(&damaged, Refusal::SetCheck { block: 1 }, 8, 1);
     refused(&set_of(2, &[]), Refusal::SetHeader, 9, 0);
     refused(&set_of(3, &[6, 6]), Refusal::SetKey { word: 1 }, 10, 1);
+}
+
+type Done = (Result<Report, Refusal>, Vec<u8>, Vec<u8>);
+
+/// A read and a batch of one line, each in buffers that were filled before it.
+fn corrected(set: &[u8], index: Option<&[u8]>, job: &[u8], read: &[u8], room: usize) -> [Done; 2] {
+    let line = [read, b"\n"].concat();
+    let (mut output, mut work) = (vec![FILL; room], vec![FILL; work_length(room, line.len())]);
+    let alone = correct_read(set, index, Job::from_bytes(job), read, &mut output, &mut work);
+    let (mut lines, mut more) = (vec![FILL; room], vec![FILL; work_length(room, line.len())]);
+    let batch = correct_batch(set, index, Job::from_bytes(job), &line, &mut lines, &mut more);
+    [(alone, output, work), (batch, lines, more)]
+}
+
+/// Refused with 15 and no lent byte changed.
+#[track_caller]
+fn wrong(set: &[u8], index: &[u8]) {
+    for (answer, output, work) in corrected(set, Some(index), &[3, 1], b"AACGCCG", 16) {
+        assert_eq!(answer, Err(Refusal::Index));
+        assert!(output.iter().chain(&work).all(|byte| *byte == FILL));
+    }
+    assert_eq!((Refusal::Index.number(), Refusal::Index.place()), (15, 0));
+}
+
+/// With the set's index a call answers, reports and leaves what it does without; an empty one is none.
+#[test]
+fn offered() {
+    let genome = Rng(7).genome(3_000);
+    let read: Vec<u8> = genome[100..400].iter().enumerate().map(|(i, base)| if i % 40 == 30 { b'A' } else { *base }).collect();
+    for k in [1, 3, 5, 7, 21, 31] {
+        let keys = keys_of(k, &genome);
+        let (set, index) = (set_of(k as u64, &keys), index_of(k, &keys));
+        for job in [&[1_u8, 3][..], &[2, 2], &[3, 1], &[4, 2], &[2, 7, 1, 3], &[]] {
+            let plain = corrected(&set, None, job, &read, 600);
+            assert!(plain[0].0.is_ok());
+            assert_eq!(corrected(&set, Some(&index), job, &read, 600), plain);
+            assert_eq!(corrected(&set, Some(&[]), job, &read, 600), plain);
+        }
+        assert_eq!(corrected(&set, Some(&index), &[1, 3], &read, 200), corrected(&set, None, &[1, 3], &read, 200));
+    }
+}
+
+#[test]
+fn not_the_index() {
+    let set = sample_set();
+    let index = index_of(3, &[6, 23, 51, 58, 60]);
+    wrong(&set, &index[..index.len() - 1]);
+    wrong(&set, &[&index[..], &[0]].concat());
+    wrong(&set, &[&index[..], &blocks_of(index.len() / 512, &[0])].concat());
+    wrong(&set, &index_of(3, &[6, 23, 51, 58]));
+    wrong(&set, &index_of(5, &[6, 23, 51, 58, 60]));
+    for at in 0..index.len() {
+        let damaged = [&index[..at], &[index[at] ^ 1], &index[at + 1..]].concat();
+        wrong(&set, &damaged);
+    }
+}
+
+/// 15 behind 10 and before 11.
+#[test]
+fn order() {
+    let index = index_of(3, &[6, 23, 51, 58, 60]);
+    let refused = |set: &[u8], room: usize| corrected(set, Some(&index[1..]), &[1, 1], b"AACC", room).map(|done| done.0);
+    assert_eq!(refused(&set_of(3, &[6, 6]), 16), [Err(Refusal::SetKey { word: 1 }); 2]);
+    assert_eq!(refused(&sample_set(), 4), [Err(Refusal::Index); 2]);
+    assert_eq!(corrected(&sample_set(), Some(&index), &[1, 1], b"AACC", 4).map(|done| done.0), [Err(Refusal::NoRoom { line: 0 }); 2]);
 }
