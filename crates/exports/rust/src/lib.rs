@@ -117,14 +117,7 @@ pub fn correct_batch(set: &[u8], index: Option<&[u8]>, job: Job<'_>, batch: &[u8
     answer(raw::correct(raw::Call::Batch, lent(set, index, job, batch, output, work)))
 }
 
-fn lent<'a>(
-    set: &'a [u8],
-    index: Option<&'a [u8]>,
-    job: Job<'a>,
-    input: &'a [u8],
-    output: &'a mut [u8],
-    work: &'a mut [u8],
-) -> raw::Lent<'a> {
+fn lent<'a>(set: &'a [u8], index: Option<&'a [u8]>, job: Job<'a>, input: &'a [u8], output: &'a mut [u8], work: &'a mut [u8]) -> raw::Lent<'a> {
     raw::Lent { set, index: index.unwrap_or_default(), job: job.as_bytes(), input, output, work }
 }
 
