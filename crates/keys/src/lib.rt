@@ -18,7 +18,10 @@ fn pick(test: bool, yes: usize, no: usize) -> usize
     if test { yes } else { no }
 }
 
-// One key or two: in a small set a prefix rarely has more.
+// In a set of fewer keys a prefix rarely has more than two.
+const SMALL: usize = 32768;
+
+// One key or two.
 fn in_two(set: &[u8], key: u64, from: usize, end: usize) -> Found
     requires { ⌜ (from < end) × (end ≤ from + 2) × (end ≤ 63 * (blocks (now set) - 1)) × (end ≤ maxKeys) ⌝ }
     ensures { λ r. ⌜ Answers (now (set .entry)) key from end r ⌝ }
@@ -246,8 +249,10 @@ pub fn find(set: &[u8], key: u64, shift: u32, n: usize, from: usize, end: usize)
     if end <= from {
         return Found::Nothing;
     }
-    if end - from <= 2 {
-        return in_two(set, key, from, end);
+    if n < SMALL {
+        if end - from <= 2 {
+            return in_two(set, key, from, end);
+        }
     }
     if end - from <= 4 {
         return in_few(set, key, from, end);

@@ -6,17 +6,17 @@ use Rattle.keys.proofs.find.Tie as tie
 returns : tie.Need-returns
 returns c = answers-none (c .before .before .pre .2) (c .if1 .taken)
 
-sub-if2 : tie.Need-sub-if2
-sub-if2 c = search needs
+sub-if3 : tie.Need-sub-if3
+sub-if3 c = search needs
 
 in-two-requires : tie.Need-in-two-requires
 in-two-requires c κs = search needs
 
 returns-2 : tie.Need-returns-2
-returns-2 c = answers-all (c .before .before .before .before .pre .2) (c .in-two .result) (c .in-two .ensures)
+returns-2 c = answers-all (c .before .before .before .before .before .pre .2) (c .in-two .result) (c .in-two .ensures)
 
-sub-if3 : tie.Need-sub-if3
-sub-if3 c = search needs
+sub-if4 : tie.Need-sub-if4
+sub-if4 c = search needs
 
 in-few-requires : tie.Need-in-few-requires
 in-few-requires c κs = search needs
@@ -38,10 +38,10 @@ find-spec =
     tie.close
     (tie.spec
     returns
-    sub-if2
+    sub-if3
     in-two-requires
     returns-2
-    sub-if3
+    sub-if4
     in-few-requires
     returns-3
     guess-requires
