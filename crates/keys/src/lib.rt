@@ -37,7 +37,10 @@ fn key_at(part: &[u8], skip: usize, i: usize) -> u64
     blocks::word_at(part, place(i) - skip)
 }
 
-// One key or two: in a small set a prefix rarely has more.
+// In a set of fewer keys a prefix rarely has more than two.
+const SMALL: usize = 32768;
+
+// One key or two.
 fn in_two(part: &[u8], skip: usize, key: u64, from: usize, end: usize) -> Found
     requires { ⌜ Sorted skip (now part) from end × (from < end) × (end ≤ from + 2) ⌝ }
     ensures { λ r. ⌜ Answers skip (now (part .entry)) key from end r ⌝ }
@@ -73,12 +76,15 @@ fn in_four(part: &[u8], skip: usize, key: u64, from: usize, end: usize) -> Found
     Found::Nothing
 }
 
-pub fn in_few(part: &[u8], skip: usize, key: u64, from: usize, end: usize) -> Found
+// A few keys of a set of n.
+pub fn in_few(part: &[u8], skip: usize, key: u64, n: usize, from: usize, end: usize) -> Found
     requires { ⌜ Sorted skip (now part) from end × (from < end) × (end ≤ from + 4) ⌝ }
     ensures { λ r. ⌜ Answers skip (now (part .entry)) key from end r ⌝ }
 {
-    if end - from <= 2 {
-        return in_two(part, skip, key, from, end);
+    if n < SMALL {
+        if end - from <= 2 {
+            return in_two(part, skip, key, from, end);
+        }
     }
     in_four(part, skip, key, from, end)
 }

@@ -86,13 +86,13 @@ fn span_of(set: &[u8], starts: &[u32], shift: u32, finer: u32, key: u64) -> Span
 }
 
 // A few keys of one prefix: no other is read.
-fn in_few(set: &[u8], range: Range) -> Found
+fn in_few(set: &[u8], n: usize, range: Range) -> Found
     requires { ⌜ (setCheck (now set) ≡ none) × (range .from < range .end) × (range .end ≤ range .from + 4) × (range .end ≤ headerN (now set)) ⌝ }
     ensures { λ r. ⌜ Answers 0 (now (set .entry)) (range .key) (range .from) (range .end) r ⌝ }
 {
     let skip = keys::place(range.from);
     let stop = keys::place(range.end - 1) + 8;
-    keys::in_few(&set[skip..stop], skip, range.key, range.from, range.end)
+    keys::in_few(&set[skip..stop], skip, range.key, n, range.from, range.end)
 }
 
 // Many keys of one prefix: the search gets the bytes of the span's keys, so that it can read no other word.
@@ -118,7 +118,7 @@ fn in_many(set: &[u8], shift: u32, range: Range, span: Span) -> Found
 
 // A lookup is made only of a k-mer without unknown letters. Of the header it takes what it needs: a struct that is handed over is laid into
 // memory for each lookup. Since `get` and `ask` both call it, it stays a function of its own.
-fn look_up(set: &[u8], starts: &[u32], shift: u32, finer: u32, kmer: Kmer) -> bool
+fn look_up(set: &[u8], starts: &[u32], n: usize, shift: u32, finer: u32, kmer: Kmer) -> bool
     requires { ⌜ Table (now set) (now starts) shift finer × IsKmer (headerK (now set)) kmer × (kmer .unknown ≡ 0) ⌝ }
     ensures { λ r. ⌜ r ≡ solid (setOf (now (set .entry))) (kmer .code) ⌝ }
 {
@@ -133,7 +133,7 @@ fn look_up(set: &[u8], starts: &[u32], shift: u32, finer: u32, kmer: Kmer) -> bo
         return false;
     }
     if range.end - range.from <= 4 {
-        return is_key(in_few(set, range));
+        return is_key(in_few(set, n, range));
     }
     let span = span_of(set, starts, shift, finer, range.key);
     is_key(in_many(set, shift, range, span))
@@ -143,7 +143,7 @@ pub fn get(set: &[u8], starts: &[u32], head: Header, kmer: Kmer) -> bool
     requires { ⌜ Ready (now set) (now starts) head × IsKmer (head .k) kmer × (kmer .unknown ≡ 0) ⌝ }
     ensures { λ r. ⌜ r ≡ solid (setOf (now (set .entry))) (kmer .code) ⌝ }
 {
-    look_up(set, starts, head.shift, head.finer, kmer)
+    look_up(set, starts, head.n, head.shift, head.finer, kmer)
 }
 
 // A k-mer asked: whether it is solid, and the lookups made.
@@ -163,7 +163,7 @@ pub fn ask(set: &[u8], starts: &[u32], head: Header, kmer: Kmer) -> Asked
             lookups: 0,
         };
     }
-    let solid = look_up(set, starts, head.shift, head.finer, kmer);
+    let solid = look_up(set, starts, head.n, head.shift, head.finer, kmer);
     Asked { solid, lookups: 1 }
 }
 

@@ -2,8 +2,8 @@ use borrow.Author.Needs.{needs}
 use Rattle.keys.proofs.in_few.Statement.{statement}
 use Rattle.keys.proofs.in_few.Tie as tie
 
-sub-if1 : tie.Need-sub-if1
-sub-if1 c = search needs
+sub-if2 : tie.Need-sub-if2
+sub-if2 c = search needs
 
 in-two-requires : tie.Need-in-two-requires
 in-two-requires c κs = search needs
@@ -18,4 +18,4 @@ returns-2 : tie.Need-returns-2
 returns-2 c = search needs
 
 pub in-few-spec : {M : Type 1} → statement M
-in-few-spec = tie.close (tie.spec sub-if1 in-two-requires returns in-four-requires returns-2)
+in-few-spec = tie.close (tie.spec sub-if2 in-two-requires returns in-four-requires returns-2)
