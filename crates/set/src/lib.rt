@@ -331,8 +331,8 @@ fn by_index(set: &[u8], index: &[u8], k: usize, n: usize, starts: &mut [u32]) ->
 }
 
 // Whether a table finer than an index is worth the walk over the keys: any answer is right.
-fn pays(n: usize, bases: usize) -> bool {
-    n / 64 < bases
+fn pays(bases: usize) -> bool {
+    65536 < bases
 }
 
 // For lookups of about so many bases. Where no index is offered it is empty, and all keys are one range.
@@ -355,7 +355,7 @@ pub fn prepare(
     }
     let letters = 2 * index::letters(k);
     if letters < bits {
-        if pays(n, bases) {
+        if pays(bases) {
             return by_keys(set, k, n, bits, bits - letters, starts);
         }
     }
