@@ -100,7 +100,7 @@ pub fn section(all: &[Aligned]) -> String {
         page,
         "\n## A set on a line of memory\n\n{METHOD:?}, {ERRORS} % errors, k = {K}; the set lent from a multiple of {LINE} bytes, and in the same rounds a copy from {OFF} bytes behind one. *Off by aligned* is the \
          median of the one's times by the median of the other's, so more than 1 says that the aligned one is faster; in brackets the lowest and the highest of the rounds. This can't be had for natir/br: it does \
-         not read the set where it lies but fills a table of its own. Its time stands beside the aligned set, *ratio* as above.\n"
+         not read the set where it lies but fills a table of its own. *Ratio* is its time by ours over the aligned set.\n"
     );
     let (before, rule) = before_head(all.iter().map(|aligned| &aligned.rounds));
     let _ = writeln!(

@@ -149,7 +149,7 @@ impl<'a> Batch<'a> {
     /// The same over a copy of the set.
     pub fn ours_over(&mut self, set: &[u8]) -> f64 {
         let library = self.library;
-        let (report, seconds) = self.checked(|job, output, work| library.correct(set, job, output, work));
+        let (report, seconds) = self.checked("ours", |job, output, work| library.correct(set, job, output, work));
         self.report = Some(report);
         seconds
     }
@@ -157,14 +157,14 @@ impl<'a> Batch<'a> {
     /// One batch call of the other build over a copy of the set; no time without one.
     pub fn before_over(&mut self, set: &[u8]) -> f64 {
         let Some(against) = self.against else { return 0.0 };
-        self.checked(|job, output, work| against.correct_batch(set, job, output, work)).1
+        self.checked("before", |job, output, work| against.correct_batch(set, job, output, work)).1
     }
 
     /// A call and its seconds; every byte must be the Rust's.
-    fn checked(&mut self, call: impl FnOnce(&Job, &mut [u8], &mut [u8]) -> Answer) -> (Report, f64) {
+    fn checked(&mut self, name: &str, call: impl FnOnce(&Job, &mut [u8], &mut [u8]) -> Answer) -> (Report, f64) {
         let (answer, seconds) = timed(|| call(&self.job, &mut self.output, &mut self.work));
-        let report = answer.unwrap_or_else(|refusal| panic!("refused {} at {}", refusal.number, refusal.place));
-        assert!(self.output[..report.written as usize] == self.expected, "{:?} gives other bytes than natir/br", self.method);
+        let report = answer.unwrap_or_else(|refusal| panic!("{name}: refused {} at {}", refusal.number, refusal.place));
+        assert!(self.output[..report.written as usize] == self.expected, "{name}: {:?} gives other bytes than natir/br", self.method);
         (report, seconds)
     }
 

@@ -29,8 +29,8 @@ const PARTS: usize = 5;
 /// The Rust, ours and the opening.
 const PLAIN: usize = 3;
 
-/// Every other round goes the other way. With more than the plain parts each two rounds begin with the next one too, so that ours and what it is
-/// compared with come behind the Rust about as often.
+/// Every other round goes the other way. With more than the plain parts the order rotates too, a part further each two rounds: ours and the other
+/// build, one on either side of the Rust, then come behind it about as often.
 fn order(parts: &[Part], number: usize) -> Vec<Part> {
     let mut order = parts.to_vec();
     if number % 2 == 1 {
