@@ -48,7 +48,7 @@ fn main() -> ExitCode {
     }
 }
 
-/// What to measure, and the folder of the page; where only a part is measured, no page is written unless a folder is named.
+/// What to measure, and the folder of the page; where only a part is measured, or another build too, no page is written unless a folder is named.
 #[derive(Default)]
 struct Options {
     keys: Vec<usize>,
@@ -85,8 +85,9 @@ impl Options {
             or_all(&mut self.errors, &ERRORS),
             !self.huge,
             !self.split,
+            self.against.is_none(),
         ];
-        if self.folder.is_none() && whole == [true; 6] {
+        if self.folder.is_none() && whole == [true; 7] {
             self.folder = Some(if cfg!(feature = "linked") { "docs" } else { "target/compare" }.to_string());
         }
         self
