@@ -1,5 +1,7 @@
 //! The benchmark: both sides in one process, on the same inputs.
 
+pub mod against;
+pub mod aligned;
 pub mod chart;
 pub mod inputs;
 pub mod make;

@@ -9,7 +9,7 @@
 //! with the referee's plus what the referee says the Rust asks again. Reads with other bytes than A, C, G, T, U and their lower case, which
 //! natir/br reads in a way of its own, are compared between the library and the referee alone.
 
-// But for bench/system.rs.
+// But for bench/system.rs and bench/against.rs.
 #![deny(unsafe_code)]
 
 pub mod bench;

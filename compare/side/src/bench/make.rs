@@ -1,5 +1,5 @@
 //! The set file made from text: both walks of the call together, beside a plain loop in Rust over the same text.
-use super::rounds::{timed, Rounds};
+use super::rounds::{timed, Part, Rounds};
 use crate::library::Library;
 use crate::referee::letters::{letter, mask};
 use crate::rng::Rng;
@@ -78,13 +78,16 @@ fn measure(library: &dyn Library, k: usize) -> Make {
     let keys = plain(&text, k, LEAST).expect("a right text");
     let set = set_file::make(k as u64, &keys);
     let mut blocks = vec![1; set.len()];
-    let ours = || {
+    let mut ours = || {
         let (answer, seconds) = timed(|| library.make_set(&text, k as u64, LEAST, &mut blocks));
         assert_eq!(answer, Ok(set.len() as u64));
         assert!(blocks == set);
         seconds
     };
-    let rounds = Rounds::run(|| timed(|| plain(&text, k, LEAST)).1, ours, || 0.0);
+    let rounds = Rounds::run(&[Part::Rust, Part::Ours], |part| match part {
+        Part::Ours => ours(),
+        _ => timed(|| plain(&text, k, LEAST)).1,
+    });
     Make { k, bytes: text.len(), keys: keys.len(), rounds }
 }
 
@@ -97,17 +100,14 @@ impl Make {
 pub fn measure_all(library: &dyn Library) -> Vec<Make> {
     let makes: Vec<_> = K.iter().map(|k| measure(library, *k)).collect();
     for make in &makes {
-        let ratio = make.rounds.ratio();
         eprintln!(
-            "set from text, k = {}: {} MB, {} keys; {:.0} MB/s, a plain loop {:.0}, ratio {:.2} ({:.2} to {:.2}), {} rounds",
+            "set from text, k = {}: {} MB, {} keys; {:.0} MB/s, a plain loop {:.0}, ratio {}, {} rounds",
             make.k,
             make.bytes / 1_000_000,
             make.keys,
             make.speed(make.rounds.ours()),
             make.speed(make.rounds.rust()),
-            ratio.median,
-            ratio.lowest,
-            ratio.highest,
+            make.rounds.ratio(),
             make.rounds.count()
         );
     }
@@ -125,18 +125,16 @@ pub fn section(makes: &[Make]) -> String {
     );
     let _ = writeln!(page, "| k | text, MB | keys | ours | plain | ratio |\n|--:|--:|--:|--:|--:|:--|");
     for make in makes {
-        let (rounds, ratio) = (&make.rounds, make.rounds.ratio());
+        let rounds = &make.rounds;
         let _ = writeln!(
             page,
-            "| {} | {} | {} | {:.0} | {:.0} | {:.2} ({:.2} to {:.2}) |",
+            "| {} | {} | {} | {:.0} | {:.0} | {} |",
             make.k,
             make.bytes / 1_000_000,
             make.keys,
             make.speed(rounds.ours()),
             make.speed(rounds.rust()),
-            ratio.median,
-            ratio.lowest,
-            ratio.highest
+            rounds.ratio()
         );
     }
     page

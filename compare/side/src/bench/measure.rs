@@ -1,6 +1,7 @@
 //! What is measured.
+use super::against::Against;
 use super::inputs::{World, READ};
-use super::rounds::{median, timed, Rounds};
+use super::rounds::{median, timed, Part, Rounds};
 use super::symbols::on_huge_pages;
 use super::system::sampled;
 use crate::cases::batch_of;
@@ -81,6 +82,7 @@ pub struct Batch<'a> {
     pub reads: Vec<Vec<u8>>,
     pub report: Option<Report>,
     library: &'a dyn Library,
+    against: Option<&'a Against>,
     world: &'a World,
     set: BoxKmerSet<'a>,
     method: Method,
@@ -105,7 +107,7 @@ impl<'a> Batch<'a> {
         let output = MOST_BYTES.min(input.len().max(expected.len()) * 5 / 4);
         let job = Job { call: Call::Batch, entries: vec![method.byte(), CONFIRM], input, output, work: 2 * output };
         let (output, work) = (vec![0; job.output], vec![0; job.work]);
-        Batch { reads, report: None, library, world, set: Box::new(&world.rust), method, job, expected, output, work }
+        Batch { reads, report: None, library, against: None, world, set: Box::new(&world.rust), method, job, expected, output, work }
     }
 
     /// Reads with errors: the same ones for the same cell, whatever else is measured.
@@ -114,12 +116,17 @@ impl<'a> Batch<'a> {
         Self::new(library, world, method, MOST_READS, || world.read(&mut rng, errors))
     }
 
+    /// The same, beside another build of ours where there is one.
+    pub fn against(self, against: Option<&'a Against>) -> Self {
+        Batch { against, ..self }
+    }
+
     pub fn bases(&self) -> usize {
         self.reads.iter().map(Vec::len).sum()
     }
 
     /// natir/br, read by read.
-    fn rust(&self) -> f64 {
+    pub fn rust(&self) -> f64 {
         timed(|| self.reads.iter().map(|read| oracle::correct(&self.set, self.method, CONFIRM, read)).collect::<Vec<_>>()).1
     }
 
@@ -134,20 +141,45 @@ impl<'a> Batch<'a> {
         })
     }
 
-    /// One batch call of ours; every byte must be the Rust's.
+    /// One batch call of ours.
     pub fn ours(&mut self) -> f64 {
-        let (answer, seconds) = timed(|| self.call());
-        let report = answer.unwrap_or_else(|refusal| panic!("refused {} at {}", refusal.number, refusal.place));
-        assert!(self.output[..report.written as usize] == self.expected, "{:?} gives other bytes than natir/br", self.method);
+        self.ours_over(&self.world.set)
+    }
+
+    /// The same over a copy of the set.
+    pub fn ours_over(&mut self, set: &[u8]) -> f64 {
+        let library = self.library;
+        let (report, seconds) = self.checked("ours", |job, output, work| library.correct(set, job, output, work));
         self.report = Some(report);
         seconds
     }
 
+    /// One batch call of the other build over a copy of the set; no time without one.
+    pub fn before_over(&mut self, set: &[u8]) -> f64 {
+        let Some(against) = self.against else { return 0.0 };
+        self.checked("before", |job, output, work| against.correct_batch(set, job, output, work)).1
+    }
+
+    /// A call and its seconds; every byte must be the Rust's.
+    fn checked(&mut self, name: &str, call: impl FnOnce(&Job, &mut [u8], &mut [u8]) -> Answer) -> (Report, f64) {
+        let (answer, seconds) = timed(|| call(&self.job, &mut self.output, &mut self.work));
+        let report = answer.unwrap_or_else(|refusal| panic!("{name}: refused {} at {}", refusal.number, refusal.place));
+        assert!(self.output[..report.written as usize] == self.expected, "{name}: {:?} gives other bytes than natir/br", self.method);
+        (report, seconds)
+    }
+
     fn rounds(&mut self) -> Rounds {
-        // The report is the same in every round.
-        let (library, world) = (self.library, self.world);
-        let this = std::cell::RefCell::new(self);
-        Rounds::run(|| this.borrow().rust(), || this.borrow_mut().ours(), || open(library, world))
+        let parts: &[Part] = match self.against {
+            Some(_) => &[Part::Ours, Part::Rust, Part::Before, Part::Opening],
+            None => &[Part::Rust, Part::Ours, Part::Opening],
+        };
+        let world = self.world;
+        Rounds::run(parts, |part| match part {
+            Part::Rust => self.rust(),
+            Part::Opening => open(self.library, world),
+            Part::Before => self.before_over(&world.set),
+            _ => self.ours(),
+        })
     }
 }
 
@@ -170,8 +202,8 @@ pub fn empty_batch(library: &dyn Library, world: &World, method: Method) -> f64 
     seconds
 }
 
-pub fn cell(library: &dyn Library, world: &World, method: Method, errors: usize, a_lookup: Loops) -> Cell {
-    let mut batch = Batch::of_cell(library, world, method, errors);
+pub fn cell(library: &dyn Library, against: Option<&Against>, world: &World, method: Method, errors: usize, a_lookup: Loops) -> Cell {
+    let mut batch = Batch::of_cell(library, world, method, errors).against(against);
     let rounds = batch.rounds();
     let lookups = batch.report.as_ref().map_or(0, |report| report.lookups);
     Cell { method, keys: world.keys, k: world.k, huge: world.huge, errors, reads: batch.reads.len(), bases: batch.bases(), lookups, rounds, a_lookup }

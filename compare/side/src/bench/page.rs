@@ -1,5 +1,6 @@
 //! The page: docs/BENCHMARK.md.
 use super::measure::{Cell, Gap, Opening, Placing, CONFIRM, LOOP, MOST_ASKED};
+use super::rounds::{Part, Rounds};
 use super::split::Split;
 use super::summary::summary;
 use super::system::counts_running_time;
@@ -7,7 +8,7 @@ use crate::referee::correctors::{Method, METHODS};
 use std::fmt::Write;
 use std::time::{SystemTime, UNIX_EPOCH};
 
-const NONE: &str = "–";
+pub const NONE: &str = "–";
 
 pub struct Peak {
     pub keys: usize,
@@ -19,6 +20,8 @@ pub struct Peak {
 #[derive(Default)]
 pub struct Results {
     pub library: &'static str,
+    /// The other build's file.
+    pub against: Option<String>,
     pub cells: Vec<Cell>,
     pub huge: Vec<Cell>,
     pub placings: Vec<Placing>,
@@ -57,6 +60,13 @@ pub fn write(results: &Results, chart: &str) -> String {
          in the same round, so more than 1 is faster: the median, the lowest and the highest of the rounds. *Less opening* is the same with the round's time of opening taken off ours.\n",
         MOST_ASKED / 1_000_000
     );
+    if let Some(against) = &results.against {
+        let _ = writeln!(
+            page,
+            "*Before* is the build `{against}`, which runs in the same rounds, whose order then rotates too. *Before by after* is the median of its times by the median of ours, so more than 1 \
+             is faster now; in brackets the lowest and the highest of the rounds.\n"
+        );
+    }
     summary(&mut page, &results.cells, &results.huge);
     let _ = writeln!(
         page,
@@ -64,10 +74,7 @@ pub fn write(results: &Results, chart: &str) -> String {
          of other reads with as many errors; opening and preparing are taken off ours. It is there to compare with, and no bound.\n",
         LOOP / 1_000_000
     );
-    for method in METHODS {
-        method_table(&mut page, method, &results.cells);
-    }
-    huge_table(&mut page, results);
+    page += &cell_tables(results);
     split_table(&mut page, &results.splits);
     opening_table(&mut page, &results.openings);
     gap_table(&mut page, &results.gaps);
@@ -75,8 +82,18 @@ pub fn write(results: &Results, chart: &str) -> String {
     page
 }
 
+/// The cells by method, and those on huge pages.
+pub fn cell_tables(results: &Results) -> String {
+    let mut page = String::new();
+    for method in METHODS {
+        method_table(&mut page, method, &results.cells);
+    }
+    huge_table(&mut page, results);
+    page
+}
+
 /// Three digits or more.
-fn figure(value: f64) -> String {
+pub fn figure(value: f64) -> String {
     let places = match value {
         10.0.. => 1,
         1.0.. => 2,
@@ -86,12 +103,26 @@ fn figure(value: f64) -> String {
     format!("{value:.places$}")
 }
 
-/// Keys, k, errors, reads and rounds; then speeds and ratios.
+/// The column of a run beside another build, if it is one.
+pub fn before_by_after(rounds: &Rounds) -> String {
+    rounds.by_ours(Part::Before).map_or(String::new(), |spread| format!(" | {spread}"))
+}
+
+/// The head of that column, and the rule below it.
+pub fn before_head<'a>(mut rounds: impl Iterator<Item = &'a Rounds>) -> (&'static str, &'static str) {
+    if rounds.any(|rounds| rounds.by_ours(Part::Before).is_some()) {
+        (" | before by after", "--:|")
+    } else {
+        ("", "")
+    }
+}
+
+/// Reads and rounds; then speeds and ratios.
 fn speeds(cell: &Cell) -> String {
     let (rounds, speed) = (&cell.rounds, |seconds: f64| figure(cell.bases as f64 / seconds / 1e6));
     let ratio = rounds.ratio();
     format!(
-        "{} × {} | {} | {} | {:.2} | {:.2} | {:.2} | {:.2}",
+        "{} × {} | {} | {} | {:.2} | {:.2} | {:.2} | {:.2}{}",
         cell.reads,
         rounds.count(),
         speed(rounds.ours()),
@@ -99,7 +130,8 @@ fn speeds(cell: &Cell) -> String {
         ratio.median,
         ratio.lowest,
         ratio.highest,
-        rounds.ratio_less_opening().median
+        rounds.ratio_less_opening().median,
+        before_by_after(rounds)
     )
 }
 
@@ -108,12 +140,13 @@ fn method_table(page: &mut String, method: Method, cells: &[Cell]) {
     if cells.is_empty() {
         return;
     }
+    let (before, rule) = before_head(cells.iter().map(|cell| &cell.rounds));
     let _ = writeln!(page, "## {method:?}\n");
     let _ = writeln!(
         page,
-        "| keys | k | errors | reads × rounds | ours Mb/s | Rust Mb/s | ratio | from | to | less opening | lookups a base | ours M lookups/s | loop ns/base | Rust's loop ns/base |"
+        "| keys | k | errors | reads × rounds | ours Mb/s | Rust Mb/s | ratio | from | to | less opening{before} | lookups a base | ours M lookups/s | loop ns/base | Rust's loop ns/base |"
     );
-    let _ = writeln!(page, "|--:|--:|--:|--:|--:|--:|--:|--:|--:|--:|--:|--:|--:|--:|");
+    let _ = writeln!(page, "|--:|--:|--:|--:|--:|--:|--:|--:|--:|--:|--:|--:|--:|--:|{rule}");
     for cell in cells {
         let a_base = |a_lookup: f64| figure(a_lookup * 1e9 * cell.lookups_a_base());
         let _ = writeln!(
@@ -142,11 +175,12 @@ fn huge_table(page: &mut String, results: &Results) {
          system tells it:\n"
     );
     placing_table(page, &results.placings);
+    let (before, rule) = before_head(results.huge.iter().map(|cell| &cell.rounds));
     let _ = writeln!(
         page,
-        "| keys | k | method | errors | reads × rounds | ours Mb/s | Rust Mb/s | ratio | from | to | less opening | plain ours Mb/s | plain Rust Mb/s | plain ratio | plain Rust's time by ours on huge pages |"
+        "| keys | k | method | errors | reads × rounds | ours Mb/s | Rust Mb/s | ratio | from | to | less opening{before} | plain ours Mb/s | plain Rust Mb/s | plain ratio | plain Rust's time by ours on huge pages |"
     );
-    let _ = writeln!(page, "|--:|--:|---|--:|--:|--:|--:|--:|--:|--:|--:|--:|--:|--:|--:|");
+    let _ = writeln!(page, "|--:|--:|---|--:|--:|--:|--:|--:|--:|--:|--:|--:|--:|--:|--:|{rule}");
     for cell in &results.huge {
         let same = |plain: &&Cell| (plain.keys, plain.k, plain.method, plain.errors) == (cell.keys, cell.k, cell.method, cell.errors);
         let plain = results.cells.iter().find(same).map(|plain| {

@@ -1,5 +1,6 @@
-//! Both sides in turn, several times: a ratio is taken within a round, so that what slows the machine for a while slows both.
+//! All sides in turn, several times: a ratio is taken within a round, so that what slows the machine for a while slows every side.
 use super::system::now;
+use std::fmt::{Display, Formatter, Result};
 use std::hint::black_box;
 
 /// Seconds that the rounds of a cell may take together.
@@ -10,33 +11,55 @@ const FEWEST: usize = 3;
 const FEW: usize = 5;
 const MOST: usize = 9;
 
-/// Seconds of each side, and of opening the set alone, which a call of ours does first.
-pub struct Round {
-    pub rust: f64,
-    pub ours: f64,
-    pub open: f64,
+/// What a round times.
+#[derive(Clone, Copy, PartialEq, Eq)]
+pub enum Part {
+    Rust,
+    Ours,
+    /// Opening the set alone, which a call of ours does first.
+    Opening,
+    /// Another build of ours.
+    Before,
+    /// Ours over a set that does not start on a line of memory.
+    Off,
 }
 
+const PARTS: usize = 5;
+
+/// The Rust, ours and the opening.
+const PLAIN: usize = 3;
+
+/// Every other round goes the other way. With more than the plain parts the order rotates too, a part further each two rounds: ours and the other
+/// build, one on either side of the Rust, then come behind it about as often.
+fn order(parts: &[Part], number: usize) -> Vec<Part> {
+    let mut order = parts.to_vec();
+    if number % 2 == 1 {
+        order.reverse();
+    }
+    if parts.len() > PLAIN {
+        order.rotate_left(number / 2 % parts.len());
+    }
+    order
+}
+
+/// Seconds of each part; 0 for one that is not run.
+struct Round([f64; PARTS]);
+
 impl Round {
-    fn taken(rust: &mut impl FnMut() -> f64, ours: &mut impl FnMut() -> f64, open: &mut impl FnMut() -> f64, rust_first: bool) -> Self {
-        if rust_first {
-            let rust = rust();
-            let ours = ours();
-            Round { rust, ours, open: open() }
-        } else {
-            let open = open();
-            let ours = ours();
-            Round { rust: rust(), ours, open }
+    fn taken(order: &[Part], run: &mut impl FnMut(Part) -> f64) -> Self {
+        let mut round = Round([0.0; PARTS]);
+        for part in order {
+            round.0[*part as usize] = run(*part);
         }
+        round
     }
 
-    /// Rust's time by ours.
-    fn ratio(&self) -> f64 {
-        self.rust / self.ours
+    fn of(&self, part: Part) -> f64 {
+        self.0[part as usize]
     }
 
-    fn ratio_less_opening(&self) -> f64 {
-        self.rust / (self.ours - self.open).max(1e-9)
+    fn less_opening(&self) -> f64 {
+        (self.of(Part::Ours) - self.of(Part::Opening)).max(1e-9)
     }
 }
 
@@ -48,14 +71,20 @@ pub struct Spread {
     pub highest: f64,
 }
 
+impl Display for Spread {
+    fn fmt(&self, to: &mut Formatter<'_>) -> Result {
+        write!(to, "{:.2} ({:.2} to {:.2})", self.median, self.lowest, self.highest)
+    }
+}
+
 pub struct Rounds(Vec<Round>);
 
 impl Rounds {
-    /// Each side is given as a run that answers its seconds. Every other round begins with the Rust.
-    pub fn run(mut rust: impl FnMut() -> f64, mut ours: impl FnMut() -> f64, mut open: impl FnMut() -> f64) -> Self {
-        let mut next = |number: usize| Round::taken(&mut rust, &mut ours, &mut open, number % 2 == 0);
+    /// `run` runs a part and answers its seconds.
+    pub fn run(parts: &[Part], mut run: impl FnMut(Part) -> f64) -> Self {
+        let mut next = |number: usize| Round::taken(&order(parts, number), &mut run);
         let mut rounds = vec![next(0)];
-        let count = how_many(rounds[0].rust + rounds[0].ours + rounds[0].open);
+        let count = how_many(rounds[0].0.iter().sum());
         rounds.extend((1..count).map(next));
         Rounds(rounds)
     }
@@ -65,23 +94,35 @@ impl Rounds {
     }
 
     pub fn rust(&self) -> f64 {
-        self.of(|round| round.rust).median
+        self.median(Part::Rust)
     }
 
     pub fn ours(&self) -> f64 {
-        self.of(|round| round.ours).median
+        self.median(Part::Ours)
     }
 
     pub fn less_opening(&self) -> f64 {
-        self.of(|round| (round.ours - round.open).max(1e-9)).median
+        self.of(Round::less_opening).median
     }
 
+    /// Rust's time by ours.
     pub fn ratio(&self) -> Spread {
-        self.of(Round::ratio)
+        self.of(|round| round.of(Part::Rust) / round.of(Part::Ours))
     }
 
     pub fn ratio_less_opening(&self) -> Spread {
-        self.of(Round::ratio_less_opening)
+        self.of(|round| round.of(Part::Rust) / round.less_opening())
+    }
+
+    pub fn median(&self, part: Part) -> f64 {
+        self.of(|round| round.of(part)).median
+    }
+
+    /// A part's median by ours, with the lowest and the highest of the rounds; none where it is not run.
+    pub fn by_ours(&self, part: Part) -> Option<Spread> {
+        let rounds = self.of(|round| round.of(part) / round.of(Part::Ours));
+        let median = self.median(part) / self.ours();
+        (median > 0.0).then_some(Spread { median, ..rounds })
     }
 
     fn of(&self, value: impl Fn(&Round) -> f64) -> Spread {

@@ -1,5 +1,5 @@
-//! What the benchmark asks of the system, and the only unsafe code here: the time that a thread has run, memory on huge pages, and a timer that
-//! says where a call is.
+//! What the benchmark asks of the system, in unsafe code: the time that a thread has run, memory on huge pages, and a timer that says where a call
+//! is.
 #![allow(unsafe_code)]
 use std::alloc::{GlobalAlloc, Layout, System};
 use std::ffi::{c_int, c_void};

@@ -1,10 +1,12 @@
 //! The benchmark: `compare/bench` (compare/README.md).
+use side::bench::against::Against;
 use side::bench::inputs::World;
 use side::bench::measure::{cell, gap, loops, opening, placing, Cell};
 use side::bench::page::{Peak, Results};
+use side::bench::rounds::Part;
 use side::bench::split::{split, Split};
 use side::bench::system::{count_running_time, Allocator};
-use side::bench::{chart, make, memory, page};
+use side::bench::{aligned, chart, make, memory, page};
 use side::cases::batch_of;
 use side::library::{library, Library};
 use side::referee::correctors::{Method, METHODS};
@@ -16,7 +18,7 @@ use std::process::ExitCode;
 static ALLOCATOR: Allocator = Allocator;
 
 const USAGE: &str =
-    "compare/bench [--make] [--quick] [--stand-in] [--out FOLDER] [--keys N] [--k K] [--method NAME] [--errors N] [--huge] [--split] [--running-time]; each of --keys to --errors as often as you like";
+    "compare/bench [--make] [--aligned] [--quick] [--stand-in] [--against LIBRARY] [--out FOLDER] [--keys N,..] [--k K,..] [--method NAME,..] [--errors N,..] [--huge] [--split] [--running-time]";
 const KEYS: [usize; 4] = [1_000, 100_000, 4_000_000, 16_000_000];
 /// How many of these --quick takes.
 const QUICK: usize = 2;
@@ -46,7 +48,7 @@ fn main() -> ExitCode {
     }
 }
 
-/// What to measure, and the folder of the page; where only a part is measured, no page is written unless a folder is named.
+/// What to measure, and the folder of the page; where only a part is measured, or another build too, no page is written unless a folder is named.
 #[derive(Default)]
 struct Options {
     keys: Vec<usize>,
@@ -56,6 +58,8 @@ struct Options {
     huge: bool,
     split: bool,
     make: bool,
+    aligned: bool,
+    against: Option<String>,
     folder: Option<String>,
 }
 
@@ -69,16 +73,21 @@ impl Options {
             }
             whole
         }
-        let sizes = if quick { QUICK } else { KEYS.len() };
+        let sizes: &[usize] = match (self.aligned, quick) {
+            (true, _) => &aligned::KEYS,
+            (false, true) => &KEYS[..QUICK],
+            (false, false) => &KEYS,
+        };
         let whole = [
-            or_all(&mut self.keys, &KEYS[..sizes]),
+            or_all(&mut self.keys, sizes),
             or_all(&mut self.k, &K),
             or_all(&mut self.methods, &METHODS),
             or_all(&mut self.errors, &ERRORS),
             !self.huge,
             !self.split,
+            self.against.is_none(),
         ];
-        if self.folder.is_none() && whole == [true; 6] {
+        if self.folder.is_none() && whole == [true; 7] {
             self.folder = Some(if cfg!(feature = "linked") { "docs" } else { "target/compare" }.to_string());
         }
         self
@@ -95,16 +104,17 @@ fn options(arguments: &[String]) -> Result<Options, String> {
     let mut arguments = arguments.iter();
     while let Some(argument) = arguments.next() {
         let mut value = || arguments.next().ok_or(USAGE);
-        let number = |text: &String| text.parse::<usize>().map_err(|_| format!("no number: {text}"));
         match argument.as_str() {
             "--quick" => quick = true,
-            "--keys" => options.keys.push(number(value()?)?),
-            "--k" => options.k.push(number(value()?)? as u8),
-            "--method" => options.methods.push(method(value()?)?),
-            "--errors" => options.errors.push(number(value()?)?),
+            "--keys" => options.keys.extend(list(value()?, number)?),
+            "--k" => options.k.extend(list(value()?, |k| number(k).map(|k| k as u8))?),
+            "--method" => options.methods.extend(list(value()?, method)?),
+            "--errors" => options.errors.extend(list(value()?, number)?),
             "--huge" => options.huge = true,
             "--split" => options.split = true,
             "--make" => options.make = true,
+            "--aligned" => options.aligned = true,
+            "--against" => options.against = Some(value()?.clone()),
             "--running-time" => count_running_time(),
             "--out" => options.folder = Some(value()?.clone()),
             // Chosen when this was built.
@@ -113,6 +123,21 @@ fn options(arguments: &[String]) -> Result<Options, String> {
         }
     }
     Ok(options.complete(quick))
+}
+
+/// Values with commas between them.
+fn list<T>(text: &str, value: impl Fn(&str) -> Result<T, String>) -> Result<Vec<T>, String> {
+    text.split(',').map(value).collect()
+}
+
+/// 1000, 100k, 4M.
+fn number(text: &str) -> Result<usize, String> {
+    let (digits, unit) = match text.as_bytes() {
+        [.., b'k'] => (&text[..text.len() - 1], 1_000),
+        [.., b'M'] => (&text[..text.len() - 1], 1_000_000),
+        _ => (text, 1),
+    };
+    digits.parse::<usize>().ok().and_then(|count| count.checked_mul(unit)).ok_or(format!("no number: {text}"))
 }
 
 fn method(name: &str) -> Result<Method, String> {
@@ -126,26 +151,43 @@ fn bench(arguments: &[String]) -> Result<(), String> {
         make::measure_all(library());
         return Ok(());
     }
-    let results = measure_all(&options);
-    let Some(folder) = &options.folder else { return Ok(()) };
+    let against = options.against.as_deref().map(Against::load).transpose()?;
+    let against = against.as_ref();
+    if options.aligned {
+        print!("{}", aligned::section(&aligned::measure_all(library(), against, &options.keys)));
+        return Ok(());
+    }
+    let results = measure_all(&options, against);
+    let Some(folder) = &options.folder else {
+        print!("{}", page::cell_tables(&results));
+        return Ok(());
+    };
     let (chart, folder) = ("benchmark.svg", Path::new(folder));
     let write = |file: &str, text: String| std::fs::write(folder.join(file), text).map_err(|error| format!("{file}: {error}"));
     let k = if options.k.contains(&ONE_K) { ONE_K } else { options.k[0] };
     write(chart, chart::draw(&results.cells, k, &options.keys, &options.errors))?;
     let made = make::section(&make::measure_all(library()));
-    write("BENCHMARK.md", page::write(&results, chart) + &made)?;
+    write("BENCHMARK.md", page::write(&results, chart) + &lines_of_memory(&options, against) + &made)?;
     println!("{}", folder.join("BENCHMARK.md").display());
     Ok(())
 }
 
-fn measure_all(options: &Options) -> Results {
+/// The page's section on aligned sets, if it has sets of millions of keys.
+fn lines_of_memory(options: &Options, against: Option<&Against>) -> String {
+    if options.keys.iter().all(|n| *n < MANY_KEYS) {
+        return String::new();
+    }
+    aligned::section(&aligned::measure_all(library(), against, &aligned::KEYS))
+}
+
+fn measure_all(options: &Options, against: Option<&Against>) -> Results {
     let library = library();
-    let mut results = Results { library: library.name(), ..Results::default() };
+    let mut results = Results { library: library.name(), against: options.against.clone(), ..Results::default() };
     for n in &options.keys {
         for k in &options.k {
             let rng = &mut Rng::of_unit(*k as u64, *n as u64);
             let world = World::new(rng, *k, *n);
-            measure(library, options, &world, &mut results);
+            measure(library, against, options, &world, &mut results);
             if options.folder.is_some() {
                 results.peaks.push(peak(&world, rng));
             }
@@ -158,11 +200,11 @@ fn measure_all(options: &Options) -> Results {
     results
 }
 
-fn measure(library: &dyn Library, options: &Options, world: &World, results: &mut Results) {
+fn measure(library: &dyn Library, against: Option<&Against>, options: &Options, world: &World, results: &mut Results) {
     let opened = opening(library, world);
     eprintln!("{} keys, k = {}, opened in {:.3} ms", world.keys, world.k, opened.open * 1e3);
     results.openings.push(opened);
-    results.cells.extend(cells(library, options, world));
+    results.cells.extend(cells(library, against, options, world));
     if options.beside(world, options.split) {
         for method in options.methods.iter().filter(|method| options.split || SPLIT_METHODS.contains(method)) {
             for errors in options.errors.iter().filter(|errors| options.split || SPLIT_ERRORS.contains(errors)) {
@@ -176,17 +218,17 @@ fn measure(library: &dyn Library, options: &Options, world: &World, results: &mu
         let huge = world.on_huge_pages();
         eprintln!("on huge pages:");
         results.placings.extend([placing(world), placing(&huge)]);
-        results.huge.extend(cells(library, options, &huge));
+        results.huge.extend(cells(library, against, options, &huge));
     }
 }
 
 /// Every method at every rate of errors.
-fn cells(library: &dyn Library, options: &Options, world: &World) -> Vec<Cell> {
+fn cells(library: &dyn Library, against: Option<&Against>, options: &Options, world: &World) -> Vec<Cell> {
     let loops: Vec<_> = options.errors.iter().map(|errors| loops(library, world, *errors)).collect();
     let mut cells = Vec::new();
     for method in &options.methods {
         for (errors, a_lookup) in options.errors.iter().zip(&loops) {
-            let cell = cell(library, world, *method, *errors, *a_lookup);
+            let cell = cell(library, against, world, *method, *errors, *a_lookup);
             say(&cell);
             cells.push(cell);
         }
@@ -195,17 +237,16 @@ fn cells(library: &dyn Library, options: &Options, world: &World) -> Vec<Cell> {
 }
 
 fn say(cell: &Cell) {
-    let (rounds, ratio) = (&cell.rounds, cell.rounds.ratio());
+    let rounds = &cell.rounds;
+    let before = rounds.by_ours(Part::Before).map_or(String::new(), |spread| format!(", before by after {spread}"));
     eprintln!(
-        "  {:?}, {} %: {:.1} ns a base ({:.1} less opening), the Rust {:.1}, ratio {:.2} ({:.2} to {:.2}); {:.2} lookups a base, {} reads, {} rounds",
+        "  {:?}, {} %: {:.1} ns a base ({:.1} less opening), the Rust {:.1}, ratio {}{before}; {:.2} lookups a base, {} reads, {} rounds",
         cell.method,
         cell.errors,
         cell.nanoseconds(rounds.ours()),
         cell.nanoseconds(rounds.less_opening()),
         cell.nanoseconds(rounds.rust()),
-        ratio.median,
-        ratio.lowest,
-        ratio.highest,
+        rounds.ratio(),
         cell.lookups_a_base(),
         cell.reads,
         rounds.count()
