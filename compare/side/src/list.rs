@@ -401,6 +401,7 @@ fn replay_call(reader: &mut Reader, record: &[u32; RECORD], set: &[u8], lent: u8
     let [entries, input, output, work, result] = [2, 3, 4, 5, 6].map(|at| record[at] as usize);
     let job = Job {
         call: if record[0] == READ { Call::Read } else { Call::Batch },
+        index: Vec::new(),
         entries: reader.take(entries)?.to_vec(),
         input: reader.take(input)?.to_vec(),
         output,

@@ -105,7 +105,7 @@ impl<'a> Batch<'a> {
         }
         let (input, expected) = (batch_of(&reads), batch_of(&results));
         let output = MOST_BYTES.min(input.len().max(expected.len()) * 5 / 4);
-        let job = Job { call: Call::Batch, entries: vec![method.byte(), CONFIRM], input, output, work: 2 * output };
+        let job = Job { call: Call::Batch, index: Vec::new(), entries: vec![method.byte(), CONFIRM], input, output, work: 2 * output };
         let (output, work) = (vec![0; job.output], vec![0; job.work]);
         Batch { reads, report: None, library, against: None, world, set: Box::new(&world.rust), method, job, expected, output, work }
     }
@@ -196,7 +196,7 @@ pub fn open(library: &dyn Library, world: &World) -> f64 {
 
 /// Seconds of a batch call without a line: opening the set and filling the table of starts.
 pub fn empty_batch(library: &dyn Library, world: &World, method: Method) -> f64 {
-    let job = Job { call: Call::Batch, entries: vec![method.byte(), CONFIRM], input: Vec::new(), output: 0, work: 0 };
+    let job = Job { call: Call::Batch, index: Vec::new(), entries: vec![method.byte(), CONFIRM], input: Vec::new(), output: 0, work: 0 };
     let (answer, seconds) = timed(|| library.correct(&world.set, &job, &mut [], &mut []));
     assert!(answer.is_ok(), "an empty batch is accepted");
     seconds

@@ -22,7 +22,7 @@ pub fn run(side: &str, set: &str, batch: &str) -> Result<(), String> {
     let say = |error: std::io::Error| error.to_string();
     let input = std::fs::read(batch).map_err(say)?;
     let output = input.len() * 5 / 4;
-    let job = Job { call: Call::Batch, entries: vec![Method::One.byte(), CONFIRM], input, output, work: 2 * output };
+    let job = Job { call: Call::Batch, index: Vec::new(), entries: vec![Method::One.byte(), CONFIRM], input, output, work: 2 * output };
     match side {
         "ours" => {
             let set = std::fs::read(set).map_err(say)?;
