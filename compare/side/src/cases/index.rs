@@ -47,7 +47,7 @@ fn byte_off(rng: &mut Rng, site: &Site) -> Vec<Vec<u8>> {
 }
 
 /// The words of an index that are not the set's, with check words that are right: an entry off, those of other rules, a spare word not zero.
-fn words_off(rng: &mut Rng, site: &Site) -> Vec<Vec<u8>> {
+pub fn words_off(rng: &mut Rng, site: &Site) -> Vec<Vec<u8>> {
     let words = words_of(site);
     let Ok(set) = &site.opened else { return Vec::new() };
     let (n, last) = (set.keys.len() as u64, entries(set.k, &set.keys).len() - 1);
