@@ -19,6 +19,7 @@ use Rattle.rules.proofs.Scan.{sole-is}
 use Rattle.rules.specs.Scan.{sole}
 use Rattle.kmer.specs.declared.Header.{Header}
 use Rattle.kmer.specs.Kmer.{Shifts}
+use Rattle.kmer.proofs.Laws.{quarter-is}
 use Rattle.gap_size.specs.Filter.{allButLast, suffix, hashOf, slotOf, bitsOf, Has, In, BitsSet, Noted, Covers, Begun, Asked}
 
 within : (k w m b : ℕ) → b < 2 ^ k → bitAnd w b ≡ b → bitAnd (bitOr w m) b ≡ b
@@ -100,8 +101,8 @@ met-one z a h = ⊎-elim (λ e. absurd (false≢true e)) (λ e. e) (met-snoc z a
 -- ---- the (k−1)-mers of a walk
 
 -- the last k − 1 letters, by a mask
-pub suffix-is : {head : Header} → Shifts head → (y : Kmer) → bitAnd (y .code) (head .top - 1) ≡ suffix (head .k) y
-suffix-is {head} s y = rw (s .top-is, ← two-four (head .k - 1)) (and-mask (y .code) (2 * (head .k - 1)))
+pub suffix-is : {head : Header} → Shifts head → (y : Kmer) → bitAnd (y .code) (head .mask / 4) ≡ suffix (head .k) y
+suffix-is {head} s y = rw (quarter-is s, ← two-four (head .k - 1)) (and-mask (y .code) (2 * (head .k - 1)))
 
 -- a successor begins as the k-mer before it ends
 pub move-begins : (k : ℕ) (sol : ℕ → Bool) (y z : Kmer) → 1 ≤ k → sole k sol y .answer ≡ some z → allButLast z ≡ suffix k y

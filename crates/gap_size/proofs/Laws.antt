@@ -164,7 +164,7 @@ pub gap-bound : {bytes starts : List ℕ} {head : Header} → Ready bytes starts
     → gap (head .k) (solid (setOf bytes)) m (x ∷ []) x 0 .lookups ≤ 8 * maxKeys
 unfolding setOf met SolidKmer
 gap-bound {bytes} {starts} {head} r m x lt lit =
-    let n = opened-n-le bytes (r .opens) in
+    let n = opened-n-le bytes (r .table .opens) in
     let c = set-count bytes in
     let g : SolidKmer (headerK bytes) (solid (setOf bytes)) x = (rw (← (r .k-is)) lt, lit) in
     rw (r .k-is)

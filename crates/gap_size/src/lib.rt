@@ -46,7 +46,7 @@ fn suffix_of(head: Header, kmer: Kmer) -> u64
     requires { ⌜ Shifts head ⌝ }
     ensures { λ r. ⌜ r ≡ suffix (head .k) (kmerOf kmer) ⌝ }
 {
-    kmer.code & (head.top - 1)
+    kmer.code & (head.mask / 4)
 }
 
 // Puts the first and the last k − 1 letters of x into the filter; whether it said maybe of the last.

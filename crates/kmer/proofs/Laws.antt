@@ -20,7 +20,7 @@ use Rattle.rules.proofs.Opened.{both}
 use Rattle.rules.proofs.Kmer.{known-true, ne-known, same-code, four-pos, push-is, push-lt, complement-lt, revcomp-lt, revcomp-first, ones-in, two-four}
 use Rattle.kmer.specs.declared.Header.{Header}
 use Rattle.kmer.specs.declared.Kmer.{Kmer}
-use Rattle.kmer.specs.Kmer.{basePairs, Shifts, kmerOf, IsKmer, HasLetters}
+use Rattle.kmer.specs.Kmer.{Shifts, kmerOf, IsKmer, HasLetters}
 
 -- k is at most 31, so a k-mer is below 2 ^ 62
 pub bound : (k : ℕ) → k ≤ 31 → 4 ^ k ≤ 2 ^ 62
@@ -126,8 +126,8 @@ shifted head y a s l h = rw (s .mask-is) (go (head .k) (s .k-low) (s .k-high) l)
 
 -- ---- the reverse complement, carried along
 
-pub pair-is : (a : ℕ) → a < 4 → bitAnd (basePairs / 2 ^ (2 * a)) 3 ≡ complement a
-unfolding basePairs complement
+pub pair-is : (a : ℕ) → a < 4 → (a + complement 0) % 4 ≡ complement a
+unfolding complement
 pair-is zero h = refl
 pair-is (suc zero) h = refl
 pair-is (suc (suc zero)) h = refl
@@ -147,11 +147,19 @@ revcomp-add (suc j) y a l s h =
     let e : suc j - 1 ≡ j = omega arith in
     rw (quarter, e, push-is 4 j y a h, revcomp, digits-mod (y % P) h, digits-div (y % P) h) (add-comm (revcomp j (y % P)) (complement a * P))
 
-module _ (head : Header) (y : Kmer) (s : Shifts head) (is : IsKmer (head .k) y) where
-  pub rev-add : (a : ℕ) → a < 4 → y .rev / 4 + complement a * head .top ≡ revcomp (head .k) (push 4 (head .k) (y .code) a)
-  rev-add a h = rw (is .turned, s .top-is) (revcomp-add (head .k) (y .code) a (s .k-low) (is .small) h)
+-- the mask without its last letter
+pub quarter-is : {head : Header} → Shifts head → head .mask / 4 ≡ 4 ^ (head .k - 1) - 1
+unfolding mask
+quarter-is {head} s =
+    let e : suc (head .k - 1) ≡ head .k = omega (arith, s .k-low) in
+    let p : 4 ^ head .k ≡ 4 ^ (head .k - 1) * 4 = rw e at (pow-suc 4 (head .k - 1)) in
+    omega (arith, s .mask-is, p, four-pos (head .k - 1))
 
-  pub rev-fits : (a : ℕ) → a < 4 → y .rev / 4 + complement a * head .top < 2 ^ 62
+module _ (head : Header) (y : Kmer) (s : Shifts head) (is : IsKmer (head .k) y) where
+  pub rev-add : (a : ℕ) → a < 4 → y .rev / 4 + complement a * 4 ^ (head .k - 1) ≡ revcomp (head .k) (push 4 (head .k) (y .code) a)
+  rev-add a h = rw (is .turned) (revcomp-add (head .k) (y .code) a (s .k-low) (is .small) h)
+
+  pub rev-fits : (a : ℕ) → a < 4 → y .rev / 4 + complement a * 4 ^ (head .k - 1) < 2 ^ 62
   rev-fits a h = rw (rev-add a h) (omega (arith, revcomp-lt (head .k) (push 4 (head .k) (y .code) a), bound (head .k) (s .k-high)))
 
 -- an A in front of y without its last letter: turned round, its complement comes last

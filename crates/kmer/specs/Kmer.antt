@@ -6,18 +6,11 @@ use Rattle.rules.specs.Letters as rules
 use Rattle.kmer.specs.declared.Header.{Header}
 use Rattle.kmer.specs.declared.Kmer.{Kmer}
 
--- The complements of the four codes, two bits each.
-unfoldable pub basePairs : ℕ
-unfolding complement
-basePairs = complement 0 + 4 * complement 1 + 16 * complement 2 + 64 * complement 3
-
--- The header's masks belong to its k.
+-- The header's mask belongs to its k.
 pub record Shifts (head : Header) : Type 0 where
   pub k-low : 1 ≤ head .k
   pub k-high : head .k ≤ 31
   pub mask-is : head .mask ≡ mask (head .k)
-  pub top-is : head .top ≡ 4 ^ (head .k - 1)
-  pub pairs-are : head .pairs ≡ basePairs
 
 -- The code of k letters, beside it that of its reverse complement, and a bit for each letter.
 pub record IsKmer (k : ℕ) (y : Kmer) : Type 0 where

@@ -1,19 +1,18 @@
 // Document 01, "Letters", and document 02, W5: codes of bases, and k-mers as numbers in base four. Ports `mask` and `add_nuc_to_end` of src/correct/mod.rs, and
 // `nuc2bit`, `bit2nuc`, `seq2bit` and `canonical` of the crate cocktail.
 ghost use mathlib.Core.Path.{_≡_};
-ghost use Prim.Native.Nat.{_<_, _≤_, _^_};
+ghost use Prim.Native.Nat.{ℕ, _-_, _<_, _≤_, _^_};
 ghost use lib.ListN.{length, take};
 ghost use Rattle.rules.specs.Letters;
-ghost use Rattle.kmer.specs.Kmer.{basePairs, Shifts, kmerOf, IsKmer, HasLetters};
+ghost use Rattle.kmer.specs.Kmer.{Shifts, kmerOf, IsKmer, HasLetters};
 
 // What a set's header says, k and n, with what lookups and shifts need beside it.
 pub struct Header {
     pub k: usize,
     pub n: usize,
     pub mask: u64,
-    pub top: u64,
-    pub pairs: u64,
     pub shift: u32,
+    pub finer: u32,
 }
 
 // A k-mer's code, and beside it the code of its reverse complement, so that a lookup never has to turn the letters round; and its unknown
@@ -103,19 +102,12 @@ fn complement(nuc: u64) -> u64
     }
 }
 
-// The complements of the four codes, two bits each. The match is made once a call: at each base it would slow a pass.
-fn base_pairs() -> u64
-    ensures { λ r. ⌜ r ≡ basePairs ⌝ }
-{
-    complement(0) + 4 * complement(1) + 16 * complement(2) + 64 * complement(3)
-}
-
-// The complement, from those that the header holds.
-fn pair_of(nuc: u64, head: Header) -> u64
-    requires { ⌜ Shifts head × (nuc < 4) ⌝ }
+// The complement of any code lies as far behind it as that of A behind A. A match at each base would slow a pass.
+fn pair_of(nuc: u64) -> u64
+    requires { ⌜ nuc < 4 ⌝ }
     ensures { λ r. ⌜ r ≡ Letters.complement nuc ⌝ }
 {
-    (head.pairs >> (2 * nuc)) & 3
+    (nuc + complement(0)) % 4
 }
 
 pub fn mask(k: usize) -> u64
@@ -125,17 +117,16 @@ pub fn mask(k: usize) -> u64
     MASK_LOOKUP[k]
 }
 
-pub fn header_of(k: usize, n: usize, shift: u32) -> Header
+pub fn header_of(k: usize, n: usize, shift: u32, finer: u32) -> Header
     requires { ⌜ (1 ≤ k) × (k ≤ 31) ⌝ }
-    ensures { λ r. ⌜ Shifts r × (r .k ≡ k) × (r .n ≡ n) × (r .shift ≡ shift) ⌝ }
+    ensures { λ r. ⌜ Shifts r × (r .k ≡ k) × (r .n ≡ n) × (r .shift ≡ shift) × (r .finer ≡ finer) ⌝ }
 {
     Header {
         k,
         n,
         mask: mask(k),
-        top: mask(k - 1) + 1,
-        pairs: base_pairs(),
         shift,
+        finer,
     }
 }
 
@@ -155,6 +146,14 @@ fn mark_in(unknown: u64, bit: u64, head: Header) -> u64
     (2 * unknown + bit) & (head.mask >> head.k)
 }
 
+// What the first of k letters counts.
+fn top(head: Header) -> u64
+    requires { ⌜ Shifts head ⌝ }
+    ensures { λ r. ⌜ r ≡ 4 ^ (head .k - 1) ⌝ }
+{
+    head.mask / 4 + 1
+}
+
 // An unknown letter, said by 4, has 0 in its place of the code.
 pub fn add_nuc_to_end(kmer: Kmer, nuc: u64, head: Header) -> Kmer
     requires { ⌜ Shifts head × IsKmer (head .k) kmer × (nuc ≤ 4) ⌝ }
@@ -163,7 +162,7 @@ pub fn add_nuc_to_end(kmer: Kmer, nuc: u64, head: Header) -> Kmer
     let bits = nuc & 3;
     Kmer {
         code: shift_in(kmer.code, bits, head),
-        rev: kmer.rev / 4 + pair_of(bits, head) * head.top,
+        rev: kmer.rev / 4 + pair_of(bits) * top(head),
         unknown: mark_in(kmer.unknown, nuc >> 2, head),
     }
 }
@@ -218,9 +217,8 @@ pub fn parity_even(code: u64) -> bool
 }
 
 // Without a branch: parity is as good as random.
-pub fn canonical(kmer: Kmer, head: Header) -> u64
-    requires { ⌜ IsKmer (head .k) kmer ⌝ }
-    ensures { λ r. ⌜ r ≡ Letters.canonical (head .k) (kmer .code) ⌝ }
+pub fn canonical(kmer: Kmer) -> u64
+    ensures { λ r. ⌜ ((k : ℕ) → IsKmer k kmer → r ≡ Letters.canonical k (kmer .code)) ⌝ }
 {
     let both = [kmer.rev, kmer.code];
     let even = parity_even(kmer.code) as usize;

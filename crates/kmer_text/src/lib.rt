@@ -104,7 +104,7 @@ pub fn line_key(line: &[u8], head: Header) -> u64
     requires { ⌜ Shifts head × (Rules.formRight (head .k) (now line) ≡ true) ⌝ }
     ensures { λ r. ⌜ r ≡ Rules.lineKey (head .k) (now (line .entry)) ⌝ }
 {
-    kmer::canonical(kmer::seq2bit(line, head), head)
+    kmer::canonical(kmer::seq2bit(line, head))
 }
 
 // Where the line from `from` on ends: behind its byte 10, or where the text does.

@@ -17,7 +17,7 @@ use Rattle.correct.proofs.correct.Tie as tie
 one-pass : (s : tie.Start) → Small 1 (pass (setOf (s .args .set .now)) (entry (s .args .method) (s .args .c)) (s .args .read .now))
 one-pass s =
     let a = s .args in
-    one-small _ _ (s .pre .2) (pass-limited _ (s .pre .0 .opens) (a .c) (s .pre .1) (s .fits .c .fits) (a .method) (a .read .now))
+    one-small _ _ (s .pre .2) (pass-limited _ (s .pre .0 .table .opens) (a .c) (s .pre .1) (s .fits .c .fits) (a .method) (a .read .now))
 
 copied-requires : tie.Need-copied-requires
 copied-requires c κs = search needs
@@ -91,7 +91,7 @@ turns-of-requires c κs =
       s .pre .1,
       record { kmer = g .before .seq2bit .ensures .kmer; at = e .if1 .left; written = omega (arith, p .copy .kept .1 .0, p .before .before .before .if2 .left) },
       subst Countable (sym (begun g))
-          (countable _ _ (s .pre .2) (pass-limited _ (s .pre .0 .opens) (a .c) (s .pre .1) (s .fits .c .fits) (a .method) (a .read .now))),
+          (countable _ _ (s .pre .2) (pass-limited _ (s .pre .0 .table .opens) (a .c) (s .pre .1) (s .fits .c .fits) (a .method) (a .read .now))),
     )
 
 same-length-2 : tie.Need-same-length-2

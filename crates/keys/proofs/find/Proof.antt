@@ -1,19 +1,6 @@
-use Rattle.keys.proofs.Bracket.{answers-all, answers-none}
 use borrow.Author.Needs.{needs}
 use Rattle.keys.proofs.find.Statement.{statement}
 use Rattle.keys.proofs.find.Tie as tie
-
-returns : tie.Need-returns
-returns c = answers-none (c .before .before .pre .2) (c .if1 .taken)
-
-sub-if2 : tie.Need-sub-if2
-sub-if2 c = search needs
-
-in-few-requires : tie.Need-in-few-requires
-in-few-requires c κs = search needs
-
-returns-2 : tie.Need-returns-2
-returns-2 c = answers-all (c .before .before .before .before .pre .2) (c .in-few .result) (c .in-few .ensures)
 
 guess-requires : tie.Need-guess-requires
 guess-requires c κs = search needs
@@ -21,10 +8,8 @@ guess-requires c κs = search needs
 search-requires : tie.Need-search-requires
 search-requires c κs = search needs
 
-returns-3 : tie.Need-returns-3
-returns-3 c = search needs
+returns : tie.Need-returns
+returns c = search needs
 
 pub find-spec : {M : Type 1} → statement M
-find-spec =
-    tie.close
-    (tie.spec returns sub-if2 in-few-requires returns-2 guess-requires search-requires returns-3)
+find-spec = tie.close (tie.spec guess-requires search-requires returns)

@@ -33,11 +33,11 @@ picked k y rev true e turned = sym (canonical-even k y (sym e))
 picked k y rev false e turned = turned ∙ sym (canonical-odd k y (sym e))
 
 returns : tie.Need-returns
-returns c =
-    let b = c .before in
-    picked (b .args .head .k) (b .args .kmer .code) (b .args .kmer .rev) (c .parity-even .result)
-    (c .parity-even .ensures ∙ even-wide (b .args .head .k) (b .args .kmer .code) (search needs) (b .pre .small))
-    (b .pre .turned)
+returns c k is =
+    let a = c .before .args in
+    picked k (a .kmer .code) (a .kmer .rev) (c .parity-even .result)
+    (c .parity-even .ensures ∙ even-wide k (a .kmer .code) (search needs) (is .small))
+    (is .turned)
 
 pub canonical-spec : {M : Type 1} → statement M
 canonical-spec = tie.close (tie.spec parity-even-requires cast-even mul-result array-read-result returns)

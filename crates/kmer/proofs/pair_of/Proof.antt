@@ -1,18 +1,18 @@
+use native.Mathlib.Omega.{arith}
 use borrow.Author.Needs.{needs}
+use Rattle.rules.proofs.Kmer.{complement-lt}
 use Rattle.kmer.proofs.Laws.{pair-is}
 use Rattle.kmer.proofs.pair_of.Statement.{statement}
 use Rattle.kmer.proofs.pair_of.Tie as tie
 
-mul-result : tie.Need-mul-result
-mul-result c = search needs
+complement-requires : tie.Need-complement-requires
+complement-requires c κs = search needs
 
-shr-result : tie.Need-shr-result
-shr-result c = search needs
+add-result : tie.Need-add-result
+add-result c = omega (arith, c .complement .ensures .0, complement-lt 0)
 
 returns : tie.Need-returns
-returns c =
-    let b = c .before in
-    rw (b .pre .0 .pairs-are) (pair-is (b .args .nuc) (b .pre .1))
+returns c = rw (c .complement .ensures .0) (pair-is (c .before .args .nuc) (c .before .pre))
 
 pub pair-of-spec : {M : Type 1} → statement M
-pair-of-spec = tie.close (tie.spec mul-result shr-result returns)
+pair-of-spec = tie.close (tie.spec complement-requires add-result returns)

@@ -18,7 +18,7 @@ returns : tie.Need-returns
 unfolding lineKey
 returns c =
     let s = c .before in
-    c .canonical .ensures ∙ ap (canonical (s .before .before .args .head .k)) (code-is (s .seq2bit .ensures))
+    c .canonical .ensures _ (s .seq2bit .ensures .kmer) ∙ ap (canonical (s .before .before .args .head .k)) (code-is (s .seq2bit .ensures))
 
 pub line-key-spec : {M : Type 1} → statement M
 line-key-spec = tie.close (tie.spec seq2bit-requires canonical-requires returns)

@@ -16,14 +16,16 @@ returns c =
     let e = ask-none _ _ (ne-known _ unknown) in
     record { solid = sym (ap (λ (t : Counted Bool). t .answer) e); lookups = sym (ap (λ (t : Counted Bool). t .lookups) e) }
 
-get-requires : tie.Need-get-requires
-get-requires c κs = search needs
+look-up-requires : tie.Need-look-up-requires
+look-up-requires c κs =
+    let p = c .before .before .before .before .pre in
+    (p .0 .table, rw (← (p .0 .k-is)) (p .1), omega arith)
 
 returns-2 : tie.Need-returns-2
 unfolding kmerOf
 returns-2 c =
     let known : c .before .before .before .before .before .args .kmer .unknown ≡ 0 = omega arith in
-    record { solid = c .get .ensures ∙ sym (ask-is _ _ known); lookups = sym (ask-one _ _ known) }
+    record { solid = c .look-up .ensures ∙ sym (ask-is _ _ known); lookups = sym (ask-one _ _ known) }
 
 pub ask-spec : {M : Type 1} → statement M
-ask-spec = tie.close (tie.spec returns get-requires returns-2)
+ask-spec = tie.close (tie.spec returns look-up-requires returns-2)
