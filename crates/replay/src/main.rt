@@ -36,6 +36,13 @@ enum Case {
     Malformed,
 }
 
+// The lengths of the set and the index of the next case; whole if its record and they were there.
+struct Next {
+    set: usize,
+    index: usize,
+    whole: bool,
+}
+
 fn told(agrees: bool) -> Case {
     if agrees { Case::Agrees } else { Case::Differs }
 }
@@ -122,6 +129,33 @@ fn next_bytes(kind: u64, record: &mut [u8; 64], bytes: &mut [u8], length: usize)
     }
 }
 
+// An index is offered until the next set.
+fn kept(record: &[u8; 64], offered: usize) -> usize {
+    if number(record, 0) == SET { 0 } else { offered }
+}
+
+// Reads the record of the next case, and before it the set and the index, if they are there; else they stay.
+fn next_case(
+    record: &mut [u8; 64],
+    set: &mut [u8],
+    length: usize,
+    index: &mut [u8],
+    offered: usize,
+) -> Next
+    requires { ⌜ Counts length (now set) ⌝ }
+    ensures { λ r. ⌜ Counts (r .set) (now (set .exit)) × Counts (r .index) (now (index .exit)) ⌝ }
+{
+    let first = read_part(record, 64);
+    let stays = part_of(index, kept(record, offered));
+    let set_part = next_bytes(SET, record, set, length);
+    let index_part = next_bytes(INDEX, record, index, stays.length);
+    Next {
+        set: set_part.length,
+        index: index_part.length,
+        whole: first.whole && set_part.whole && index_part.whole,
+    }
+}
+
 // A record of zeros, and nothing behind it.
 fn ends() -> bool {
     let mut last = [0u8; 65];
@@ -146,16 +180,12 @@ fn replay(cases: usize, fill: u8) {
     let mut agree = 0;
     for case in 0..cases {
         let mut record = [0u8; 64];
-        let first = read_part(&mut record, 64);
-        // An index is offered until the next set.
-        let kept = if number(&record, 0) == SET { 0 } else { index_end };
-        let set_part = next_bytes(SET, &mut record, &mut set, set_end);
-        let index_part = next_bytes(INDEX, &mut record, &mut index, kept);
-        if !first.whole || !set_part.whole || !index_part.whole {
+        let next = next_case(&mut record, &mut set, set_end, &mut index, index_end);
+        if !next.whole {
             return malformed(case);
         }
-        set_end = set_part.length;
-        index_end = index_part.length;
+        set_end = next.set;
+        index_end = next.index;
         match replay_case(&set[..set_end], &index[..index_end], &record, fill) {
             Case::Agrees => agree += 1,
             Case::Differs => print(case, b" differs\n"),

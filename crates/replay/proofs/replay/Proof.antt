@@ -9,35 +9,23 @@ use Rattle.replay.proofs.replay.Statement.{statement}
 use Rattle.replay.proofs.replay.Tie as tie
 
 abbrev Inv-loop : tie.InvT-loop
-Inv-loop cases fill set₀ set-end₀ index₀ index-end₀ agree₀ case₀ t9 t10 t11 set set-end index index-end agree case =
+Inv-loop cases fill set₀ set-end₀ index₀ index-end₀ agree₀ case₀ t11 t12 t13 set set-end index index-end agree case =
     (8192 ≡ length set) × Counts set-end set × (34304 ≡ length index) × Counts index-end index × (agree ≤ case) × (case ≤ cases)
 
 abbrev μ-loop : tie.MeasureT-loop
-μ-loop cases fill set₀ set-end₀ index₀ index-end₀ agree₀ case₀ t9 t10 t11 set set-end index index-end agree case = cases - case
+μ-loop cases fill set₀ set-end₀ index₀ index-end₀ agree₀ case₀ t11 t12 t13 set set-end index index-end agree case = cases - case
 
 loop-holds : tie.Need-loop-holds Inv-loop μ-loop
 loop-holds c = search needs
 
-slice-aggregate-read-part : tie.Need-slice-aggregate-read-part Inv-loop μ-loop
-slice-aggregate-read-part c = search needs
+slice-aggregate-next-case : tie.Need-slice-aggregate-next-case Inv-loop μ-loop
+slice-aggregate-next-case c = search needs
 
-read-part-requires : tie.Need-read-part-requires Inv-loop μ-loop
-read-part-requires c κs = search needs
+slice-aggregate-next-case-2 : tie.Need-slice-aggregate-next-case-2 Inv-loop μ-loop
+slice-aggregate-next-case-2 c = search needs
 
-number-requires : tie.Need-number-requires Inv-loop μ-loop
-number-requires c κs = search needs
-
-slice-aggregate-next-bytes : tie.Need-slice-aggregate-next-bytes Inv-loop μ-loop
-slice-aggregate-next-bytes c = search needs
-
-next-bytes-requires : tie.Need-next-bytes-requires Inv-loop μ-loop
-next-bytes-requires c κs = search needs
-
-slice-aggregate-next-bytes-2 : tie.Need-slice-aggregate-next-bytes-2 Inv-loop μ-loop
-slice-aggregate-next-bytes-2 c = search needs
-
-next-bytes-requires-2 : tie.Need-next-bytes-requires-2 Inv-loop μ-loop
-next-bytes-requires-2 c κs = search needs
+next-case-requires : tie.Need-next-case-requires Inv-loop μ-loop
+next-case-requires c κs = search needs
 
 malformed-requires : tie.Need-malformed-requires Inv-loop μ-loop
 malformed-requires c κs = search needs
@@ -124,13 +112,9 @@ replay-spec =
     Inv-loop
     μ-loop
     loop-holds
-    slice-aggregate-read-part
-    read-part-requires
-    number-requires
-    slice-aggregate-next-bytes
-    next-bytes-requires
-    slice-aggregate-next-bytes-2
-    next-bytes-requires-2
+    slice-aggregate-next-case
+    slice-aggregate-next-case-2
+    next-case-requires
     malformed-requires
     returns
     array-share-prefix-set
