@@ -117,8 +117,9 @@ fn in_many(set: &[u8], shift: u32, range: Range, span: Span) -> Found
 }
 
 // A lookup is made only of a k-mer without unknown letters. Of the header it takes what it needs: a struct that is handed over is laid into
-// memory for each lookup. Since `get` and `ask` both call it, it stays a function of its own.
-fn look_up(set: &[u8], starts: &[u32], n: usize, shift: u32, finer: u32, kmer: Kmer) -> bool
+// memory for each lookup, and so is a seventh number, hence the last is the one that is seldom used. Since `get` and `ask` both call it, it
+// stays a function of its own.
+fn look_up(set: &[u8], starts: &[u32], kmer: Kmer, n: usize, shift: u32, finer: u32) -> bool
     requires { ⌜ Table (now set) (now starts) shift finer × IsKmer (headerK (now set)) kmer × (kmer .unknown ≡ 0) ⌝ }
     ensures { λ r. ⌜ r ≡ solid (setOf (now (set .entry))) (kmer .code) ⌝ }
 {
@@ -143,7 +144,7 @@ pub fn get(set: &[u8], starts: &[u32], head: Header, kmer: Kmer) -> bool
     requires { ⌜ Ready (now set) (now starts) head × IsKmer (head .k) kmer × (kmer .unknown ≡ 0) ⌝ }
     ensures { λ r. ⌜ r ≡ solid (setOf (now (set .entry))) (kmer .code) ⌝ }
 {
-    look_up(set, starts, head.n, head.shift, head.finer, kmer)
+    look_up(set, starts, kmer, head.n, head.shift, head.finer)
 }
 
 // A k-mer asked: whether it is solid, and the lookups made.
@@ -163,7 +164,7 @@ pub fn ask(set: &[u8], starts: &[u32], head: Header, kmer: Kmer) -> Asked
             lookups: 0,
         };
     }
-    let solid = look_up(set, starts, head.n, head.shift, head.finer, kmer);
+    let solid = look_up(set, starts, kmer, head.n, head.shift, head.finer);
     Asked { solid, lookups: 1 }
 }
 
