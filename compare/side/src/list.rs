@@ -5,7 +5,7 @@ use crate::library::{Library, StandIn};
 use crate::referee::calls::{call, entries, Answer, Call, Job, Report};
 use crate::referee::correctors::{Event, Method, METHODS};
 use crate::referee::driver::Pass;
-use crate::referee::set::{Refusal, Set};
+use crate::referee::set::Refusal;
 use crate::rng::Rng;
 use crate::samples::SAMPLES;
 use crate::set_file::BLOCK;
@@ -347,35 +347,52 @@ fn refused(list: &mut List, rng: &mut Rng) {
     }
 }
 
-/// A call that offers an index: a read, a batch, or one whose output is too short for its read.
-fn offer(list: &mut List, rng: &mut Rng, site: &Site, genome: &[u8], index: &[u8]) {
-    let long = |set: &Set| set.k > 5;
-    let read = match site.opened.as_ref().is_ok_and(long) {
-        true => reads::spaced(rng, &genome[..genome.len().min(120)], 30),
-        false => reads::in_set(rng, site),
-    };
+/// A read or a batch of one.
+fn any_call(rng: &mut Rng, site: &Site, genome: &[u8]) -> Job {
+    let read = if genome.is_empty() { reads::in_set(rng, site) } else { reads::spaced(rng, genome, 20) };
     let count = *rng.pick(&[1, 1, 2]);
     let entries = any_entries(rng, count, 4);
-    let offered = match rng.below(5) {
-        0 => Job { output: read.len() / 2, work: 2 * read.len(), ..job(Call::Read, &entries, &read) },
-        1 | 2 => job(Call::Batch, &entries, &batch_of([&read])),
-        _ => job(Call::Read, &entries, &read),
-    };
-    list.call(site, &Job { index: index.to_vec(), ..offered });
+    if rng.percent(40) {
+        job(Call::Batch, &entries, &batch_of([&read]))
+    } else {
+        job(Call::Read, &entries, &read)
+    }
+}
+
+/// A call that corrects something, if one of a hundred does; now and then with an output that is too short for it.
+fn mending_call(rng: &mut Rng, site: &Site, genome: &[u8]) -> Job {
+    let mut job = any_call(rng, site, genome);
+    for _ in 0..100 {
+        if call(&site.opened, &job).answer.is_ok_and(|report| report.accepted > 0) {
+            break;
+        }
+        job = any_call(rng, site, genome);
+    }
+    if rng.percent(20) {
+        job.output = job.input.len() / 2;
+    }
+    job
+}
+
+/// Calls that offer the set's own index, and one for each of the others.
+fn offer(list: &mut List, rng: &mut Rng, site: &Site, genome: &[u8], own: usize, others: &[Vec<u8>]) {
+    let own = std::iter::repeat_n(site.index(), own);
+    for index in own.chain(others.iter().map(Vec::as_slice)) {
+        let job = mending_call(rng, site, genome);
+        list.call(site, &Job { index: index.to_vec(), ..job });
+    }
 }
 
 /// Indexes offered at m of 1, 3 and 5: the set's own, that one damaged, and others.
 fn short_indexes(list: &mut List, rng: &mut Rng) {
-    for (k, most) in [(1, 50), (3, 40), (5, 3)] {
+    for (k, most) in [(1, 50), (3, 30), (5, 3)] {
         let site = sets::dense(rng, k);
-        let own = site.index();
-        (0..8).for_each(|_| offer(list, rng, &site, &[], own));
         let mut others = index::all(rng, &site).split_off(1);
-        others.retain(|index| index.len() <= own.len() + BLOCK);
+        others.retain(|index| index.len() <= site.index().len() + BLOCK);
         while others.len() > most {
             others.remove(rng.below(others.len()));
         }
-        others.iter().for_each(|index| offer(list, rng, &site, &[], index));
+        offer(list, rng, &site, &[], 8, &others);
     }
 }
 
@@ -383,9 +400,8 @@ fn short_indexes(list: &mut List, rng: &mut Rng) {
 fn long_indexes(list: &mut List, rng: &mut Rng) {
     for (k, most) in [(7, 0), (21, 1), (31, 0)] {
         let (site, genome) = small_genome(rng, k);
-        (0..24).for_each(|_| offer(list, rng, &site, &genome, site.index()));
         let others = index::words_off(rng, &site);
-        others.iter().take(most).for_each(|index| offer(list, rng, &site, &genome, index));
+        offer(list, rng, &site, &genome, 16, &others[..most]);
     }
 }
 
@@ -400,10 +416,16 @@ fn late_indexes(list: &mut List, rng: &mut Rng) {
             }
         });
     }
-    for _ in 0..12 {
+    let index = other.index().to_vec();
+    list.call(&site, &Job { index: index.clone(), ..job(Call::Batch, &[1, 1], b"ACGT") });
+    let mut turned = site.bytes.clone();
+    turned[8] ^= 1;
+    list.call(&Site::new(turned), &Job { index, ..job(Call::Read, &[1, 1], b"ACGT") });
+    for _ in 0..16 {
         let damaged = Site::new(damage::set(rng));
-        if damaged.bytes.len() <= 2048 {
-            offer(list, rng, &damaged, b"ACGTTGCA", other.index());
+        if damaged.bytes.len() <= 1024 {
+            let call = any_call(rng, &damaged, b"ACGTTGCA");
+            list.call(&damaged, &Job { index: other.index().to_vec(), ..call });
         }
     }
 }
