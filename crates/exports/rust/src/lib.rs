@@ -5,9 +5,8 @@
 //! on the stack: `CORRECTOR_STACK` of corrector.h says how much a thread needs, which is less than a thread of `std` has.
 //!
 //! Each call opens the set and fills a table of where its keys start, 6 ms at 4 million keys and 22 at 16 million, so send batches as long as may
-//! be. A large `Vec<u8>` starts 16 bytes into a page, where lookups in a set of millions of keys take more lines of memory than they need to:
-//! lend it from memory that starts at a multiple of 64 bytes (4 to 7 % less time), or better of 2 MB, with `madvise(.., MADV_HUGEPAGE)`
-//! before the set is read into it (5 to 27 % less).
+//! be. Lend a large set from memory that starts at a multiple of 2 MB, with `madvise(.., MADV_HUGEPAGE)` before the set is read into it: a batch
+//! took 12 and 6 % less time with 4 and 16 million keys. Where calls are short, offer the set's index, which saves filling the table.
 //!
 //! ```
 //! # fn set_of(k: u64, keys: &[u64]) -> Vec<u8> {
