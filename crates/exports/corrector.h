@@ -11,8 +11,8 @@
  *
  * Large sets. Each call opens the set and fills a table of where its keys start: 6 ms at 4 million keys, 22 at 16 million. So send batches as
  * long as may be. Lend a set of a million keys or more from memory that starts at a multiple of 2 MB and was advised by
- * `madvise(.., MADV_HUGEPAGE)` before the set was read into it: calls took 5 to 27 % less time. Where there are no huge pages, start it at a
- * multiple of 64 bytes, which malloc does not: 4 to 7 % less (docs/BENCHMARK.md).
+ * `madvise(.., MADV_HUGEPAGE)` before the set was read into it: a batch by One took 12 and 6 % less time
+ * with 4 and 16 million keys (docs/BENCHMARK.md).
  *
  * Slices. A slice is a pointer and a count of elements. As for Rust's slices, the pointer must not be null and must be aligned for its
  * elements, also where the count is 0, and every element must be initialised, those of output, work and blocks too. `output`, `work`, `blocks`
@@ -62,8 +62,8 @@ struct corrector_entry {
 };
 
 /*
- * Why a call is refused: what it returns, and number 0 of its answer. Checked upward, so that the least that applies is told;
- * corrector_make_set has an order of its own.
+ * Why a call is refused: what it returns, and number 0 of its answer. Checked upward, so that the least that applies is told, but for 11,
+ * which comes last; corrector_make_set has an order of its own.
  */
 enum corrector_refusal {
     CORRECTOR_NOT_REFUSED = 0,
@@ -80,7 +80,8 @@ enum corrector_refusal {
     CORRECTOR_NO_ROOM = 11,       /* a result does not fit the output; place: the line, 0 for a single read */
     CORRECTOR_LINE = 12,          /* a line of counts breaks the form; place: the line */
     CORRECTOR_NOT_RISING = 13,    /* the canonical code of a kept line doesn't rise; place: the line */
-    CORRECTOR_TOO_SHORT = 14      /* the buffer is too short for the blocks */
+    CORRECTOR_TOO_SHORT = 14,     /* the buffer is too short for the blocks */
+    CORRECTOR_INDEX = 15          /* an offered index isn't the set's; checked behind 10 and before 11 */
 };
 
 /*
@@ -98,7 +99,7 @@ enum {
     CORRECTOR_KMERS = 2, /* of the read */
     CORRECTOR_SOLID = 3, /* those of them that are solid */
     CORRECTOR_SOLID_NUMBERS = 4, /* how many there are */
-    /* corrector_make_set */
+    /* corrector_make_set and corrector_make_index */
     CORRECTOR_LENGTH = 2, /* of the blocks, in bytes */
     CORRECTOR_MADE_NUMBERS = 3, /* how many there are */
     /* corrector_read and corrector_batch */
@@ -123,6 +124,12 @@ static inline size_t corrector_set_length(size_t n)
     return 512 * (1 + (n + 62) / 63);
 }
 
+/* The length of an index of a set with this k, in bytes. */
+static inline size_t corrector_index_length(size_t k)
+{
+    return 512 * ((((size_t)1 << (k < 6 ? 2 * k : 12)) + 63) / 63);
+}
+
 /* Whether a set is right, with its k and its number of keys n. Returns 0, or refusal 7 to 10. */
 uint64_t corrector_open(
     const uint8_t *set, size_t set_length,
@@ -134,10 +141,13 @@ uint64_t corrector_open(
  * Afterwards: accepted, the output has the result in its first CORRECTOR_WRITTEN bytes and zeros behind it, and work is all zero;
  * refused with 11, both are all zero; refused otherwise, neither has changed.
  *
- * The set is opened at each call: many reads against one set are better sent as a batch.
+ * The set is opened at each call: many reads against one set are better sent as a batch. An index of the set, made by corrector_make_index,
+ * saves a call the walk over all keys by which it would fill its own table; it changes no result and no number. An index of length 0 counts
+ * as not offered.
  */
 uint64_t corrector_read(
     const uint8_t *set, size_t set_length,
+    const uint8_t *index, size_t index_length,
     const uint8_t *job, size_t job_length,
     const uint8_t *read, size_t read_length,
     uint8_t *output, size_t output_length,
@@ -147,6 +157,7 @@ uint64_t corrector_read(
 /* The same for a batch: lines each ended by byte 10, corrected in turn; so is the output. The numbers are sums over the lines. */
 uint64_t corrector_batch(
     const uint8_t *set, size_t set_length,
+    const uint8_t *index, size_t index_length,
     const uint8_t *job, size_t job_length,
     const uint8_t *batch, size_t batch_length,
     uint8_t *output, size_t output_length,
@@ -174,6 +185,18 @@ uint64_t corrector_count_solid(
 uint64_t corrector_make_set(
     const uint8_t *text, size_t text_length,
     uint64_t k, uint64_t least,
+    uint8_t *blocks, size_t blocks_length,
+    uint64_t *answer, size_t answer_length);
+
+/*
+ * Makes the index of a set by first letters: entry v, from 0 to 4^m, is the number of keys whose first m letters have a code below v, m being
+ * the smaller of 6 and k. It is blocks as a set's are, numbered from 0, with the entries from block 0 on.
+ *
+ * Returns 0, or refusal 7 to 10 of the set, then 14. Accepted, the index stands in the first CORRECTOR_LENGTH bytes of `blocks`, with zeros
+ * behind it; refused, `blocks` has not changed. corrector_index_length says how many bytes it takes.
+ */
+uint64_t corrector_make_index(
+    const uint8_t *set, size_t set_length,
     uint8_t *blocks, size_t blocks_length,
     uint64_t *answer, size_t answer_length);
 

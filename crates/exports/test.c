@@ -45,7 +45,11 @@ static void sample_set(uint8_t *set)
 /* ---- one call on buffers of its own, filled before it */
 
 typedef uint64_t call(
-    const uint8_t *, size_t, const uint8_t *, size_t, const uint8_t *, size_t, uint8_t *, size_t, uint8_t *, size_t, uint64_t *, size_t);
+    const uint8_t *, size_t, const uint8_t *, size_t, const uint8_t *, size_t, const uint8_t *, size_t, uint8_t *, size_t, uint8_t *, size_t,
+    uint64_t *, size_t);
+
+/* No index is offered: its length is 0, and the pointer may be any. */
+#define NO_INDEX (const uint8_t *)"", 0
 
 /* A job and its length in bytes: of one entry, of a text, of an array. */
 #define ENTRY(method, confirm) (const uint8_t[]){method, confirm}, 2
@@ -59,13 +63,20 @@ struct done {
     uint8_t work[WORK];
 };
 
-static struct done run(call *entry, const uint8_t *set, const uint8_t *job, size_t job_length, const char *input, size_t room)
+static struct done run_indexed(
+    call *entry, const uint8_t *set, const uint8_t *index, size_t index_length, const uint8_t *job, size_t job_length, const char *input, size_t room)
 {
     struct done done;
     memset(&done, FILL, sizeof done);
     done.number = entry(
-        set, SET, job, job_length, (const uint8_t *)input, strlen(input), done.output, room, done.work, WORK, done.answer, CORRECTOR_CALL_NUMBERS);
+        set, SET, index, index_length, job, job_length, (const uint8_t *)input, strlen(input), done.output, room, done.work, WORK, done.answer,
+        CORRECTOR_CALL_NUMBERS);
     return done;
+}
+
+static struct done run(call *entry, const uint8_t *set, const uint8_t *job, size_t job_length, const char *input, size_t room)
+{
+    return run_indexed(entry, set, NO_INDEX, job, job_length, input, room);
 }
 
 static int all(const uint8_t *bytes, size_t length, uint8_t byte)
@@ -156,7 +167,7 @@ static int yields(const uint8_t *set, size_t mended, size_t attempts, uint64_t y
         memcpy(batch + length, line, strlen(line));
         length += strlen(line);
     }
-    return corrector_batch(set, SET, JOB("\1\1"), batch, length, output, sizeof output, work, sizeof work, answer, 8) == 0
+    return corrector_batch(set, SET, NO_INDEX, JOB("\1\1"), batch, length, output, sizeof output, work, sizeof work, answer, 8) == 0
         && answer[CORRECTOR_ATTEMPTS] == attempts && answer[CORRECTOR_ACCEPTED] == mended && answer[CORRECTOR_YIELD] == yield;
 }
 
@@ -238,7 +249,7 @@ static uint64_t lines(const uint8_t *set, size_t count)
 {
     uint8_t batch[CORRECTOR_MAX_LINES + 1], output[sizeof batch], work[2 * sizeof batch];
     memset(batch, '\n', sizeof batch);
-    return corrector_batch(set, SET, ENTRY(CORRECTOR_ONE, 1), batch, count, output, sizeof output, work, sizeof work, (uint64_t[]){0}, 0);
+    return corrector_batch(set, SET, NO_INDEX, ENTRY(CORRECTOR_ONE, 1), batch, count, output, sizeof output, work, sizeof work, (uint64_t[]){0}, 0);
 }
 
 static void test_lines(const uint8_t *set)
@@ -261,7 +272,7 @@ static int set_refused(const uint8_t *set, size_t length, uint64_t number, uint6
     uint64_t opened[CORRECTOR_OPEN_NUMBERS] = {KEPT, KEPT, KEPT, KEPT};
     memset(&done, FILL, sizeof done);
     done.number = corrector_read(
-        set, length, ENTRY(CORRECTOR_ONE, 1), (const uint8_t *)"AAC", 3, done.output, OUTPUT, done.work, WORK, done.answer, CORRECTOR_CALL_NUMBERS);
+        set, length, NO_INDEX, ENTRY(CORRECTOR_ONE, 1), (const uint8_t *)"AAC", 3, done.output, OUTPUT, done.work, WORK, done.answer, CORRECTOR_CALL_NUMBERS);
     return refuses(&done, OUTPUT, number, place) && corrector_open(set, length, opened, CORRECTOR_OPEN_NUMBERS) == number
         && opened[CORRECTOR_NUMBER] == number && opened[CORRECTOR_PLACE] == place && opened[CORRECTOR_K] == 0 && opened[CORRECTOR_N] == 0
         && not_counted(set, length, (const uint8_t *)"AAC", 3, number, place);
@@ -317,7 +328,7 @@ static int short_answers(call *entry, const uint8_t *set, uint8_t confirm, const
         memset(output, FILL, OUTPUT);
         memset(work, FILL, WORK);
         uint64_t number = entry(
-            set, SET, ENTRY(CORRECTOR_ONE, confirm), (const uint8_t *)input, strlen(input), output, OUTPUT, work, WORK, answer, length);
+            set, SET, NO_INDEX, ENTRY(CORRECTOR_ONE, confirm), (const uint8_t *)input, strlen(input), output, OUTPUT, work, WORK, answer, length);
         if (number != whole.number || !starts_alike(answer, length, whole.answer, CORRECTOR_CALL_NUMBERS, 12)
             || memcmp(output, whole.output, OUTPUT) != 0 || memcmp(work, whole.work, WORK) != 0)
             return 0;
@@ -429,6 +440,99 @@ static void test_make(const uint8_t *set)
     check("answers of make_set", short_made(counts_text, made) && short_made("CCG,4\nACT,9\n", falls));
 }
 
+/* ---- the sample set's index: m is 3, so that entry v is the number of keys below v */
+
+static void sample_index(uint8_t *index)
+{
+    static const uint64_t keys[] = {6, 23, 51, 58, 60};
+    memset(index, 0, SET);
+    for (uint64_t v = 0; v <= 64; v++) {
+        uint64_t entry = 0;
+        for (size_t i = 0; i < 5; i++)
+            entry += keys[i] < v;
+        put_word(index, v + v / 63, entry);
+    }
+    put_word(index, 63, 113);
+    put_word(index, 127, 12);
+}
+
+static int indexed(const uint8_t *set, size_t set_length, size_t room, const uint64_t *numbers, const uint8_t *index)
+{
+    uint8_t blocks[ROOM];
+    uint64_t answer[CORRECTOR_MADE_NUMBERS];
+    memset(blocks, FILL, ROOM);
+    uint64_t number = corrector_make_index(set, set_length, blocks, room, answer, CORRECTOR_MADE_NUMBERS);
+    size_t length = (size_t)answer[CORRECTOR_LENGTH];
+    return number == numbers[0] && memcmp(answer, numbers, sizeof answer) == 0 && memcmp(blocks, index, length) == 0
+        && all(blocks + length, room - length, number == 0 ? 0 : FILL) && all(blocks + room, ROOM - room, FILL);
+}
+
+static void test_index(const uint8_t *set)
+{
+    static const uint64_t made[] = {0, 0, SET}, one[] = {0, 0, BLOCK}, cut[] = {7, 0, 0}, damaged[] = {8, 1, 0}, header[] = {9, 0, 0}, key[] = {10, 1, 0},
+        too_short[] = {14, 0, 0};
+    uint8_t index[SET], wrong[SET], none[BLOCK] = {1}, zeros[BLOCK] = {0};
+    sample_index(index);
+    check("an index", indexed(set, SET, SET, made, index) && indexed(set, SET, ROOM, made, index) && corrector_index_length(3) == SET);
+    put_word(none, 63, 2);
+    put_word(zeros, 63, 1);
+    check("an index of no key", indexed(none, BLOCK, BLOCK, one, zeros) && corrector_index_length(1) == BLOCK);
+    check("lengths of an index", corrector_index_length(5) == 17 * BLOCK && corrector_index_length(7) == 66 * BLOCK && corrector_index_length(31) == 66 * BLOCK);
+    check("14 for an index", indexed(set, SET, SET - 1, too_short, index) && indexed(set, SET, 0, too_short, index));
+    check("7 before 14", indexed(set, SET - 1, 0, cut, index));
+    memcpy(wrong, set, SET);
+    wrong[SET - 1]++;
+    check("8 before 14", indexed(wrong, SET, 0, damaged, index) && indexed(wrong, SET, SET, damaged, index));
+    memcpy(wrong, set, SET);
+    put_word(wrong, 0, 2);
+    put_word(wrong, 63, 8);
+    check("9 before 14", indexed(wrong, SET, 0, header, index));
+    memcpy(wrong, set, SET);
+    put_word(wrong, 65, 6);
+    put_word(wrong, 127, 183);
+    check("10 before 14", indexed(wrong, SET, 0, key, index));
+}
+
+/* With its index a call answers, reports and leaves what it does without. */
+static int alike(call *entry, const uint8_t *set, const uint8_t *index, const char *input, const struct sample *sample)
+{
+    struct done with = run_indexed(entry, set, index, SET, ENTRY(sample->method, sample->confirm), input, OUTPUT);
+    struct done without = run(entry, set, ENTRY(sample->method, sample->confirm), input, OUTPUT);
+    return memcmp(&with, &without, sizeof with) == 0;
+}
+
+static int index_wrong(const uint8_t *set, const uint8_t *index, size_t length, size_t room, uint64_t number, uint64_t place)
+{
+    struct done read = run_indexed(corrector_read, set, index, length, ENTRY(CORRECTOR_ONE, 1), "AACC", room);
+    struct done batch = run_indexed(corrector_batch, set, index, length, ENTRY(CORRECTOR_ONE, 1), "AACC\n", room);
+    return refuses(&read, room, number, place) && refuses(&batch, room, number, place);
+}
+
+static void test_offered(const uint8_t *set)
+{
+    uint8_t index[SET], wrong[SET];
+    sample_index(index);
+    int same = 1;
+    for (size_t i = 0; i < SAMPLES; i++)
+        same = same && alike(corrector_read, set, index, samples[i].read, &samples[i])
+            && alike(corrector_batch, set, index, "AACGCCG\nAACGC\n\n", &samples[i]);
+    check("an index offered", same);
+    check("15, cut", index_wrong(set, index, SET - 1, OUTPUT, CORRECTOR_INDEX, 0) && index_wrong(set, index, BLOCK, OUTPUT, CORRECTOR_INDEX, 0));
+    int all_told = 1;
+    for (size_t at = 0; at < SET; at++) {
+        memcpy(wrong, index, SET);
+        wrong[at]++;
+        all_told = all_told && index_wrong(set, wrong, SET, OUTPUT, CORRECTOR_INDEX, 0);
+    }
+    check("15, any byte", all_told);
+    check("15 before 11", index_wrong(set, wrong, SET, 4, CORRECTOR_INDEX, 0));
+    check("11 with an index", index_wrong(set, index, SET, 4, CORRECTOR_NO_ROOM, 0));
+    memcpy(wrong, set, SET);
+    put_word(wrong, 65, 6);
+    put_word(wrong, 127, 183);
+    check("10 before 15", index_wrong(wrong, set, SET, OUTPUT, CORRECTOR_SET_KEY, 1));
+}
+
 /* ---- threads: the set is shared, the buffers are each thread's own, and its stack is what the header asks for */
 
 static struct done alone[SAMPLES];
@@ -479,6 +583,8 @@ int main(void)
     test_answers(set);
     test_count(set);
     test_make(set);
+    test_index(set);
+    test_offered(set);
     test_threads(set);
     printf("%d passed, %d failed\n", passed, failed);
     return failed != 0;

@@ -3,6 +3,7 @@
 pub mod against;
 pub mod aligned;
 pub mod chart;
+pub mod index;
 pub mod inputs;
 pub mod make;
 pub mod measure;

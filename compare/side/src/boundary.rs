@@ -19,11 +19,16 @@ impl Library for Linked {
             Call::Read => corrector::correct_read,
             Call::Batch => corrector::correct_batch,
         };
-        call(set, corrector::Job::from_bytes(&job.entries), &job.input, output, work).map(report).map_err(refusal)
+        let index = (!job.index.is_empty()).then_some(&job.index[..]);
+        call(set, index, corrector::Job::from_bytes(&job.entries), &job.input, output, work).map(report).map_err(refusal)
     }
 
     fn make_set(&self, text: &[u8], k: u64, least: u64, blocks: &mut [u8]) -> Result<u64, Refusal> {
         corrector::make_set(text, k, least, blocks).map(|length| length as u64).map_err(refusal)
+    }
+
+    fn make_index(&self, set: &[u8], blocks: &mut [u8]) -> Result<u64, Refusal> {
+        corrector::make_index(set, blocks).map(|length| length as u64).map_err(refusal)
     }
 
     fn count_solid(&self, set: &[u8], read: &[u8]) -> Result<(u64, u64), Refusal> {

@@ -6,6 +6,7 @@ use crate::rng::Rng;
 use crate::set_file;
 
 pub mod damage;
+pub mod index;
 pub mod make;
 pub mod reads;
 pub mod sets;
@@ -43,12 +44,16 @@ pub enum Kind {
     Damaged,
     /// Every bit of a small set turned, with the check words as they were and with right ones; a unit for each odd k.
     EveryBit,
+    /// Indexes that are offered: the set's own, that one damaged, others; refusal 15 among the others.
+    Index,
+    /// Bits of an index turned, with the check words as they were and with right ones; a unit for each odd k.
+    IndexBits,
     /// A set of a few hundred thousand keys.
     Large,
 }
 
 /// The kinds and how many units of each a run has. The exhaustive ones have as many as there are sets; the others are repeated by --rounds.
-const SCHEDULE: [(Kind, u64, bool); 15] = [
+const SCHEDULE: [(Kind, u64, bool); 17] = [
     (Kind::AllOfOne, 4, false),
     (Kind::AllOfThree, 529, false),
     (Kind::AllReads, 400, true),
@@ -63,6 +68,8 @@ const SCHEDULE: [(Kind, u64, bool); 15] = [
     (Kind::Limits, 1600, true),
     (Kind::Damaged, 10000, true),
     (Kind::EveryBit, 16, false),
+    (Kind::Index, 1600, true),
+    (Kind::IndexBits, 16, false),
     (Kind::Large, 2, true),
 ];
 
@@ -131,6 +138,8 @@ pub fn run(unit: &Unit, seed: u64, visit: &mut Visit) {
         Kind::Limits => limits(rng, unit.number, visit),
         Kind::Damaged => damaged(rng, visit),
         Kind::EveryBit => damage::every_bit(rng, 2 * unit.number as u8 + 1, &mut |set| visit(&Site::new(set), None)),
+        Kind::Index => index::offered(rng, visit),
+        Kind::IndexBits => index::bits(rng, 2 * unit.number as u8 + 1, visit),
         Kind::Large => large(rng, visit),
     }
 }
@@ -142,7 +151,7 @@ pub fn job(call: Call, entries: &[u8], input: &[u8]) -> Job {
 }
 
 fn job_with_room(call: Call, entries: &[u8], input: &[u8], output: usize) -> Job {
-    Job { call, entries: entries.to_vec(), input: input.to_vec(), output, work: 2 * output.max(input.len()) }
+    Job { call, index: Vec::new(), entries: entries.to_vec(), input: input.to_vec(), output, work: 2 * output.max(input.len()) }
 }
 
 /// As many entries, each with a method and a confirm of its own, mostly up to `confirm`.

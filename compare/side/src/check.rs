@@ -7,6 +7,7 @@ use crate::referee::correctors::{Method, ALL_BY, ALL_EVENTS, BY, METHODS};
 use crate::referee::driver::Pass;
 use crate::referee::letters::code;
 use crate::referee::set::{open, Refusal, Set};
+use crate::set_file::BLOCK;
 use std::fmt::Debug;
 
 /// What every lent byte holds before a call.
@@ -25,6 +26,11 @@ impl Site {
         let keys = opened.as_ref().ok().map(|set| Keys::new(set.k as u8, &set.keys));
         Site { bytes, opened, keys }
     }
+
+    /// Its index; of a set that is refused, which is told before 15, a block that is none.
+    pub fn index(&self) -> &[u8] {
+        self.opened.as_ref().map_or(&[LENT; BLOCK], |set| set.index())
+    }
 }
 
 /// What agreed.
@@ -36,7 +42,9 @@ pub struct Tally {
     pub other: u64,
     pub other_accepted: u64,
     pub calls: u64,
-    pub refusals: [u64; 12],
+    /// Calls that were made once more with an index.
+    pub indexed: u64,
+    pub refusals: [u64; 16],
     pub attempts: u64,
     pub accepted: u64,
     pub lookups: u64,
@@ -57,7 +65,8 @@ impl Default for Tally {
             other: 0,
             other_accepted: 0,
             calls: 0,
-            refusals: [0; 12],
+            indexed: 0,
+            refusals: [0; 16],
             attempts: 0,
             accepted: 0,
             lookups: 0,
@@ -83,6 +92,7 @@ impl Tally {
         self.other += other.other;
         self.other_accepted += other.other_accepted;
         self.calls += other.calls;
+        self.indexed += other.indexed;
         self.attempts += other.attempts;
         self.accepted += other.accepted;
         self.lookups += other.lookups;
@@ -101,6 +111,7 @@ impl Tally {
             "{} passes in {} calls: {} attempts, {} corrections, {} lookups",
             self.passes, self.calls, self.attempts, self.accepted, self.lookups
         );
+        println!("{} of the calls made once more with an index, alike", self.indexed);
         println!("besides, of reads with other bytes and without natir/br: {} passes, {} corrections", self.other, self.other_accepted);
         for (method, by) in METHODS.iter().zip(self.by) {
             println!("corrections by {method:?}: {}", counts(ALL_BY.iter().map(|by| format!("{by:?}")), &by));
@@ -216,8 +227,8 @@ pub fn check_open(library: &dyn Library, site: &Site, tally: &mut Tally) -> Resu
     Ok(())
 }
 
-/// A call on all sides: every byte and count of every pass, its ceilings, the answer, and every lent byte afterwards. natir/br has no part where
-/// a read holds other bytes than the ten letters.
+/// A call on all sides: every byte and count of every pass, its ceilings, the answer, and every lent byte afterwards; without an index and with
+/// the set's, unless the job offers one. natir/br has no part where a read holds other bytes than the ten letters.
 pub fn check_call(library: &dyn Library, site: &Site, job: &Job, buffers: &mut Buffers, tally: &mut Tally) -> Result<(), Disagreement> {
     let outcome = calls::call(&site.opened, job);
     if let (Some(keys), Ok(set)) = (&site.keys, &site.opened) {
@@ -234,22 +245,15 @@ pub fn check_call(library: &dyn Library, site: &Site, job: &Job, buffers: &mut B
     if job.call == Call::Read && job.entries.first() == Some(&Method::One.byte()) {
         same("the count of solid k-mers", calls::count_solid(&site.opened, &job.input), library.count_solid(&site.bytes, &job.input))?;
     }
-    buffers.output.clear();
-    buffers.output.resize(job.output, LENT);
-    buffers.work.clear();
-    buffers.work.resize(job.work, LENT);
-    let answer = library.correct(&site.bytes, job, &mut buffers.output, &mut buffers.work);
-    same("the answer", outcome.answer, answer)?;
-    let rest = match answer {
-        Err(refusal) if refusal.number != 11 => LENT,
-        _ => 0,
-    };
-    let (written, spare) = buffers.output.split_at(outcome.bytes.len());
-    same_bytes("the output", &outcome.bytes, written)?;
-    same_everywhere("the rest of the output", rest, spare)?;
-    same_everywhere("the work buffer", rest, &buffers.work)?;
+    check_answer(library, site, job, &outcome, buffers)?;
+    if job.index.is_empty() {
+        let indexed = Job { index: site.index().to_vec(), ..job.clone() };
+        check_answer(library, site, &indexed, &outcome, buffers)
+            .map_err(|found| Disagreement { of: format!("{}, with an index", found.of), ..found })?;
+        tally.indexed += 1;
+    }
     tally.calls += 1;
-    match answer {
+    match outcome.answer {
         Err(refusal) => tally.refusals[refusal.number as usize] += 1,
         Ok(_) => {
             tally.several += several_confirms(&calls::entries(job)) as u64;
@@ -257,6 +261,24 @@ pub fn check_call(library: &dyn Library, site: &Site, job: &Job, buffers: &mut B
         }
     }
     Ok(())
+}
+
+/// The library's call: its answer, and every lent byte afterwards.
+fn check_answer(library: &dyn Library, site: &Site, job: &Job, expected: &Outcome, buffers: &mut Buffers) -> Result<(), Disagreement> {
+    buffers.output.clear();
+    buffers.output.resize(job.output, LENT);
+    buffers.work.clear();
+    buffers.work.resize(job.work, LENT);
+    let answer = library.correct(&site.bytes, job, &mut buffers.output, &mut buffers.work);
+    same("the answer", expected.answer, answer)?;
+    let rest = match answer {
+        Err(refusal) if refusal.number != 11 => LENT,
+        _ => 0,
+    };
+    let (written, spare) = buffers.output.split_at(expected.bytes.len());
+    same_bytes("the output", &expected.bytes, written)?;
+    same_everywhere("the rest of the output", rest, spare)?;
+    same_everywhere("the work buffer", rest, &buffers.work)
 }
 
 /// Demand 3, pass by pass.

@@ -1,5 +1,6 @@
 //! The corrector as the comparison sees it: the linked library, or the referee in its place.
 use crate::referee::calls::{call, count_solid, Answer, Call, Job};
+use crate::referee::index::make_index;
 use crate::referee::make::make_set;
 use crate::referee::set::{open, Refusal};
 
@@ -9,11 +10,14 @@ pub trait Library: Sync {
     /// k and n, or refusal 7 to 10.
     fn open(&self, set: &[u8]) -> Result<(u64, u64), Refusal>;
 
-    /// The call that the job names, over lent buffers of the lengths that it gives.
+    /// The call that the job names, with the index that it offers, over lent buffers of the lengths that it gives.
     fn correct(&self, set: &[u8], job: &Job, output: &mut [u8], work: &mut [u8]) -> Answer;
 
     /// The set file made from k-mer counts as text: the length of the blocks in bytes, or a refusal.
     fn make_set(&self, text: &[u8], k: u64, least: u64, blocks: &mut [u8]) -> Result<u64, Refusal>;
+
+    /// The index of a set: the length of its blocks in bytes, or refusal 7 to 10 or 14.
+    fn make_index(&self, set: &[u8], blocks: &mut [u8]) -> Result<u64, Refusal>;
 
     /// The k-mers of a read and the solid ones among them, or refusal 1 or 7 to 10: the plain loop of the benchmark.
     fn count_solid(&self, set: &[u8], read: &[u8]) -> Result<(u64, u64), Refusal>;
@@ -45,15 +49,23 @@ impl Library for StandIn {
     }
 
     fn make_set(&self, text: &[u8], k: u64, least: u64, blocks: &mut [u8]) -> Result<u64, Refusal> {
-        let made = make_set(text, k, least, blocks.len())?;
-        blocks.fill(0);
-        blocks[..made.len()].copy_from_slice(&made);
-        Ok(made.len() as u64)
+        Ok(lay(&make_set(text, k, least, blocks.len())?, blocks))
+    }
+
+    fn make_index(&self, set: &[u8], blocks: &mut [u8]) -> Result<u64, Refusal> {
+        Ok(lay(make_index(&open(set), blocks.len())?, blocks))
     }
 
     fn count_solid(&self, set: &[u8], read: &[u8]) -> Result<(u64, u64), Refusal> {
         count_solid(&open(set), read)
     }
+}
+
+/// Made blocks, and zeros behind them.
+fn lay(made: &[u8], blocks: &mut [u8]) -> u64 {
+    blocks.fill(0);
+    blocks[..made.len()].copy_from_slice(made);
+    made.len() as u64
 }
 
 /// The library that this build was made with.

@@ -1,5 +1,5 @@
 //! The fixed list of cases, for a replay with no Rust at hand. Its format is in compare/README.md.
-use crate::cases::{any_entries, batch_of, damage, job, reads, sets};
+use crate::cases::{any_entries, batch_of, damage, index, job, reads, sets};
 use crate::check::{check_call, tells_confirms_apart, Buffers, Site, Tally, LENT};
 use crate::library::{Library, StandIn};
 use crate::referee::calls::{call, entries, Answer, Call, Job, Report};
@@ -8,6 +8,7 @@ use crate::referee::driver::Pass;
 use crate::referee::set::Refusal;
 use crate::rng::Rng;
 use crate::samples::SAMPLES;
+use crate::set_file::BLOCK;
 
 /// The seed of the list that is kept.
 pub const SEED: u64 = 1;
@@ -17,6 +18,7 @@ const SET: u32 = 1;
 const OPEN: u32 = 2;
 const READ: u32 = 3;
 const BATCH: u32 = 4;
+const INDEX: u32 = 5;
 
 /// Words of a record, and of the list's head.
 const RECORD: usize = 16;
@@ -24,6 +26,8 @@ const HEAD: usize = 8;
 
 /// What a replay has room for.
 const MOST_SET: usize = 8192;
+/// The blocks of 4^6 + 1 entries, and one more.
+const MOST_INDEX: usize = 67 * BLOCK;
 const MOST_ENTRIES: usize = 20;
 const MOST_INPUT: usize = 2048;
 const MOST_OUTPUT: usize = 4096;
@@ -44,6 +48,7 @@ const UNKNOWN: u32 = 10;
 struct List {
     bytes: Vec<u8>,
     set: Vec<u8>,
+    index: Vec<u8>,
     cases: u32,
     tally: Tally,
     buffers: Buffers,
@@ -69,11 +74,25 @@ impl List {
         if self.set == site.bytes {
             return;
         }
-        let mut words = [0; RECORD];
-        (words[0], words[1]) = (SET, site.bytes.len() as u32);
-        self.record(words);
-        self.bytes.extend_from_slice(&site.bytes);
+        self.lend(SET, &site.bytes);
         self.set = site.bytes.clone();
+        self.index.clear();
+    }
+
+    /// The index that the cases that follow offer, until the next set.
+    fn use_index(&mut self, index: &[u8]) {
+        if self.index != index {
+            self.lend(INDEX, index);
+            self.index = index.to_vec();
+        }
+    }
+
+    /// A record of bytes for the cases that follow.
+    fn lend(&mut self, kind: u32, bytes: &[u8]) {
+        let mut words = [0; RECORD];
+        (words[0], words[1]) = (kind, bytes.len() as u32);
+        self.record(words);
+        self.bytes.extend_from_slice(bytes);
     }
 
     fn open(&mut self, site: &Site) {
@@ -90,10 +109,11 @@ impl List {
 
     /// A call, after natir/br and the referee have agreed on it; on reads with other bytes than the ten letters it is the referee's alone.
     fn call(&mut self, site: &Site, job: &Job) {
-        assert!(site.bytes.len() <= MOST_SET && job.entries.len() <= MOST_ENTRIES);
+        assert!(site.bytes.len() <= MOST_SET && job.index.len() <= MOST_INDEX && job.entries.len() <= MOST_ENTRIES);
         assert!(job.input.len() <= MOST_INPUT && job.output <= MOST_OUTPUT && job.work <= MOST_WORK);
         check_call(&StandIn, site, job, &mut self.buffers, &mut self.tally).expect("all sides agree");
         self.use_set(site);
+        self.use_index(&job.index);
         let outcome = call(&site.opened, job);
         let kind = if job.call == Call::Read { READ } else { BATCH };
         let lengths = [job.entries.len(), job.input.len(), job.output, job.work, outcome.bytes.len()].map(|length| length as u32);
@@ -127,8 +147,8 @@ impl List {
     fn finish(mut self) -> Vec<u8> {
         self.record([END; RECORD]);
         let mut list = Vec::with_capacity(self.bytes.len() + 4 * HEAD);
-        let most = [MOST_SET, MOST_INPUT, MOST_OUTPUT, MOST_WORK].map(|length| length as u32);
-        push(&mut list, &[1, self.cases, most[0], most[1], most[2], most[3], LENT as u32, 0]);
+        let [set, input, output, work, index] = [MOST_SET, MOST_INPUT, MOST_OUTPUT, MOST_WORK, MOST_INDEX].map(|length| length as u32);
+        push(&mut list, &[1, self.cases, set, input, output, work, LENT as u32, index]);
         list.extend_from_slice(&self.bytes);
         list
     }
@@ -327,6 +347,89 @@ fn refused(list: &mut List, rng: &mut Rng) {
     }
 }
 
+/// A read or a batch of one.
+fn any_call(rng: &mut Rng, site: &Site, genome: &[u8]) -> Job {
+    let read = if genome.is_empty() { reads::in_set(rng, site) } else { reads::spaced(rng, genome, 20) };
+    let count = *rng.pick(&[1, 1, 2]);
+    let entries = any_entries(rng, count, 4);
+    if rng.percent(40) {
+        job(Call::Batch, &entries, &batch_of([&read]))
+    } else {
+        job(Call::Read, &entries, &read)
+    }
+}
+
+/// A call that corrects something, if one of a hundred does; now and then with an output that is too short for it.
+fn mending_call(rng: &mut Rng, site: &Site, genome: &[u8]) -> Job {
+    let mut job = any_call(rng, site, genome);
+    for _ in 0..100 {
+        if call(&site.opened, &job).answer.is_ok_and(|report| report.accepted > 0) {
+            break;
+        }
+        job = any_call(rng, site, genome);
+    }
+    if rng.percent(20) {
+        job.output = job.input.len() / 2;
+    }
+    job
+}
+
+/// Calls that offer the set's own index, and one for each of the others.
+fn offer(list: &mut List, rng: &mut Rng, site: &Site, genome: &[u8], own: usize, others: &[Vec<u8>]) {
+    let own = std::iter::repeat_n(site.index(), own);
+    for index in own.chain(others.iter().map(Vec::as_slice)) {
+        let job = mending_call(rng, site, genome);
+        list.call(site, &Job { index: index.to_vec(), ..job });
+    }
+}
+
+/// Indexes offered at m of 1, 3 and 5: the set's own, that one damaged, and others.
+fn short_indexes(list: &mut List, rng: &mut Rng) {
+    for (k, most) in [(1, 50), (3, 30), (5, 3)] {
+        let site = sets::dense(rng, k);
+        let mut others = index::all(rng, &site).split_off(1);
+        others.retain(|index| index.len() <= site.index().len() + BLOCK);
+        while others.len() > most {
+            others.remove(rng.below(others.len()));
+        }
+        offer(list, rng, &site, &[], 8, &others);
+    }
+}
+
+/// The same at m = 6.
+fn long_indexes(list: &mut List, rng: &mut Rng) {
+    for (k, most) in [(7, 0), (21, 1), (31, 0)] {
+        let (site, genome) = small_genome(rng, k);
+        let others = index::words_off(rng, &site);
+        offer(list, rng, &site, &genome, 16, &others[..most]);
+    }
+}
+
+/// An index that is not the set's, with inputs and sets that are refused before it.
+fn late_indexes(list: &mut List, rng: &mut Rng) {
+    let site = sets::dense(rng, 3);
+    let other = sets::dense(rng, 3);
+    for _ in 0..40 {
+        damage::input(rng, b"ACGTTGCA", false, &mut |job| {
+            if job.input.len() <= MOST_INPUT && job.output <= MOST_OUTPUT && job.work <= MOST_WORK {
+                list.call(&site, &Job { index: other.index().to_vec(), ..job.clone() });
+            }
+        });
+    }
+    let index = other.index().to_vec();
+    list.call(&site, &Job { index: index.clone(), ..job(Call::Batch, &[1, 1], b"ACGT") });
+    let mut turned = site.bytes.clone();
+    turned[8] ^= 1;
+    list.call(&Site::new(turned), &Job { index, ..job(Call::Read, &[1, 1], b"ACGT") });
+    for _ in 0..16 {
+        let damaged = Site::new(damage::set(rng));
+        if damaged.bytes.len() <= 1024 {
+            let call = any_call(rng, &damaged, b"ACGTTGCA");
+            list.call(&damaged, &Job { index: other.index().to_vec(), ..call });
+        }
+    }
+}
+
 pub fn write(file: &str, seed: u64) -> Result<(), String> {
     let mut list = List::default();
     let rng = &mut Rng::of_unit(seed, u64::MAX);
@@ -337,6 +440,9 @@ pub fn write(file: &str, seed: u64) -> Result<(), String> {
     rare(&mut list, rng);
     own_confirms(&mut list, rng);
     refused(&mut list, rng);
+    short_indexes(&mut list, rng);
+    long_indexes(&mut list, rng);
+    late_indexes(&mut list, rng);
     list.tally.print();
     println!("{} cases, seed {seed}", list.cases);
     let bytes = list.finish();
@@ -366,18 +472,22 @@ pub fn replay(file: &str, library: &dyn Library) -> Result<bool, String> {
     let bytes = std::fs::read(file).map_err(|error| format!("{file}: {error}"))?;
     let mut reader = Reader(&bytes);
     let head: [u32; HEAD] = reader.words()?;
-    let mut set: &[u8] = &[];
+    let (mut set, mut index): (&[u8], &[u8]) = (&[], &[]);
     let (mut passed, mut failed) = (0, 0);
     loop {
         let record: [u32; RECORD] = reader.words()?;
         let right = match record[0] {
             END => break,
             SET => {
-                set = reader.take(record[1] as usize)?;
+                (set, index) = (reader.take(record[1] as usize)?, &[]);
+                continue;
+            }
+            INDEX => {
+                index = reader.take(record[1] as usize)?;
                 continue;
             }
             OPEN => library.open(set) == expected_open(&record),
-            READ | BATCH => replay_call(&mut reader, &record, set, head[6] as u8, library)?,
+            READ | BATCH => replay_call(&mut reader, &record, (set, index), head[6] as u8, library)?,
             kind => return Err(format!("no record of kind {kind}")),
         };
         passed += right as u32;
@@ -397,10 +507,11 @@ fn expected_open(record: &[u32; RECORD]) -> Result<(u64, u64), Refusal> {
     }
 }
 
-fn replay_call(reader: &mut Reader, record: &[u32; RECORD], set: &[u8], lent: u8, library: &dyn Library) -> Result<bool, String> {
+fn replay_call(reader: &mut Reader, record: &[u32; RECORD], (set, index): (&[u8], &[u8]), lent: u8, library: &dyn Library) -> Result<bool, String> {
     let [entries, input, output, work, result] = [2, 3, 4, 5, 6].map(|at| record[at] as usize);
     let job = Job {
         call: if record[0] == READ { Call::Read } else { Call::Batch },
+        index: index.to_vec(),
         entries: reader.take(entries)?.to_vec(),
         input: reader.take(input)?.to_vec(),
         output,
@@ -409,7 +520,7 @@ fn replay_call(reader: &mut Reader, record: &[u32; RECORD], set: &[u8], lent: u8
     let bytes = reader.take(result)?;
     let (mut output, mut work) = (vec![lent; output], vec![lent; work]);
     let answer = library.correct(set, &job, &mut output, &mut work);
-    let rest = if matches!(record[8], 1..=10) { lent } else { 0 };
+    let rest = if matches!(record[8], 1..=10 | 15) { lent } else { 0 };
     let (written, spare) = output.split_at(result);
     Ok(answer == expected_answer(record) && written == bytes && spare.iter().chain(&work).all(|byte| *byte == rest))
 }

@@ -72,6 +72,9 @@ pub fn wrong(library: &dyn Library) -> Vec<String> {
     if !gives(library, &batch, b"AACTCCG\nAA\n", Some(1), Some(21)) {
         wrong.push("the printed batch differs".to_string());
     }
+    if !index_is_right(library) {
+        wrong.push("the index of the samples' set differs".to_string());
+    }
     let keys = Keys::new(K, &KEYS);
     for (read, result) in N_AS_G {
         if oracle::pass(&keys, One, 1, read.as_bytes()).bytes != result.as_bytes() {
@@ -79,6 +82,25 @@ pub fn wrong(library: &dyn Library) -> Vec<String> {
         }
     }
     wrong
+}
+
+/// Document 02, W7, at k = 3: entry v is the number of keys below v, up to 64, in two blocks with checks 113 and 12.
+fn index_is_right(library: &dyn Library) -> bool {
+    let mut blocks = [1; 1024];
+    let words: Vec<u64> = (0..63).map(below).chain([113, 5, 5]).chain([0; 61]).chain([12]).collect();
+    library.make_index(&set(), &mut blocks) == Ok(1024) && blocks[..] == words.iter().flat_map(|word| word.to_le_bytes()).collect::<Vec<_>>()
+}
+
+/// The number of keys below v.
+fn below(v: u64) -> u64 {
+    match v {
+        0..=6 => 0,
+        7..=23 => 1,
+        24..=51 => 2,
+        52..=58 => 3,
+        59..=60 => 4,
+        _ => 5,
+    }
 }
 
 fn gives(library: &dyn Library, job: &Job, result: &[u8], turns: Option<u64>, lookups: Option<u64>) -> bool {

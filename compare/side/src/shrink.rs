@@ -84,7 +84,7 @@ impl Failure {
         let first = job_now(self);
         if first.call == Call::Batch {
             for read in reads(&first) {
-                let single = job(Call::Read, &first.entries, read);
+                let single = Job { index: first.index.clone(), ..job(Call::Read, &first.entries, read) };
                 if self.try_with(library, None, Some(single)) {
                     break;
                 }
@@ -136,6 +136,14 @@ impl Failure {
         }
         if let Some(job) = &self.job {
             println!("  {} call, job {:?}, output {}, work {}", call_name(job.call), job.entries, job.output, job.work);
+            if !job.index.is_empty() {
+                let place = job.index.iter().zip(self.site.index()).position(|(offered, own)| offered != own);
+                println!(
+                    "  an index of {} bytes; the set's has {}; the first byte that is another: {place:?}",
+                    job.index.len(),
+                    self.site.index().len()
+                );
+            }
             println!("  input of {} bytes: {}", job.input.len(), show(&job.input[..job.input.len().min(4096)]));
         }
     }

@@ -46,7 +46,7 @@ pub fn word_at(set: &[u8], at: usize) -> u64
     flat_word(set, at)
 }
 
-fn block_word(set: &[u8], block: usize, i: usize) -> u64
+pub fn block_word(set: &[u8], block: usize, i: usize) -> u64
     requires { ⌜ (512 * (block + 1) ≤ length (now set)) × (i < 64) ⌝ }
     ensures { λ r. ⌜ r ≡ Rules.blockWord (now (set .entry)) block i ⌝ }
 {
@@ -71,7 +71,7 @@ pub fn key_at(set: &[u8], i: usize) -> u64
     word_at(set, 512 + 8 * (i + i / 63))
 }
 
-fn check_right(set: &[u8], block: usize) -> bool
+pub fn check_right(set: &[u8], block: usize) -> bool
     requires { ⌜ 512 * (block + 1) ≤ length (now set) ⌝ }
     ensures { λ r. ⌜ r ≡ Rules.checkRight (now (set .entry)) block ⌝ }
 {

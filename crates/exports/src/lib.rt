@@ -1,7 +1,7 @@
 // The calls of documents 01 and 02 for C and Rust: a slice passes as pointer and length, and what a call answers stands as numbers in a lent slice.
 // corrector.h says the same for a host.
 use blocks::Opened;
-use make_set::Made;
+use lay::Made;
 use refusal::Refusal;
 use report::Answer;
 use solid::Count;
@@ -9,15 +9,16 @@ ghost use mathlib.Core.Path.{_≡_};
 ghost use mathlib.Core.List.{[], _∷_};
 ghost use Prim.Native.Nat.{_<_};
 ghost use lib.ListN.{length};
-ghost use Rattle.rules.specs.Set.{setOf, opened};
+ghost use Rattle.rules.specs.Set.{setOf, offering, opened};
 ghost use Rattle.rules.specs.Job.{entriesOf, lines};
 ghost use Rattle.rules.specs.Calls.{correctRead, correctBatch};
 ghost use Rattle.rules.specs.Solid.{countSolid};
 ghost use Rattle.rules.specs.MakeSet.{makeSet};
+ghost use Rattle.rules.specs.Index.{makeIndex};
 ghost use Rattle.refusal.specs.Refusal.{refusalOf};
 ghost use Rattle.report.specs.Answer.{given, answerOf};
 ghost use Rattle.solid.specs.Solid.{countOf};
-ghost use Rattle.make_set.specs.Make.{outcomeOf};
+ghost use Rattle.lay.specs.Made.{outcomeOf};
 ghost use Rattle.exports.specs.Numbers.{numbersOf, refusedNumbers, openNumbers, OpenNumbers, solidNumbers, madeNumbers, Told, Exact, Ceiling, MadeExact};
 
 // The numbers of a call.
@@ -123,6 +124,7 @@ pub extern "C" fn corrector_open(set: &[u8], answer: &mut [u64]) -> u64
 #[no_mangle]
 pub extern "C" fn corrector_read(
     set: &[u8],
+    index: &[u8],
     job: &[u8],
     read: &[u8],
     output: &mut [u8],
@@ -130,18 +132,22 @@ pub extern "C" fn corrector_read(
     answer: &mut [u64],
 ) -> u64
     ensures exact { λ r. ⌜
-        Exact (correctRead (given (now (set .entry)) (now (job .entry)) (now (read .entry)) (now (output .entry)) (now (work .entry))))
+        Exact (correctRead (given (now (set .entry)) (now (index .entry)) (now (job .entry)) (now (read .entry)) (now (output .entry)) (now (work .entry))))
         (now (answer .entry)) r (now (output .exit)) (now (work .exit)) (now (answer .exit)) ⌝ }
     ensures ceiling { λ r. ⌜
-        Ceiling (setOf (now (set .entry))) (entriesOf (now (job .entry))) (now (read .entry) ∷ []) r (now (answer .exit)) ⌝ }
+        Ceiling (offering (now (index .entry)) (setOf (now (set .entry)))) (entriesOf (now (job .entry))) (now (read .entry) ∷ []) r (now (answer .exit)) ⌝ }
 {
-    tell_answer(job::correct_read(set, job, read, output, work), answer)
+    tell_answer(
+        job::correct_read(set, index, job, read, output, work),
+        answer,
+    )
 }
 
 // The batch call.
 #[no_mangle]
 pub extern "C" fn corrector_batch(
     set: &[u8],
+    index: &[u8],
     job: &[u8],
     batch: &[u8],
     output: &mut [u8],
@@ -149,12 +155,15 @@ pub extern "C" fn corrector_batch(
     answer: &mut [u64],
 ) -> u64
     ensures exact { λ r. ⌜
-        Exact (correctBatch (given (now (set .entry)) (now (job .entry)) (now (batch .entry)) (now (output .entry)) (now (work .entry))))
+        Exact (correctBatch (given (now (set .entry)) (now (index .entry)) (now (job .entry)) (now (batch .entry)) (now (output .entry)) (now (work .entry))))
         (now (answer .entry)) r (now (output .exit)) (now (work .exit)) (now (answer .exit)) ⌝ }
     ensures ceiling { λ r. ⌜
-        Ceiling (setOf (now (set .entry))) (entriesOf (now (job .entry))) (lines (now (batch .entry))) r (now (answer .exit)) ⌝ }
+        Ceiling (offering (now (index .entry)) (setOf (now (set .entry)))) (entriesOf (now (job .entry))) (lines (now (batch .entry))) r (now (answer .exit)) ⌝ }
 {
-    tell_answer(job::correct_batch(set, job, batch, output, work), answer)
+    tell_answer(
+        job::correct_batch(set, index, job, batch, output, work),
+        answer,
+    )
 }
 
 // The k-mers of a read, and the solid ones among them. Refusals 1 and 7 to 10.
@@ -178,5 +187,14 @@ pub extern "C" fn corrector_make_set(
     ensures { λ r. ⌜ MadeExact (makeSet (now (text .entry)) k least (now (blocks .entry))) (now (answer .entry)) r (now (blocks .exit)) (now (answer .exit)) ⌝ }
 {
     let numbers = made_numbers(make_set::make_set(text, k, least, blocks));
+    tell(&numbers, answer)
+}
+
+// The index by first letters made from a set. Refusals 7 to 10 of the set, then 14, which leave the blocks as they are.
+#[no_mangle]
+pub extern "C" fn corrector_make_index(set: &[u8], blocks: &mut [u8], answer: &mut [u64]) -> u64
+    ensures { λ r. ⌜ MadeExact (makeIndex (now (set .entry)) (now (blocks .entry))) (now (answer .entry)) r (now (blocks .exit)) (now (answer .exit)) ⌝ }
+{
+    let numbers = made_numbers(index::make_index(set, blocks));
     tell(&numbers, answer)
 }

@@ -6,16 +6,17 @@ use mathlib.Core.Option.{none, some}
 use mathlib.Core.List.{List, [], _∷_}
 use lib.ListN.{length}
 use Rattle.rules.specs.Refusal.{Check, accepted, refused, _orElse_, unless}
-use Rattle.rules.specs.Set.{setOf, opened}
+use Rattle.rules.specs.Set.{setOf, offering, opened}
+use Rattle.rules.specs.Index.{indexCheck}
 use Rattle.rules.specs.Job.{entriesOf, Confirmed, lines}
-use Rattle.rules.specs.Calls.{Given, After, inputCheck, batchRight, givenCheck, corrected, correctRead, correctBatch}
+use Rattle.rules.specs.Calls.{Given, After, withoutIndex, inputCheck, batchRight, givenCheck, corrected, correctRead, correctBatch}
 use Rattle.refusal.specs.declared.Refusal.{Refusal}
-use Rattle.refusal.specs.declared.Refusal.the-variants.{Batch}
+use Rattle.refusal.specs.declared.Refusal.the-variants.{Batch, Index}
 use Rattle.report.specs.declared.Answer.{Answer}
 use Rattle.report.specs.declared.Answer.the-variants.{Refused}
 use Rattle.report.specs.Answer.{Exact, Ceiling}
 use Rattle.refusal.specs.Refusal.{refusalOf}
-use Rattle.report.proofs.Calls.{call-refused, call-not-opened, call-opened}
+use Rattle.report.proofs.Calls.{call-refused, call-not-opened, call-index-wrong, call-opened}
 use Rattle.report.proofs.Exact.{refused-exact, under-ceiling}
 
 -- ---- the two calls, by what the checks of the input say
@@ -24,12 +25,16 @@ module _ (g : Given) where
   abbrev checks : Check
   checks = inputCheck (length (g .input)) (g .job) (length (g .output)) (length (g .work))
 
+  -- 15, of a set that opens.
+  abbrev index-check : Check
+  index-check = indexCheck (setOf (g .set)) (g .index)
+
   abbrev ceiling : List (List ℕ) → Answer → Type 0
-  ceiling = Ceiling (setOf (g .set)) (entriesOf (g .job))
+  ceiling = Ceiling (offering (g .index) (setOf (g .set))) (entriesOf (g .job))
 
   -- What a call whose set opened does with its reads, an ending behind each.
   abbrev with-set : List ℕ → List (List ℕ) → After
-  with-set ending reads = corrected (setOf (g .set)) (entriesOf (g .job)) ending g reads
+  with-set ending reads = corrected (setOf (g .set)) (entriesOf (g .job)) ending (withoutIndex g) reads
 
   module _ (r : Refusal) where
     pub read-refused : checks ≡ some (refusalOf r) → Exact (correctRead g) (Refused r) (g .output) (g .work)
@@ -40,12 +45,18 @@ module _ (g : Given) where
     unfolding correctRead givenCheck
     read-not-opened e o = refused-exact g (correctRead g) r (call-not-opened [] (g .input ∷ []) checks g (refusalOf r) e o)
 
-  pub read-corrected : (r : Answer) {o w : List ℕ} → checks ≡ none → opened (g .set) ≡ accepted (setOf (g .set)) → Confirmed (entriesOf (g .job))
-      → Exact (with-set [] (g .input ∷ [])) r o w → Exact (correctRead g) r o w × ceiling (g .input ∷ []) r
+  pub read-index-wrong : checks ≡ none → opened (g .set) ≡ accepted (setOf (g .set)) → index-check ≡ some (refusalOf Index)
+      → Exact (correctRead g) (Refused Index) (g .output) (g .work)
   unfolding correctRead givenCheck
-  read-corrected r {o} {w} e opens low h = (
-    subst (λ (a : After). Exact a r o w) (sym (call-opened [] (g .input ∷ []) checks g (setOf (g .set)) e opens)) h,
-    under-ceiling (setOf (g .set)) (entriesOf (g .job)) [] g (g .input ∷ []) (g .set) opens low r h,
+  read-index-wrong e opens i =
+      refused-exact g (correctRead g) Index (call-index-wrong [] (g .input ∷ []) checks g (setOf (g .set)) e opens (refusalOf Index) i)
+
+  pub read-corrected : (r : Answer) {o w : List ℕ} → checks ≡ none → opened (g .set) ≡ accepted (setOf (g .set)) → index-check ≡ none
+      → Confirmed (entriesOf (g .job)) → Exact (with-set [] (g .input ∷ [])) r o w → Exact (correctRead g) r o w × ceiling (g .input ∷ []) r
+  unfolding correctRead givenCheck
+  read-corrected r {o} {w} e opens i low h = (
+    subst (λ (a : After). Exact a r o w) (sym (call-opened [] (g .input ∷ []) checks g (setOf (g .set)) e opens i)) h,
+    under-ceiling (setOf (g .set)) (entriesOf (g .job)) [] (withoutIndex g) (g .input ∷ []) (g .set) opens (g .index) i low r h,
   )
 
   -- 6 comes after 5.
@@ -76,11 +87,18 @@ module _ (g : Given) where
       batch-not-opened r o =
           refused-exact g (correctBatch g) r (call-not-opened (10 ∷ []) (lines (g .input)) (checks orElse six) g (refusalOf r) passed o)
 
-      pub batch-corrected : (r : Answer) {o w : List ℕ} → opened (g .set) ≡ accepted (setOf (g .set)) → Confirmed (entriesOf (g .job))
-          → Exact (with-set (10 ∷ []) (lines (g .input))) r o w → Exact (correctBatch g) r o w × ceiling (lines (g .input)) r
-      unfolding correctBatch givenCheck
-      batch-corrected r {o} {w} opens low h = (
-        subst (λ (a : After). Exact a r o w)
-            (sym (call-opened (10 ∷ []) (lines (g .input)) (checks orElse six) g (setOf (g .set)) passed opens)) h,
-        under-ceiling (setOf (g .set)) (entriesOf (g .job)) (10 ∷ []) g (lines (g .input)) (g .set) opens low r h,
-      )
+      module _ (opens : opened (g .set) ≡ accepted (setOf (g .set))) where
+        pub batch-index-wrong : index-check ≡ some (refusalOf Index) → Exact (correctBatch g) (Refused Index) (g .output) (g .work)
+        unfolding correctBatch givenCheck
+        batch-index-wrong i =
+            refused-exact g (correctBatch g) Index
+            (call-index-wrong (10 ∷ []) (lines (g .input)) (checks orElse six) g (setOf (g .set)) passed opens (refusalOf Index) i)
+
+        pub batch-corrected : (r : Answer) {o w : List ℕ} → index-check ≡ none → Confirmed (entriesOf (g .job))
+            → Exact (with-set (10 ∷ []) (lines (g .input))) r o w → Exact (correctBatch g) r o w × ceiling (lines (g .input)) r
+        unfolding correctBatch givenCheck
+        batch-corrected r {o} {w} i low h = (
+          subst (λ (a : After). Exact a r o w)
+              (sym (call-opened (10 ∷ []) (lines (g .input)) (checks orElse six) g (setOf (g .set)) passed opens i)) h,
+          under-ceiling (setOf (g .set)) (entriesOf (g .job)) (10 ∷ []) (withoutIndex g) (lines (g .input)) (g .set) opens (g .index) i low r h,
+        )

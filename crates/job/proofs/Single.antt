@@ -51,7 +51,7 @@ module _ (set : KmerSet) (es : List Entry) (read : List ℕ) where
 module _ (bytes job read output o₁ : List ℕ) (work part : List ℕ) (passed : Pass)
     (t : Through (setOf bytes) job read output o₁ (take (length output) work) part passed) where
   abbrev exactly : Answer → List ℕ → List ℕ → Type 0
-  exactly = Exact (corrected (setOf bytes) (entriesOf job) [] (given bytes job read output work) (read ∷ []))
+  exactly = Exact (corrected (setOf bytes) (entriesOf job) [] (given bytes [] job read output work) (read ∷ []))
 
   abbrev w₁ : List ℕ
   w₁ = part ++ drop (length output) work
@@ -62,7 +62,7 @@ module _ (bytes job read output o₁ : List ℕ) (work part : List ℕ) (passed 
   pub single-no-room : {r : Answer} {o w : List ℕ} → passed ≡ Full → (r ≡ Refused (NoRoom 0)) × Cleared 0 o₁ (length w₁) o w → exactly r o w
   single-no-room e h =
       let is = subst (ThroughIs (setOf bytes) (entriesOf job) read (length output) o₁) e (t .is) in
-      full-exact (setOf bytes) (entriesOf job) [] (given bytes job read output work) (read ∷ []) 0
+      full-exact (setOf bytes) (entriesOf job) [] (given bytes [] job read output work) (read ∷ []) 0
       (single-full (setOf bytes) (entriesOf job) read (length output) is)
       o₁ (t .output-room) (h .0) (rw work-same at (h .1))
 
@@ -75,6 +75,6 @@ module _ (bytes job read output o₁ : List ℕ) (work part : List ℕ) (passed 
 
     pub single-accepted : {r : Answer} {o w : List ℕ} → (r ≡ Reported (reportOn done)) × Cleared (done .written) o₁ (length w₁) o w → exactly r o w
     single-accepted h =
-        fits-exact (setOf bytes) (entriesOf job) [] (given bytes job read output work) (read ∷ []) done o₁
+        fits-exact (setOf bytes) (entriesOf job) [] (given bytes [] job read output work) (read ∷ []) done o₁
         (single-fits (setOf bytes) (entriesOf job) read (length output) (is .2))
         (is .0 ∙ sym (single-all (setOf bytes) (entriesOf job) read)) (is .1) (t .output-room) (h .0) (rw work-same at (h .1))

@@ -8,7 +8,7 @@ use report::Answer;
 use set::STARTS;
 ghost use mathlib.Core.List.{[], _∷_};
 ghost use lib.ListN.{length};
-ghost use Rattle.rules.specs.Set.{setOf};
+ghost use Rattle.rules.specs.Set.{setOf, offering};
 ghost use Rattle.rules.specs.Job.{entriesOf, lines};
 ghost use Rattle.rules.specs.Calls.{corrected, correctRead, correctBatch};
 ghost use Rattle.set.specs.Ready.{Ready};
@@ -30,7 +30,7 @@ fn correct_one(
         × Within (now job) (length (now read)) (length (now output)) (length (now work)) ⌝ }
     ensures { λ r. ⌜
         Exact (corrected (setOf (now (set .entry))) (entriesOf (now (job .entry))) []
-        (given (now (set .entry)) (now (job .entry)) (now (read .entry)) (now (output .entry)) (now (work .entry)))
+        (given (now (set .entry)) [] (now (job .entry)) (now (read .entry)) (now (output .entry)) (now (work .entry)))
         (now (read .entry) ∷ []))
         r (now (output .exit)) (now (work .exit)) ⌝ }
 {
@@ -45,16 +45,17 @@ fn correct_one(
 // The single-read call: corrects a read by the entries of the job, into the output.
 pub fn correct_read(
     set: &[u8],
+    index: &[u8],
     job: &[u8],
     read: &[u8],
     output: &mut [u8],
     work: &mut [u8],
 ) -> Answer
     ensures exact { λ r. ⌜
-        Exact (correctRead (given (now (set .entry)) (now (job .entry)) (now (read .entry)) (now (output .entry)) (now (work .entry))))
+        Exact (correctRead (given (now (set .entry)) (now (index .entry)) (now (job .entry)) (now (read .entry)) (now (output .entry)) (now (work .entry))))
         r (now (output .exit)) (now (work .exit)) ⌝ }
     ensures ceiling { λ r. ⌜
-        Ceiling (setOf (now (set .entry))) (entriesOf (now (job .entry))) (now (read .entry) ∷ []) r ⌝ }
+        Ceiling (offering (now (index .entry)) (setOf (now (set .entry)))) (entriesOf (now (job .entry))) (now (read .entry) ∷ []) r ⌝ }
 {
     let checked = input::check_input(read.len(), job, output.len(), work.len());
     let Input::Fine = checked else {
@@ -64,24 +65,28 @@ pub fn correct_read(
     let Opened::Set(k, n) = opened else {
         return Answer::Refused(blocks::refused(opened));
     };
+    if !index::check_index(set, k, n, index) {
+        return Answer::Refused(Refusal::Index);
+    }
     let mut starts = [0u32; STARTS];
-    let head = set::prepare(set, k, n, &mut starts);
+    let head = set::prepare(set, index, k, n, read.len(), &mut starts);
     correct_one(set, &starts, head, job, read, output, work)
 }
 
 // The batch call: corrects the lines of a batch by the entries of the job, into the output.
 pub fn correct_batch(
     set: &[u8],
+    index: &[u8],
     job: &[u8],
     batch: &[u8],
     output: &mut [u8],
     work: &mut [u8],
 ) -> Answer
     ensures exact { λ r. ⌜
-        Exact (correctBatch (given (now (set .entry)) (now (job .entry)) (now (batch .entry)) (now (output .entry)) (now (work .entry))))
+        Exact (correctBatch (given (now (set .entry)) (now (index .entry)) (now (job .entry)) (now (batch .entry)) (now (output .entry)) (now (work .entry))))
         r (now (output .exit)) (now (work .exit)) ⌝ }
     ensures ceiling { λ r. ⌜
-        Ceiling (setOf (now (set .entry))) (entriesOf (now (job .entry))) (lines (now (batch .entry))) r ⌝ }
+        Ceiling (offering (now (index .entry)) (setOf (now (set .entry)))) (entriesOf (now (job .entry))) (lines (now (batch .entry))) r ⌝ }
 {
     let checked = input::check_input(batch.len(), job, output.len(), work.len());
     let Input::Fine = checked else {
@@ -94,7 +99,10 @@ pub fn correct_batch(
     let Opened::Set(k, n) = opened else {
         return Answer::Refused(blocks::refused(opened));
     };
+    if !index::check_index(set, k, n, index) {
+        return Answer::Refused(Refusal::Index);
+    }
     let mut starts = [0u32; STARTS];
-    let head = set::prepare(set, k, n, &mut starts);
+    let head = set::prepare(set, index, k, n, batch.len(), &mut starts);
     lines::correct_lines(set, &starts, head, job, batch, output, work)
 }

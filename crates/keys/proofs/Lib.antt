@@ -1,3 +1,3 @@
 pub mod Bracket
-pub mod Lines
+pub mod Part
 pub mod Window

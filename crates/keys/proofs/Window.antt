@@ -8,10 +8,9 @@ use mathlib.Core.Bool.{Bool, true, false, _||_, _&&_, cond, false≢true}
 use mathlib.Core.List.{List}
 use borrow.Author.Tests.{eqb-true, eq-eqb, ltb-true, lt-ltb, le-leb, leb-true, leb-false}
 use lib.Dec.{eqb, ltb, leb}
-use Rattle.rules.specs.Set.{keyWord}
 use Rattle.rules.proofs.Opened.{both}
 use Rattle.keys.specs.declared.Found.the-variants.{At, Nothing}
-use Rattle.keys.specs.Find.{Sorted, Bracket, Answers, firstKey}
+use Rattle.keys.specs.Find.{keyIn, Sorted, LowerBefore, Bracket, Answers, firstKey}
 use Rattle.keys.proofs.Bracket.{lower-before, lower-through, higher-from}
 
 cond-le : (b : Bool) (w : ℕ) → cond b w 0 ≤ w
@@ -24,10 +23,10 @@ if-le r b w e = rw e (cond-le b w)
 -- ---- two words
 
 -- Word `at` of a line and the word behind it, which is a key, but for the check word.
-module _ (bytes : List ℕ) (x line at word : ℕ) (low : at < 7)
-    (is : firstKey line + at + 1 < firstKey (line + 1) → word ≡ keyWord bytes (firstKey line + at + 1)) where
+module _ (skip : ℕ) (part : List ℕ) (x line at word : ℕ) (low : at < 7)
+    (is : firstKey line + at + 1 < firstKey (line + 1) → word ≡ keyIn skip part (firstKey line + at + 1)) where
   abbrev first : Bool
-  first = eqb x (keyWord bytes (firstKey line + at))
+  first = eqb x (keyIn skip part (firstKey line + at))
 
   abbrev second : Bool
   second = eqb x word && ltb (at + line % 8) 13
@@ -35,10 +34,10 @@ module _ (bytes : List ℕ) (x line at word : ℕ) (low : at < 7)
   abbrev end : ℕ
   end = min (firstKey (line + 1)) (firstKey line + at + 2)
 
-  pub pair-at : (first || second) ≡ true → Answers bytes x (firstKey line + at) end (At (firstKey line + at + cond second 1 0))
+  pub pair-at : (first || second) ≡ true → Answers skip part x (firstKey line + at) end (At (firstKey line + at + cond second 1 0))
   pair-at e = go second refl
     where
-      go : (q : Bool) → second ≡ q → Answers bytes x (firstKey line + at) end (At (firstKey line + at + cond q 1 0))
+      go : (q : Bool) → second ≡ q → Answers skip part x (firstKey line + at) end (At (firstKey line + at + cond q 1 0))
       go true d =
           let t = both (eqb x word) (ltb (at + line % 8) 13) d in
           let l : at + line % 8 < 13 = ltb-true _ _ (t .1) in
@@ -49,13 +48,13 @@ module _ (bytes : List ℕ) (x line at word : ℕ) (low : at < 7)
           here true c = c
           here false c = absurd (false≢true (sym (rw (c, d)) ∙ e))
 
-  pub pair-none : (first || second) ≡ false → Answers bytes x (firstKey line + at) end Nothing
+  pub pair-none : (first || second) ≡ false → Answers skip part x (firstKey line + at) end Nothing
   pair-none e i l g same = go (decLt i (firstKey line + at + 1))
     where
       go : Dec (i < firstKey line + at + 1) → ⊥
       go (yes h) =
           let here : i ≡ firstKey line + at = omega arith in
-          let p : first ≡ true = eq-eqb x (keyWord bytes (firstKey line + at)) (rw here at (sym same)) in
+          let p : first ≡ true = eq-eqb x (keyIn skip part (firstKey line + at)) (rw here at (sym same)) in
           false≢true (sym e ∙ rw p)
       go (no h) =
           let here : i ≡ firstKey line + at + 1 = omega arith in
@@ -68,81 +67,81 @@ module _ (bytes : List ℕ) (x line at word : ℕ) (low : at < 7)
           or-true true b d = refl
           or-true false b d = d
 
-module _ (bytes : List ℕ) (n x : ℕ) (sorted : Sorted bytes n) where
+module _ {skip : ℕ} {part : List ℕ} {first last : ℕ} (sorted : Sorted skip part first last) (x : ℕ) where
   -- ---- halves
 
   -- x can stand only from key a on, before key `next`, among two widths: the key between says among which.
-  half : (a next width : ℕ) → Bracket bytes n x a (min next (a + (width + width))) → a + width < next → next ≤ n
-      → (b : Bool) → leb (keyWord bytes (a + width)) x ≡ b → Bracket bytes n x (a + cond b width 0) (min next (a + cond b width 0 + width))
+  half : (a next width : ℕ) → Bracket skip part first last x a (min next (a + (width + width))) → a + width < next → next ≤ last
+      → (b : Bool) → leb (keyIn skip part (a + width)) x ≡ b → Bracket skip part first last x (a + cond b width 0) (min next (a + cond b width 0 + width))
   half a next width l h room true e =
       let same : a + width + width ≡ a + (width + width) = omega arith in
       record {
         within = omega (arith, l .within);
-        below = lower-before bytes n x sorted (a + width) (omega arith) (leb-true _ _ e);
+        below = lower-before sorted x (a + width) (omega arith) (leb-true _ _ e);
         above = rw same (l .above);
       }
   half a next width l h room false e =
       let end : min next (a + width) ≡ a + width = omega arith in
       rw (add-zero a, end)
       (record {
-        within = omega arith;
+        within = omega (arith, l .within);
         below = l .below;
-        above = higher-from bytes n x sorted (a + width) (leb-false _ _ e);
+        above = higher-from sorted x (a + width) (omega (arith, l .within)) (leb-false _ _ e);
       })
 
-  pub quarters : (line four two : ℕ) → Bracket bytes n x (firstKey line) (firstKey (line + 1))
-      → four ≡ cond (leb (keyWord bytes (firstKey line + 4)) x) 4 0
-      → two ≡ cond (leb (keyWord bytes (firstKey line + (four + 2))) x) 2 0
-      → Bracket bytes n x (firstKey line + (four + two)) (min (firstKey (line + 1)) (firstKey line + (four + two) + 2))
+  pub quarters : (line four two : ℕ) → Bracket skip part first last x (firstKey line) (firstKey (line + 1))
+      → four ≡ cond (leb (keyIn skip part (firstKey line + 4)) x) 4 0
+      → two ≡ cond (leb (keyIn skip part (firstKey line + (four + 2))) x) 2 0
+      → Bracket skip part first last x (firstKey line + (four + two)) (min (firstKey (line + 1)) (firstKey line + (four + two) + 2))
   quarters line four two l four-is two-is =
-      let first : ℕ = firstKey line in
+      let start : ℕ = firstKey line in
       let next : ℕ = firstKey (line + 1) in
-      let end : min next (first + (4 + 4)) ≡ next = omega arith in
-      let whole : Bracket bytes n x first (min next (first + (4 + 4))) = rw end l in
-      let left : Bracket bytes n x (first + four) (min next (first + four + (2 + 2))) =
-      rw four-is (half first next 4 whole (omega arith) (l .within) (leb (keyWord bytes (first + 4)) x) refl) in
-      let low : four ≤ 4 = if-le four (leb (keyWord bytes (firstKey line + 4)) x) 4 four-is in
-      let place : first + (four + 2) ≡ first + four + 2 = omega arith in
-      let both : first + (four + two) ≡ first + four + two = omega arith in
+      let end : min next (start + (4 + 4)) ≡ next = omega arith in
+      let whole : Bracket skip part first last x start (min next (start + (4 + 4))) = rw end l in
+      let left : Bracket skip part first last x (start + four) (min next (start + four + (2 + 2))) =
+      rw four-is (half start next 4 whole (omega arith) (l .within .1) (leb (keyIn skip part (start + 4)) x) refl) in
+      let low : four ≤ 4 = if-le four (leb (keyIn skip part (firstKey line + 4)) x) 4 four-is in
+      let place : start + (four + 2) ≡ start + four + 2 = omega arith in
+      let both : start + (four + two) ≡ start + four + two = omega arith in
       rw both
-      (rw (two-is, place) (half (first + four) next 2 left (omega arith) (l .within) (leb (keyWord bytes (first + four + 2)) x) refl))
+      (rw (two-is, place) (half (start + four) next 2 left (omega arith) (l .within .1) (leb (keyIn skip part (start + four + 2)) x) refl))
 
   -- ---- three lines
 
-  pub window : (line : ℕ) → firstKey (line + 3) ≤ n
-      → (leb (keyWord bytes (firstKey line)) x && leb x (keyWord bytes (firstKey (line + 2) + 6))) ≡ true
-      → Bracket bytes n x (firstKey line) (firstKey (line + 3))
-  window line room e =
-      let t = both (leb (keyWord bytes (firstKey line)) x) (leb x (keyWord bytes (firstKey (line + 2) + 6))) e in
-      let last : x ≤ keyWord bytes (firstKey (line + 2) + 6) = leb-true _ _ (t .1) in
+  pub window : (line : ℕ) → first ≤ firstKey line → firstKey (line + 3) < last
+      → (leb (keyIn skip part (firstKey line)) x && leb x (keyIn skip part (firstKey (line + 2) + 6))) ≡ true
+      → Bracket skip part first last x (firstKey line) (firstKey (line + 3))
+  window line start room e =
+      let t = both (leb (keyIn skip part (firstKey line)) x) (leb x (keyIn skip part (firstKey (line + 2) + 6))) e in
+      let most : x ≤ keyIn skip part (firstKey (line + 2) + 6) = leb-true _ _ (t .1) in
       record {
-        within = room;
-        below = lower-before bytes n x sorted (firstKey line) (omega arith) (leb-true _ _ (t .0));
-        above = λ j l g. omega (arith, sorted .rising (firstKey (line + 2) + 6) j (omega arith) g);
+        within = omega arith;
+        below = lower-before sorted x (firstKey line) (omega arith) (leb-true _ _ (t .0));
+        above = λ j f g l. omega (arith, sorted .rising (firstKey (line + 2) + 6) j (omega arith) (omega arith) g);
       }
 
   -- x is not below the window's first key: it is above its last.
-  pub behind-window : (line : ℕ) → firstKey (line + 3) ≤ n
-      → (leb (keyWord bytes (firstKey line)) x && leb x (keyWord bytes (firstKey (line + 2) + 6))) ≡ false
-      → keyWord bytes (firstKey line) ≤ x → (j : ℕ) → j < firstKey (line + 2) + 7 → keyWord bytes j < x
-  behind-window line room e l j g =
-      let last : ℕ = firstKey (line + 2) + 6 in
-      lower-through bytes n x sorted last (omega arith) (leb-false _ _ (go (leb (keyWord bytes (firstKey line)) x) (leb x (keyWord bytes last)) e (le-leb _ _ l))) j (omega arith)
+  pub behind-window : (line : ℕ) → firstKey (line + 3) < last
+      → (leb (keyIn skip part (firstKey line)) x && leb x (keyIn skip part (firstKey (line + 2) + 6))) ≡ false
+      → keyIn skip part (firstKey line) ≤ x → LowerBefore skip part first last x (firstKey (line + 2) + 7)
+  behind-window line room e l j f g k =
+      let top : ℕ = firstKey (line + 2) + 6 in
+      lower-through sorted x top (omega arith) (leb-false _ _ (go (leb (keyIn skip part (firstKey line)) x) (leb x (keyIn skip part top)) e (le-leb _ _ l))) j f g (omega arith)
     where
       go : (a b : Bool) → (a && b) ≡ false → a ≡ true → b ≡ false
       go true b d c = d
       go false b d c = absurd (false≢true c)
 
-  pub three : (line : ℕ) → Bracket bytes n x (firstKey line) (firstKey (line + 3)) → (b c : Bool) → leb (keyWord bytes (firstKey (line + 1))) x ≡ b
-      → leb (keyWord bytes (firstKey (line + 2))) x ≡ c
-      → Bracket bytes n x (firstKey (line + cond b 1 0 + cond c 1 0)) (firstKey (line + cond b 1 0 + cond c 1 0 + 1))
+  pub three : (line : ℕ) → Bracket skip part first last x (firstKey line) (firstKey (line + 3)) → (b c : Bool) → leb (keyIn skip part (firstKey (line + 1))) x ≡ b
+      → leb (keyIn skip part (firstKey (line + 2))) x ≡ c
+      → Bracket skip part first last x (firstKey (line + cond b 1 0 + cond c 1 0)) (firstKey (line + cond b 1 0 + cond c 1 0 + 1))
   three line l true true d e =
       let at : line + 1 + 1 ≡ line + 2 = omega arith in
       let next : line + 2 + 1 ≡ line + 3 = omega arith in
       rw (at, next)
       (record {
-        within = l .within;
-        below = lower-before bytes n x sorted (firstKey (line + 2)) (omega (arith, l .within)) (leb-true _ _ e);
+        within = omega (arith, l .within);
+        below = lower-before sorted x (firstKey (line + 2)) (omega (arith, l .within)) (leb-true _ _ e);
         above = l .above;
       })
   three line l true false d e =
@@ -151,16 +150,16 @@ module _ (bytes : List ℕ) (n x : ℕ) (sorted : Sorted bytes n) where
       rw (at, next)
       (record {
         within = omega (arith, l .within);
-        below = lower-before bytes n x sorted (firstKey (line + 1)) (omega (arith, l .within)) (leb-true _ _ d);
-        above = higher-from bytes n x sorted (firstKey (line + 2)) (leb-false _ _ e);
+        below = lower-before sorted x (firstKey (line + 1)) (omega (arith, l .within)) (leb-true _ _ d);
+        above = higher-from sorted x (firstKey (line + 2)) (omega (arith, l .within)) (leb-false _ _ e);
       })
   three line l false true d e =
-      absurd (omega (arith, leb-false (keyWord bytes (firstKey (line + 1))) x d, leb-true (keyWord bytes (firstKey (line + 2))) x e, sorted .rising (firstKey (line + 1)) (firstKey (line + 2)) (omega arith) (omega (arith, l .within))))
+      absurd (omega (arith, leb-false (keyIn skip part (firstKey (line + 1))) x d, leb-true (keyIn skip part (firstKey (line + 2))) x e, sorted .rising (firstKey (line + 1)) (firstKey (line + 2)) (omega (arith, l .within)) (omega arith) (omega (arith, l .within))))
   three line l false false d e =
       let at : line + 0 + 0 ≡ line = omega arith in
       rw at
       (record {
         within = omega (arith, l .within);
         below = l .below;
-        above = higher-from bytes n x sorted (firstKey (line + 1)) (leb-false _ _ d);
+        above = higher-from sorted x (firstKey (line + 1)) (omega (arith, l .within)) (leb-false _ _ d);
       })

@@ -1,36 +1,57 @@
--- A search among keys that rise: where key x can stand, and what is answered.
+-- A search among keys that rise, in a part of a set's bytes: where key x can stand, and what is answered.
 use Prim.Native.Nat.{ℕ, _+_, _*_, _-_, _/_, _≤_, _<_}
 use mathlib.Core.Path.{_≡_}
+use mathlib.Core.Logic.{_⊎_}
 use mathlib.Core.List.{List}
-use Rattle.rules.specs.Set.{maxKeys, blocks, keyWord}
+use lib.ListN.{length, drop}
+use Rattle.rules.specs.Set.{maxKeys, little}
 use Rattle.keys.specs.declared.Found.{Found}
 use Rattle.keys.specs.declared.Found.the-variants.{At, Nothing}
 
--- The key blocks have room for n keys, and these rise strictly.
-pub record Sorted (bytes : List ℕ) (n : ℕ) : Type 0 where
-  pub few : n ≤ maxKeys
-  pub room : n ≤ 63 * (blocks bytes - 1)
-  pub rising : (i j : ℕ) → i < j → j < n → keyWord bytes i < keyWord bytes j
+-- The byte of the set at which key i stands: one word in 64 is a check word.
+abbrev pub place : ℕ → ℕ
+place i = 512 + 8 * (i + i / 63)
 
--- Every key before i is below x.
-abbrev pub LowerBefore : List ℕ → ℕ → ℕ → Type 0
-LowerBefore bytes x i = (j : ℕ) → j < i → keyWord bytes j < x
+-- Key i of the set, read in the part that begins at byte `skip`.
+unfoldable pub keyIn : ℕ → List ℕ → ℕ → ℕ
+unfolding little
+keyIn skip part i = little 8 (drop (place i - skip) part)
 
--- Of n keys, every one from i on is above x.
-abbrev pub HigherFrom : List ℕ → ℕ → ℕ → ℕ → Type 0
-HigherFrom bytes n x i = (j : ℕ) → i ≤ j → j < n → x < keyWord bytes j
+-- The part holds the keys from `first` on and before `last`, and these rise strictly.
+pub record Sorted (skip : ℕ) (part : List ℕ) (first last : ℕ) : Type 0 where
+  pub few : last ≤ maxKeys
+  pub room : first < last → (skip ≤ place first) × (place (last - 1) + 8 ≤ skip + length part)
+  pub rising : (i j : ℕ) → first ≤ i → i < j → j < last → keyIn skip part i < keyIn skip part j
 
--- Among n keys x can stand only from lo on and before hi.
-pub record Bracket (bytes : List ℕ) (n x lo hi : ℕ) : Type 0 where
-  pub within : hi ≤ n
-  pub below : LowerBefore bytes x lo
-  pub above : HigherFrom bytes n x hi
+-- Of the keys from `first` on and before `last`, every one before i is below x.
+abbrev pub LowerBefore : ℕ → List ℕ → ℕ → ℕ → ℕ → ℕ → Type 0
+LowerBefore skip part first last x i = (j : ℕ) → first ≤ j → j < last → j < i → keyIn skip part j < x
+
+-- Of these keys, every one from i on is above x.
+abbrev pub HigherFrom : ℕ → List ℕ → ℕ → ℕ → ℕ → ℕ → Type 0
+HigherFrom skip part first last x i = (j : ℕ) → first ≤ j → j < last → i ≤ j → x < keyIn skip part j
+
+-- Among these keys x can stand only from lo on and before hi.
+pub record Bracket (skip : ℕ) (part : List ℕ) (first last x lo hi : ℕ) : Type 0 where
+  pub within : (first ≤ lo) × (hi ≤ last)
+  pub below : LowerBefore skip part first last x lo
+  pub above : HigherFrom skip part first last x hi
 
 -- What is answered about x among the keys from lo on and before hi.
-abbrev pub Answers : List ℕ → ℕ → ℕ → ℕ → Found → Type 0
-Answers bytes x lo hi (At i) = (lo ≤ i) × (i < hi) × (keyWord bytes i ≡ x)
-Answers bytes x lo hi Nothing = (i : ℕ) → lo ≤ i → i < hi → keyWord bytes i ≡ x → ⊥
+abbrev pub Answers : ℕ → List ℕ → ℕ → ℕ → ℕ → Found → Type 0
+Answers skip part x lo hi (At i) = (lo ≤ i) × (i < hi) × (keyIn skip part i ≡ x)
+Answers skip part x lo hi Nothing = (i : ℕ) → lo ≤ i → i < hi → keyIn skip part i ≡ x → ⊥
 
 -- The key at the start of a line, a part of 8 words of the key blocks, counted from 0: one word in 8 lines is a check word.
 abbrev pub firstKey : ℕ → ℕ
 firstKey line = 8 * line - line / 8
+
+-- The part holds every word of the lines from `line` on and before `next`.
+pub record Lines (skip : ℕ) (part : List ℕ) (line next : ℕ) : Type 0 where
+  pub few : next ≤ maxKeys
+  pub starts : skip ≤ 512 + 64 * line
+  pub ends : 512 + 64 * next ≤ skip + length part
+
+-- Three lines from this one on are within the keys from `first` on and before `last`, or it lies behind every set.
+abbrev pub WithinKeys : ℕ → ℕ → ℕ → Type 0
+WithinKeys first last line = (line ≡ maxKeys) ⊎ ((first ≤ firstKey line) × (firstKey (line + 3) < last))

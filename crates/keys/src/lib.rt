@@ -1,10 +1,13 @@
-// Where a key stands among a set's keys, which rise strictly.
+// Where a key stands among a set's keys, which rise strictly. Only a part of the set's bytes is searched, from byte `skip` of the set on:
+// it holds the keys from `first` on and before `last`, and no other key is read.
 ghost use mathlib.Core.Path.{_≡_};
-ghost use mathlib.Core.Bool.{cond, _&&_};
+ghost use mathlib.Core.Bool.{false, cond, _&&_};
 ghost use Prim.Native.Nat.{_+_, _-_, _*_, _≤_, _<_, min};
 ghost use lib.Dec.{leb};
-ghost use Rattle.rules.specs.Set.{maxKeys, blocks, keyWord};
-ghost use Rattle.keys.specs.Find.{Sorted, Bracket, Answers, firstKey};
+ghost use lib.ListN.{length};
+ghost use Rattle.rules.specs.Set.{maxKeys};
+ghost use Rattle.keys.specs.Find;
+ghost use Rattle.keys.specs.Find.{keyIn, Sorted, Bracket, Answers, firstKey, Lines, WithinKeys};
 
 // A key's index among the keys, or that it is none of them.
 pub enum Found {
@@ -18,35 +21,51 @@ fn pick(test: bool, yes: usize, no: usize) -> usize
     if test { yes } else { no }
 }
 
+// Where key i stands in the set: one word in 64 is a check word.
+pub fn place(i: usize) -> usize
+    requires { ⌜ i < maxKeys ⌝ }
+    ensures { λ r. ⌜ r ≡ Find.place i ⌝ }
+{
+    512 + 8 * (i + i / 63)
+}
+
+// Key i of the set.
+fn key_at(part: &[u8], skip: usize, i: usize) -> u64
+    requires { ⌜ (i < maxKeys) × (skip ≤ Find.place i) × (Find.place i + 8 ≤ skip + length (now part)) ⌝ }
+    ensures { λ r. ⌜ r ≡ keyIn skip (now (part .entry)) i ⌝ }
+{
+    blocks::word_at(part, place(i) - skip)
+}
+
 // In a set of fewer keys a prefix rarely has more than two.
 const SMALL: usize = 32768;
 
 // One key or two.
-fn in_two(set: &[u8], key: u64, from: usize, end: usize) -> Found
-    requires { ⌜ (from < end) × (end ≤ from + 2) × (end ≤ 63 * (blocks (now set) - 1)) × (end ≤ maxKeys) ⌝ }
-    ensures { λ r. ⌜ Answers (now (set .entry)) key from end r ⌝ }
+fn in_two(part: &[u8], skip: usize, key: u64, from: usize, end: usize) -> Found
+    requires { ⌜ Sorted skip (now part) from end × (from < end) × (end ≤ from + 2) ⌝ }
+    ensures { λ r. ⌜ Answers skip (now (part .entry)) key from end r ⌝ }
 {
     let last = end - 1;
-    let is_first = key == blocks::key_at(set, from);
-    let is_last = key == blocks::key_at(set, last);
+    let is_first = key == key_at(part, skip, from);
+    let is_last = key == key_at(part, skip, last);
     if is_first | is_last {
         return Found::At(pick(is_first, from, last));
     }
     Found::Nothing
 }
 
-// Up to four keys, all of them compared: where a prefix has few, a branch on each would often be guessed wrong.
-fn in_few(set: &[u8], key: u64, from: usize, end: usize) -> Found
-    requires { ⌜ (from < end) × (end ≤ from + 4) × (end ≤ 63 * (blocks (now set) - 1)) × (end ≤ maxKeys) ⌝ }
-    ensures { λ r. ⌜ Answers (now (set .entry)) key from end r ⌝ }
+// Up to four keys, all of them compared: a branch on each would often be guessed wrong.
+fn in_four(part: &[u8], skip: usize, key: u64, from: usize, end: usize) -> Found
+    requires { ⌜ Sorted skip (now part) from end × (from < end) × (end ≤ from + 4) ⌝ }
+    ensures { λ r. ⌜ Answers skip (now (part .entry)) key from end r ⌝ }
 {
     let last = end - 1;
     let second = number::lesser(from + 1, last);
     let third = number::lesser(from + 2, last);
-    let is_first = key == blocks::key_at(set, from);
-    let is_second = key == blocks::key_at(set, second);
-    let is_third = key == blocks::key_at(set, third);
-    let is_last = key == blocks::key_at(set, last);
+    let is_first = key == key_at(part, skip, from);
+    let is_second = key == key_at(part, skip, second);
+    let is_third = key == key_at(part, skip, third);
+    let is_last = key == key_at(part, skip, last);
     if is_first | is_second | is_third | is_last {
         return Found::At(pick(
             is_first,
@@ -55,6 +74,19 @@ fn in_few(set: &[u8], key: u64, from: usize, end: usize) -> Found
         ));
     }
     Found::Nothing
+}
+
+// A few keys of a set of n.
+pub fn in_few(part: &[u8], skip: usize, key: u64, n: usize, from: usize, end: usize) -> Found
+    requires { ⌜ Sorted skip (now part) from end × (from < end) × (end ≤ from + 4) ⌝ }
+    ensures { λ r. ⌜ Answers skip (now (part .entry)) key from end r ⌝ }
+{
+    if n < SMALL {
+        if end - from <= 2 {
+            return in_two(part, skip, key, from, end);
+        }
+    }
+    in_four(part, skip, key, from, end)
 }
 
 // Keys lie in lines of 64 bytes, each one access to memory: 8 words, of which the last in each block is its check word.
@@ -66,20 +98,20 @@ fn first_key(line: usize) -> usize
 }
 
 // One of a line's first seven words, which are never the check word.
-fn line_key(set: &[u8], line: usize, at: usize) -> u64
-    requires { ⌜ (firstKey line < 63 * (blocks (now set) - 1)) × (at < 7) ⌝ }
-    ensures { λ r. ⌜ r ≡ keyWord (now (set .entry)) (firstKey line + at) ⌝ }
+fn line_key(part: &[u8], skip: usize, line: usize, at: usize) -> u64
+    requires { ⌜ Lines skip (now part) line (line + 1) × (at < 7) ⌝ }
+    ensures { λ r. ⌜ r ≡ keyIn skip (now (part .entry)) (firstKey line + at) ⌝ }
 {
-    blocks::word_at(set, 512 + 64 * line + 8 * at)
+    blocks::word_at(part, 512 + 64 * line + 8 * at - skip)
 }
 
 // Two words of a line, but no check word: it is the last word in the last line of a block.
-fn in_pair(set: &[u8], key: u64, line: usize, at: usize) -> Found
-    requires { ⌜ (firstKey line < 63 * (blocks (now set) - 1)) × (line ≤ maxKeys) × (at < 7) ⌝ }
-    ensures { λ r. ⌜ Answers (now (set .entry)) key (firstKey line + at) (min (firstKey (line + 1)) (firstKey line + at + 2)) r ⌝ }
+fn in_pair(part: &[u8], skip: usize, key: u64, line: usize, at: usize) -> Found
+    requires { ⌜ Lines skip (now part) line (line + 1) × (at < 7) ⌝ }
+    ensures { λ r. ⌜ Answers skip (now (part .entry)) key (firstKey line + at) (min (firstKey (line + 1)) (firstKey line + at + 2)) r ⌝ }
 {
-    let next = blocks::word_at(set, 512 + 64 * line + 8 * (at + 1));
-    let is_first = key == line_key(set, line, at);
+    let next = blocks::word_at(part, 512 + 64 * line + 8 * (at + 1) - skip);
+    let is_first = key == line_key(part, skip, line, at);
     let is_second = (key == next) & (at + line % 8 < 13);
     if is_first | is_second {
         return Found::At(first_key(line) + at + pick(is_second, 1, 0));
@@ -88,43 +120,51 @@ fn in_pair(set: &[u8], key: u64, line: usize, at: usize) -> Found
 }
 
 // The half of a line that the key belongs to, and the half of that.
-fn in_line(set: &[u8], key: u64, n: usize, line: usize) -> Found
-    requires { ⌜ Sorted (now set) n × Bracket (now set) n key (firstKey line) (firstKey (line + 1)) ⌝ }
-    ensures { λ r. ⌜ Answers (now (set .entry)) key 0 n r ⌝ }
+fn in_line(part: &[u8], skip: usize, key: u64, first: usize, last: usize, line: usize) -> Found
+    requires { ⌜ Sorted skip (now part) first last × Bracket skip (now part) first last key (firstKey line) (firstKey (line + 1)) × Lines skip (now part) line (line + 1) ⌝ }
+    ensures { λ r. ⌜ Answers skip (now (part .entry)) key first last r ⌝ }
 {
-    let half = pick(line_key(set, line, 4) <= key, 4, 0);
-    let quarter = pick(line_key(set, line, half + 2) <= key, 2, 0);
-    in_pair(set, key, line, half + quarter)
+    let half = pick(line_key(part, skip, line, 4) <= key, 4, 0);
+    let quarter = pick(line_key(part, skip, line, half + 2) <= key, 2, 0);
+    in_pair(part, skip, key, line, half + quarter)
 }
 
 // Whether the key stands between the first of three lines' keys and the last that is surely none of their check words.
-fn in_window(set: &[u8], key: u64, line: usize) -> bool
-    requires { ⌜ (firstKey (line + 3) ≤ 63 * (blocks (now set) - 1)) × (line ≤ maxKeys) ⌝ }
-    ensures { λ r. ⌜ r ≡ (leb (keyWord (now (set .entry)) (firstKey line)) key && leb key (keyWord (now (set .entry)) (firstKey (line + 2) + 6))) ⌝ }
+fn in_window(part: &[u8], skip: usize, key: u64, line: usize) -> bool
+    requires { ⌜ Lines skip (now part) line (line + 3) ⌝ }
+    ensures { λ r. ⌜ r ≡ (leb (keyIn skip (now (part .entry)) (firstKey line)) key && leb key (keyIn skip (now (part .entry)) (firstKey (line + 2) + 6))) ⌝ }
 {
-    (line_key(set, line, 0) <= key) & (key <= line_key(set, line + 2, 6))
+    (line_key(part, skip, line, 0) <= key) & (key <= line_key(part, skip, line + 2, 6))
 }
 
 // Which of three lines the key belongs to.
-fn window_line(set: &[u8], key: u64, n: usize, line: usize) -> usize
-    requires { ⌜ Sorted (now set) n × Bracket (now set) n key (firstKey line) (firstKey (line + 3)) ⌝ }
-    ensures { λ r. ⌜ Bracket (now (set .entry)) n key (firstKey r) (firstKey (r + 1)) ⌝ }
+fn window_line(part: &[u8], skip: usize, key: u64, first: usize, last: usize, line: usize) -> usize
+    requires { ⌜ Sorted skip (now part) first last × Bracket skip (now part) first last key (firstKey line) (firstKey (line + 3)) × Lines skip (now part) line (line + 3) ⌝ }
+    ensures { λ r. ⌜ Bracket skip (now (part .entry)) first last key (firstKey r) (firstKey (r + 1)) × Lines skip (now (part .entry)) r (r + 1) ⌝ }
 {
-    let second = pick(line_key(set, line + 1, 0) <= key, 1, 0);
-    let third = pick(line_key(set, line + 2, 0) <= key, 1, 0);
+    let second = pick(line_key(part, skip, line + 1, 0) <= key, 1, 0);
+    let third = pick(line_key(part, skip, line + 2, 0) <= key, 1, 0);
     line + second + third
 }
 
-// A plain bisection, for the keys at the end of the set, where no three whole lines are.
-fn bisect(set: &[u8], key: u64, n: usize, from: usize, end: usize) -> Found
-    requires { ⌜ Sorted (now set) n × Bracket (now set) n key from end ⌝ }
-    ensures { λ r. ⌜ Answers (now (set .entry)) key 0 n r ⌝ }
+// A plain bisection, for the keys at the ends of the part, where no three whole lines are.
+fn bisect(
+    part: &[u8],
+    skip: usize,
+    key: u64,
+    first: usize,
+    last: usize,
+    from: usize,
+    end: usize,
+) -> Found
+    requires { ⌜ Sorted skip (now part) first last × Bracket skip (now part) first last key from end ⌝ }
+    ensures { λ r. ⌜ Answers skip (now (part .entry)) key first last r ⌝ }
 {
     let mut low = from;
     let mut high = end;
     while low < high {
         let i = low + (high - low) / 2;
-        let word = blocks::key_at(set, i);
+        let word = key_at(part, skip, i);
         if word == key {
             return Found::At(i);
         }
@@ -165,28 +205,47 @@ fn back(low: usize, high: usize, step: usize) -> usize
     high - 1 - number::lesser(step, (high - low) / 2)
 }
 
+// Whether one of three lines is not wholly within the keys from `first` on and before `last`. Another key has to stand behind the lines: a
+// check word at their end, which is read too, then lies in the part.
+fn beyond(line: usize, first: usize, last: usize) -> bool
+    requires { ⌜ line + 3 ≤ maxKeys ⌝ }
+    ensures { λ r. ⌜ (r ≡ false → (first ≤ firstKey line) × (firstKey (line + 3) < last)) ⌝ }
+{
+    (first_key(line) < first) | (last <= first_key(line + 3))
+}
+
 // The line of the first guess and the two beside it are read at once, and no branch depends on which of them the key belongs to: it would
 // often be guessed wrong, and all that follows would wait for memory. Where the key belongs elsewhere, the lines next to these are read,
 // for nearly always it is close; the steps double, so that a bad guess costs no more than a bisection.
-fn search(set: &[u8], key: u64, n: usize, from: usize, end: usize, first: usize) -> Found
-    requires { ⌜ Sorted (now set) n × Bracket (now set) n key from end × (from ≤ first) × (first < end) ⌝ }
-    ensures { λ r. ⌜ Answers (now (set .entry)) key 0 n r ⌝ }
+fn search(
+    part: &[u8],
+    skip: usize,
+    key: u64,
+    first: usize,
+    last: usize,
+    from: usize,
+    end: usize,
+    guessed: usize,
+) -> Found
+    requires { ⌜ Sorted skip (now part) first last × Bracket skip (now part) first last key from end × (from ≤ guessed) × (guessed < end) ⌝ }
+    ensures { λ r. ⌜ Answers skip (now (part .entry)) key first last r ⌝ }
 {
     let mut low = from;
     let mut high = end;
-    let mut i = first;
+    let mut i = guessed;
     // Doubled once, from the end of three lines to the middle of the next three.
     let mut step = 6;
     while low < high {
         let line = line_before(i);
-        if n < first_key(line + 3) {
-            return bisect(set, key, n, low, high);
+        if beyond(line, first, last) {
+            return bisect(part, skip, key, first, last, low, high);
         }
-        if in_window(set, key, line) {
-            return in_line(set, key, n, window_line(set, key, n, line));
+        if in_window(part, skip, key, line) {
+            let found = window_line(part, skip, key, first, last, line);
+            return in_line(part, skip, key, first, last, found);
         }
         step = number::lesser(2 * step, 16777216);
-        if key < line_key(set, line, 0) {
+        if key < line_key(part, skip, line, 0) {
             high = first_key(line);
             i = back(low, high, step);
         } else {
@@ -218,15 +277,22 @@ fn guess(key: u64, shift: u32, from: usize, end: usize) -> usize
     from + fraction(key, shift) * (end - from) / 65536
 }
 
-// The line that a search for the key reads first: any line is right.
-pub fn first_line(key: u64, shift: u32, from: usize, end: usize) -> usize
+// No line: it lies behind every set.
+pub const NO_LINE: usize = 16777216;
+
+// The first of the three lines that a search for the key reads first, all of them within the keys from `first` on and before `last`.
+pub fn first_line(key: u64, shift: u32, first: usize, last: usize, from: usize, end: usize) -> usize
     requires { ⌜ (shift < 64) × (end ≤ maxKeys) ⌝ }
-    ensures { λ r. ⌜ r < maxKeys ⌝ }
+    ensures { λ r. ⌜ (r ≤ maxKeys) × WithinKeys first last r ⌝ }
 {
     if end <= from {
-        return 0;
+        return NO_LINE;
     }
-    line_before(guess(key, shift, from, end))
+    let line = line_before(guess(key, shift, from, end));
+    if beyond(line, first, last) {
+        return NO_LINE;
+    }
+    line
 }
 
 // Reads what a search reads of three lines, if they are there, so that they are near when it comes.
@@ -242,20 +308,19 @@ pub fn touch(set: &[u8], line: u32) -> u64 {
 }
 
 // A key that can stand only from key `from` on and before key `end`. The keys there are guessed to be spread evenly by their bits below `shift`.
-pub fn find(set: &[u8], key: u64, shift: u32, n: usize, from: usize, end: usize) -> Found
-    requires { ⌜ Sorted (now set) n × (shift < 64) × Bracket (now set) n key from end ⌝ }
-    ensures { λ r. ⌜ Answers (now (set .entry)) key 0 n r ⌝ }
+pub fn find(
+    part: &[u8],
+    skip: usize,
+    key: u64,
+    shift: u32,
+    first: usize,
+    last: usize,
+    from: usize,
+    end: usize,
+) -> Found
+    requires { ⌜ Sorted skip (now part) first last × (shift < 64) × Bracket skip (now part) first last key from end × (from < end) ⌝ }
+    ensures { λ r. ⌜ Answers skip (now (part .entry)) key first last r ⌝ }
 {
-    if end <= from {
-        return Found::Nothing;
-    }
-    if n < SMALL {
-        if end - from <= 2 {
-            return in_two(set, key, from, end);
-        }
-    }
-    if end - from <= 4 {
-        return in_few(set, key, from, end);
-    }
-    search(set, key, n, from, end, guess(key, shift, from, end))
+    let guessed = guess(key, shift, from, end);
+    search(part, skip, key, first, last, from, end, guessed)
 }

@@ -12,6 +12,7 @@ pub struct Header {
     pub n: usize,
     pub mask: u64,
     pub shift: u32,
+    pub finer: u32,
 }
 
 // A k-mer's code, and beside it the code of its reverse complement, so that a lookup never has to turn the letters round; and its unknown
@@ -116,15 +117,16 @@ pub fn mask(k: usize) -> u64
     MASK_LOOKUP[k]
 }
 
-pub fn header_of(k: usize, n: usize, shift: u32) -> Header
+pub fn header_of(k: usize, n: usize, shift: u32, finer: u32) -> Header
     requires { ⌜ (1 ≤ k) × (k ≤ 31) ⌝ }
-    ensures { λ r. ⌜ Shifts r × (r .k ≡ k) × (r .n ≡ n) × (r .shift ≡ shift) ⌝ }
+    ensures { λ r. ⌜ Shifts r × (r .k ≡ k) × (r .n ≡ n) × (r .shift ≡ shift) × (r .finer ≡ finer) ⌝ }
 {
     Header {
         k,
         n,
         mask: mask(k),
         shift,
+        finer,
     }
 }
 

@@ -1,8 +1,15 @@
-// A list of words written as document 01's blocks: little-endian words, 63 to a block, and check words.
+// A list of words written as document 01's blocks: little-endian words, 63 to a block, and check words; and what a maker of blocks answers.
+use refusal::Refusal;
 ghost use mathlib.Core.Path.{_≡_};
 ghost use Prim.Native.Nat.{_+_, _*_, _/_, _≤_};
 ghost use lib.ListN.{length};
 ghost use Rattle.lay.specs.Lay.{flatPut, Put, Sealed};
+
+// The length of the blocks in bytes, or why none are made.
+pub enum Made {
+    Blocks(usize),
+    Refused(Refusal),
+}
 
 // Written flat, this compiles to one store.
 fn put_flat(bytes: &mut [u8], at: usize, x: u64)

@@ -92,7 +92,7 @@ pub fn correct_lines(
         × (batchRight (now batch) ≡ true) ⌝ }
     ensures { λ r. ⌜
         Exact (corrected (setOf (now (set .entry))) (entriesOf (now (job .entry))) (10 ∷ [])
-        (given (now (set .entry)) (now (job .entry)) (now (batch .entry)) (now (output .entry)) (now (work .entry)))
+        (given (now (set .entry)) [] (now (job .entry)) (now (batch .entry)) (now (output .entry)) (now (work .entry)))
         (lines (now (batch .entry))))
         r (now (output .exit)) (now (work .exit)) ⌝ }
 {

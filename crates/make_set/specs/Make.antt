@@ -1,17 +1,13 @@
--- What the functions over a text answer, in the rules' terms.
+-- What judging a text answers, in the rules' terms.
 use Prim.Native.Nat.{ℕ}
 use mathlib.Core.Path.{_≡_}
 use mathlib.Core.Option.{none, some}
 use mathlib.Core.List.{List}
 use lib.ListN.{length}
-use Rattle.rules.specs.Refusal.{Outcome, accepted, refused}
-use Rattle.rules.specs.Blocks as Rules
 use Rattle.rules.specs.MakeSet.{textLines, textKeys, linesCheck}
 use Rattle.refusal.specs.Refusal.{refusalOf}
 use Rattle.make_set.specs.declared.Judged.{Judged}
 use Rattle.make_set.specs.declared.Judged.the-variants as Judgement
-use Rattle.make_set.specs.declared.Made.{Made}
-use Rattle.make_set.specs.declared.Made.the-variants.{Blocks, Refused}
 
 -- Checks 12 and 13: they let pass, with the number of keys; or refuse.
 abbrev pub JudgedAs : List ℕ → ℕ → ℕ → Judged → Type 0
@@ -21,12 +17,3 @@ JudgedAs text k least (Judgement.Refused r) = linesCheck k least 0 none (textLin
 abbrev pub IsRefused : Judged → Type 0
 IsRefused (Judgement.Kept n) = ⊥
 IsRefused (Judgement.Refused r) = Unit
-
--- The length of the blocks, or the refusal.
-abbrev pub outcomeOf : Made → Outcome ℕ
-outcomeOf (Blocks length) = accepted length
-outcomeOf (Refused r) = refused (refusalOf r)
-
--- What the call answers, and the buffer afterwards.
-abbrev pub madeOf : Made → List ℕ → Rules.Made
-madeOf r buffer = record { answer = outcomeOf r; buffer = buffer }

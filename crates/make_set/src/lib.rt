@@ -1,6 +1,7 @@
 // Document 02, W3: the set file made from k-mer counts as text. One walk over the lines judges and counts, a second one writes; nothing is
 // written before everything is judged.
 use kmer::Header;
+use lay::Made;
 use refusal::Refusal;
 ghost use mathlib.Core.Path.{_≡_};
 ghost use mathlib.Core.Option.{none};
@@ -12,15 +13,10 @@ ghost use Rattle.rules.specs.Blocks.{blocksFor};
 ghost use Rattle.rules.specs.MakeSet as Rules;
 ghost use Rattle.kmer.specs.Kmer.{Shifts};
 ghost use Rattle.lay.specs.Lay.{Extended};
-ghost use Rattle.make_set.specs.Make.{JudgedAs, IsRefused, madeOf};
+ghost use Rattle.lay.specs.Made.{madeOf};
+ghost use Rattle.make_set.specs.Make.{JudgedAs, IsRefused};
 
 const MAX_KEYS: usize = 16777216;
-
-// The length of the blocks in bytes, or why no set is made.
-pub enum Made {
-    Blocks(usize),
-    Refused(Refusal),
-}
 
 // How many lines are kept, or the first refusal of a line.
 enum Judged {
@@ -111,7 +107,7 @@ pub fn make_set(text: &[u8], k: u64, least: u64, blocks: &mut [u8]) -> Made
     if 31 < k {
         return Made::Refused(Refusal::Header);
     }
-    let head = kmer::header_of(k as usize, 0, 0);
+    let head = kmer::header_of(k as usize, 0, 0, 0);
     let judged = judge(text, head, least);
     let Judged::Kept(n) = judged else {
         return Made::Refused(refused(judged));

@@ -59,11 +59,11 @@ fn all_taken(whole: Whole, set: usize, job: usize, batch: usize) -> bool
 fn put_answer(set: &[u8], job: &[u8], batch: &[u8], page: &mut [u8]) -> usize
     requires { ⌜ Page [] 0 (now page) ⌝ }
     ensures { λ r. ⌜
-        Page (printedFor (correctBatch (given (now (set .entry)) (now (job .entry)) (now (batch .entry)) (zeros 32768) (zeros 65536))))
+        Page (printedFor (correctBatch (given (now (set .entry)) [] (now (job .entry)) (now (batch .entry)) (zeros 32768) (zeros 65536))))
         r (now (page .exit)) ⌝ }
 {
     let mut work = [0u8; WORK];
-    let answer = job::correct_batch(set, job, batch, &mut page[..OUTPUT], &mut work);
+    let answer = job::correct_batch(set, b"", job, batch, &mut page[..OUTPUT], &mut work);
     match answer {
         Answer::Report(report) => page::put_report(page, report),
         Answer::Refused(refusal) => page::put_refusal(page, refusal),

@@ -18,6 +18,7 @@ pub enum Refusal {
     Line(usize),
     NotRising(usize),
     TooShort,
+    Index,
 }
 
 pub fn number_of(refusal: Refusal) -> u64
@@ -38,6 +39,7 @@ pub fn number_of(refusal: Refusal) -> u64
         Refusal::Line(_) => 12,
         Refusal::NotRising(_) => 13,
         Refusal::TooShort => 14,
+        Refusal::Index => 15,
     }
 }
 
@@ -59,5 +61,6 @@ pub fn place_of(refusal: Refusal) -> u64
         Refusal::Length => 0,
         Refusal::Header => 0,
         Refusal::TooShort => 0,
+        Refusal::Index => 0,
     }
 }

@@ -53,16 +53,18 @@ fn lent_is(lent: &[u8], result: &[u8], rest: u8) -> bool {
     true
 }
 
-// Refusals 1 to 10 leave the lent bytes as they were.
+// Every refusal but 11 leaves the lent bytes as they were.
 fn rest_of(record: &[u8; 64], fill: u8) -> u8 {
     match number(record, 8) {
         1..=10 => fill,
+        15 => fill,
         _ => 0,
     }
 }
 
 fn call(
     set: &[u8],
+    index: &[u8],
     record: &[u8; 64],
     job: &[u8],
     input: &[u8],
@@ -70,13 +72,14 @@ fn call(
     work: &mut [u8],
 ) -> Answer {
     if number(record, 0) == 3 {
-        return job::correct_read(set, job, input, output, work);
+        return job::correct_read(set, index, job, input, output, work);
     }
-    job::correct_batch(set, job, input, output, work)
+    job::correct_batch(set, index, job, input, output, work)
 }
 
 pub fn call_agrees(
     set: &[u8],
+    index: &[u8],
     record: &[u8; 64],
     fill: u8,
     job: &[u8],
@@ -85,7 +88,7 @@ pub fn call_agrees(
     output: &mut [u8],
     work: &mut [u8],
 ) -> bool {
-    let answer = call(set, record, job, input, output, work);
+    let answer = call(set, index, record, job, input, output, work);
     let rest = rest_of(record, fill);
     answer_agrees(answer, record) && lent_is(output, result, rest) && lent_is(work, b"", rest)
 }

@@ -15,6 +15,8 @@ use list::read_part;
 
 const MAX_SET: usize = 8192;
 
+const MAX_INDEX: usize = 34304;
+
 const MAX_JOB: usize = 64;
 
 const MAX_INPUT: usize = 2048;
@@ -23,10 +25,22 @@ const MAX_OUTPUT: usize = 4096;
 
 const MAX_WORK: usize = 8192;
 
+// Kinds of records that are no case.
+const SET: u64 = 1;
+
+const INDEX: u64 = 5;
+
 enum Case {
     Agrees,
     Differs,
     Malformed,
+}
+
+// The lengths of the set and the index of the next case; whole if its record and they were there.
+struct Next {
+    set: usize,
+    index: usize,
+    whole: bool,
 }
 
 fn told(agrees: bool) -> Case {
@@ -35,6 +49,7 @@ fn told(agrees: bool) -> Case {
 
 fn compare(
     set: &[u8],
+    index: &[u8],
     record: &[u8; 64],
     fill: u8,
     job: &[u8],
@@ -52,6 +67,7 @@ fn compare(
     let work_end = work_part.length;
     told(call_agrees(
         set,
+        index,
         record,
         fill,
         job,
@@ -62,7 +78,7 @@ fn compare(
     ))
 }
 
-fn replay_call(set: &[u8], record: &[u8; 64], fill: u8) -> Case {
+fn replay_call(set: &[u8], index: &[u8], record: &[u8; 64], fill: u8) -> Case {
     let mut job = [0u8; MAX_JOB];
     let mut input = [0u8; MAX_INPUT];
     let mut result = [0u8; MAX_OUTPUT];
@@ -77,6 +93,7 @@ fn replay_call(set: &[u8], record: &[u8; 64], fill: u8) -> Case {
     let result_end = result_part.length;
     compare(
         set,
+        index,
         record,
         fill,
         &job[..job_end],
@@ -85,31 +102,57 @@ fn replay_call(set: &[u8], record: &[u8; 64], fill: u8) -> Case {
     )
 }
 
-fn replay_case(set: &[u8], record: &[u8; 64], fill: u8) -> Case {
+fn replay_case(set: &[u8], index: &[u8], record: &[u8; 64], fill: u8) -> Case {
     match number(record, 0) {
         2 => told(open_agrees(set, record)),
-        3..=4 => replay_call(set, record, fill),
+        3..=4 => replay_call(set, index, record, fill),
         _ => Case::Malformed,
     }
 }
 
-// Reads the record of the next case, and the set before it, if there is one; else the set stays.
-fn next_case(record: &mut [u8; 64], set: &mut [u8], length: usize) -> Part
-    requires { ⌜ Counts length (now set) ⌝ }
-    ensures { λ r. ⌜ Counts (r .length) (now (set .exit)) ⌝ }
+// If the record is of that kind, reads its bytes, which stand for the cases that follow, and the next record; else the bytes stay.
+fn next_bytes(kind: u64, record: &mut [u8; 64], bytes: &mut [u8], length: usize) -> Part
+    requires { ⌜ Counts length (now bytes) ⌝ }
+    ensures { λ r. ⌜ Counts (r .length) (now (bytes .exit)) ⌝ }
 {
-    let first = read_part(record, 64);
-    if !first.whole || number(record, 0) != 1 {
+    if number(record, 0) != kind {
         return Part {
             length: length,
-            whole: first.whole,
+            whole: true,
         };
     }
-    let part = read_part(set, number(record, 1) as usize);
-    let second = read_part(record, 64);
+    let part = read_part(bytes, number(record, 1) as usize);
+    let next = read_part(record, 64);
     Part {
         length: part.length,
-        whole: part.whole && second.whole,
+        whole: part.whole && next.whole,
+    }
+}
+
+// An index is offered until the next set.
+fn kept(record: &[u8; 64], offered: usize) -> usize {
+    if number(record, 0) == SET { 0 } else { offered }
+}
+
+// Reads the record of the next case, and before it the set and the index, if they are there; else they stay.
+fn next_case(
+    record: &mut [u8; 64],
+    set: &mut [u8],
+    length: usize,
+    index: &mut [u8],
+    offered: usize,
+) -> Next
+    requires { ⌜ Counts length (now set) ⌝ }
+    ensures { λ r. ⌜ Counts (r .set) (now (set .exit)) × Counts (r .index) (now (index .exit)) ⌝ }
+{
+    let first = read_part(record, 64);
+    let stays = part_of(index, kept(record, offered));
+    let set_part = next_bytes(SET, record, set, length);
+    let index_part = next_bytes(INDEX, record, index, stays.length);
+    Next {
+        set: set_part.length,
+        index: index_part.length,
+        whole: first.whole && set_part.whole && index_part.whole,
     }
 }
 
@@ -132,15 +175,18 @@ fn malformed(case: usize) {
 fn replay(cases: usize, fill: u8) {
     let mut set = [0u8; MAX_SET];
     let mut set_end = 0;
+    let mut index = [0u8; MAX_INDEX];
+    let mut index_end = 0;
     let mut agree = 0;
     for case in 0..cases {
         let mut record = [0u8; 64];
-        let part = next_case(&mut record, &mut set, set_end);
-        if !part.whole {
+        let next = next_case(&mut record, &mut set, set_end, &mut index, index_end);
+        if !next.whole {
             return malformed(case);
         }
-        set_end = part.length;
-        match replay_case(&set[..set_end], &record, fill) {
+        set_end = next.set;
+        index_end = next.index;
+        match replay_case(&set[..set_end], &index[..index_end], &record, fill) {
             Case::Agrees => agree += 1,
             Case::Differs => print(case, b" differs\n"),
             Case::Malformed => return malformed(case),

@@ -10,7 +10,9 @@ use Rattle.rules.specs.Refusal.{Refusal, accepted, refused, Check}
 use Rattle.rules.specs.Set.{KmerSet, opened}
 use Rattle.rules.specs.Job.{Entry, result, entriesOf}
 use Rattle.rules.specs.Counts.{Fed, sum, passesOf, allPasses}
-use Rattle.rules.specs.Calls.{Given, unchanged, noRoom, longest, tooLong, results, report, corrected, call}
+use Rattle.rules.specs.Index.{indexCheck}
+use Rattle.rules.proofs.Offered.{same-corrected}
+use Rattle.rules.specs.Calls.{Given, withoutIndex, unchanged, noRoom, longest, tooLong, results, report, corrected, call}
 
 -- ---- sums over passes
 
@@ -66,7 +68,13 @@ module _ (ending : List ℕ) (reads : List (List ℕ)) (check : Check) (g : Give
   unfolding call
   call-not-opened r e o = rw (call, e, o)
 
-  pub call-opened : (set : KmerSet) → check ≡ none → opened (g .set) ≡ accepted set
-      → call ending reads check g ≡ corrected set (entriesOf (g .job)) ending g reads
-  unfolding call
-  call-opened set e o = rw (call, e, o)
+  module _ (set : KmerSet) (e : check ≡ none) (o : opened (g .set) ≡ accepted set) where
+    pub call-index-wrong : (r : Refusal) → indexCheck set (g .index) ≡ some r → call ending reads check g ≡ unchanged g r
+    unfolding call
+    call-index-wrong r i = rw (call, e, o, i)
+
+    -- With an index that passes 15 the call corrects as without one.
+    pub call-opened : indexCheck set (g .index) ≡ none → call ending reads check g ≡ corrected set (entriesOf (g .job)) ending (withoutIndex g) reads
+    unfolding call corrected noRoom withoutIndex
+    call-opened i =
+        rw (call, e, o, i) (same-corrected (g .set) set o (g .index) i (entriesOf (g .job)) ending g reads)

@@ -10,12 +10,14 @@ use lib.Seq.{length-take-le}
 use Rattle.rules.specs.Refusal.{accepted}
 use Rattle.rules.specs.Report as Reports
 use Rattle.rules.specs.Report.{yieldOf}
-use Rattle.rules.specs.Set.{KmerSet, opened}
+use Rattle.rules.specs.Set.{KmerSet, offering, opened}
+use Rattle.rules.specs.Index.{indexCheck}
 use Rattle.rules.specs.Driver.{Pass}
 use Rattle.rules.specs.Job.{Entry, Confirmed}
 use Rattle.rules.specs.Counts.{sum, allPasses, turns, lookups, attempts, corrections}
 use Rattle.rules.specs.Calls.{Given, After, unchanged, noRoom, tooLong, results, report, corrected}
 use Rattle.rules.proofs.Demands.{ceilings}
+use Rattle.rules.proofs.Offered.{same-report}
 use Rattle.correct.specs.declared.Counts.{Counts}
 use Rattle.report.specs.declared.Report.{Report}
 use Rattle.refusal.specs.declared.Refusal.{Refusal}
@@ -109,11 +111,11 @@ module _ (set : KmerSet) (es : List Entry) (ending : List ℕ) (g : Given) (read
           e .answer ∙ ap (λ (a : After). a .answer) (corrected-fits set es ending g reads f) in
           cc
 
-  -- Demand 3, of an exact answer.
-  pub under-ceiling : (bytes : List ℕ) → opened bytes ≡ accepted set → Confirmed es → (r : Answer) {o w : List ℕ} → Exact after r o w
-      → Ceiling set es reads r
+  -- Demand 3, of an exact answer, whatever index is offered that passes 15.
+  pub under-ceiling : (bytes : List ℕ) → opened bytes ≡ accepted set → (index : List ℕ) → indexCheck set index ≡ none → Confirmed es
+      → (r : Answer) {o w : List ℕ} → Exact after r o w → Ceiling (offering index set) es reads r
   unfolding report
-  under-ceiling bytes h l (Refused r) e = tt
-  under-ceiling bytes h l (Reported r) e =
-      let is = reported r e in
-      rw (ap (λ (x : Reports.Report). x .turns) is, ap (λ (x : Reports.Report). x .lookups) is) (ceilings bytes set h es l reads)
+  under-ceiling bytes h index i l (Refused r) e = tt
+  under-ceiling bytes h index i l (Reported r) e =
+      let is = reported r e ∙ sym (same-report bytes set h index i es ending reads) in
+      rw (ap (λ (x : Reports.Report). x .turns) is, ap (λ (x : Reports.Report). x .lookups) is) (ceilings bytes set h index es l reads)

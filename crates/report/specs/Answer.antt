@@ -30,8 +30,8 @@ answerOf (Reported r) = accepted (reportOf r)
 answerOf (Refused r) = refused (refusalOf r)
 
 -- What a call is given.
-abbrev pub given : List ℕ → List ℕ → List ℕ → List ℕ → List ℕ → Given
-given set job input output work = record { set = set; job = job; input = input; output = output; work = work }
+abbrev pub given : List ℕ → List ℕ → List ℕ → List ℕ → List ℕ → List ℕ → Given
+given set index job input output work = record { set = set; index = index; job = job; input = input; output = output; work = work }
 
 -- Answer, report and each lent byte are those of the rules.
 pub record Exact (after : After) (r : Answer) (o w : List ℕ) : Type 0 where

@@ -1,16 +1,18 @@
 -- Laws of words laid out as blocks.
-use Prim.Native.Nat.{ℕ, zero, suc, _+_, _*_, _/_, _%_, _^_, _≤_, _<_}
+use Prim.Native.Nat.{ℕ, zero, suc, _+_, _*_, _-_, _/_, _%_, _^_, _≤_, _<_}
 use native.Mathlib.Omega.{arith}
 use native.Mathlib.Nat.{add-zero, mod-lt, pow-suc, div-lt-iff-lt-mul}
-use borrow.Author.Tests.{ltb-true, ltb-false}
+use native.Mathlib.Decide.{decLt}
+use borrow.Author.Tests.{lt-ltb, ltb-true, ltb-false, leb-true, eqb-true}
 use mathlib.Core.Path.{_≡_, refl, sym, ap, ap₂, _∙_}
 use mathlib.Core.Bool.{Bool, true, false}
-use mathlib.Core.List.{List, [], _∷_, _++_, append-assoc}
-use lib.Dec.{ltb, lit<}
+use mathlib.Core.List.{List, [], _∷_, _++_, append-assoc, append-nil}
+use lib.Dec.{ltb, leb, lit<}
 use lib.ListN.{length, getD, drop, replicate, length-append, List·getD-eq-default}
 use lib.Seq.{getD-drop, drop-append-add, ext-getD}
-use Rattle.rules.specs.Set.{little, word, blockWord, sumWords, check}
-use Rattle.rules.specs.Blocks.{bytesOf, wordsFrom, sumOf, checkOf, blockOf, blocksFrom}
+use Rattle.rules.specs.Refusal.{Refusal, accepted, refused}
+use Rattle.rules.specs.Set.{little, word, blockWord, sumWords, check, checkRight}
+use Rattle.rules.specs.Blocks.{bytesOf, wordsFrom, sumOf, checkOf, blockOf, blocksFrom, unmade, fits, filled, laidInto}
 
 -- ---- numbers of bytes
 
@@ -215,3 +217,98 @@ sum-is bytes words b (suc m) f = ap₂ (λ (x y : ℕ). x + y) (sum-is bytes wor
 pub check-is : (bytes words : List ℕ) (b : ℕ) → ((i : ℕ) → i < 63 → blockWord bytes b i ≡ getD words (63 * b + i) 0) → check bytes b ≡ checkOf words b
 unfolding check checkOf
 check-is bytes words b f = ap (λ (n : ℕ). (n + b + 1) % 2 ^ 64) (sum-is bytes words b 63 f)
+
+-- ---- the blocks of a list of words
+
+module _ (words : List ℕ) (w : Words words) (m : ℕ) (few : length words ≤ 63 * m) where
+  laid-at : (b i : ℕ) → b < m → i < 64 → blockWord (blocksFrom words 0 m) b i ≡ laidWord words b i
+  laid-at b i l g =
+      let e : 0 + b ≡ b = omega arith in
+      rw (append-nil (blocksFrom words 0 m), e) at (blocks-word words w 0 m [] b i l g)
+
+  pub blocks-at : (b i : ℕ) → b < m → i < 63 → blockWord (blocksFrom words 0 m) b i ≡ getD words (63 * b + i) 0
+  unfolding laidWord
+  blocks-at b i l g = laid-at b i l (omega arith) ∙ rw (lt-ltb i 63 g, laidWord)
+
+  -- The check words of blocks are right.
+  pub blocks-checked : (b : ℕ) → b < m → blockWord (blocksFrom words 0 m) b 63 ≡ check (blocksFrom words 0 m) b
+  unfolding laidWord
+  blocks-checked b l = laid-at b 63 l (lit< tt) ∙ sym (check-is (blocksFrom words 0 m) words b (λ i g. blocks-at b i l g))
+
+  -- Word v of the list; behind its end zero, and behind the blocks' end too.
+  pub blocks-listed : (v : ℕ) → blockWord (blocksFrom words 0 m) (v / 63) (v % 63) ≡ getD words v 0
+  unfolding blockWord
+  blocks-listed v = go (decLt (v / 63) m)
+    where
+      go : Dec (v / 63 < m) → word (blocksFrom words 0 m) (64 * (v / 63) + v % 63) ≡ getD words v 0
+      go (yes l) =
+          let at : 63 * (v / 63) + v % 63 ≡ v = omega arith in
+          blocks-at (v / 63) (v % 63) l (mod-lt v (lit< tt)) ∙ ap (λ (j : ℕ). getD words j 0) at
+      go (no f) =
+          word-after (blocksFrom words 0 m) (64 * (v / 63) + v % 63) (omega (arith, blocks-length words 0 m))
+          ∙ sym (List·getD-eq-default words 0 {n = v} (omega arith))
+
+  -- Bytes as many as the blocks have, with their words and right check words, are the blocks.
+  module _ (bytes : List ℕ) (small : Bytes bytes) (size : length bytes ≡ 512 * m)
+      (listed : (b i : ℕ) → b < m → i < 63 → blockWord bytes b i ≡ getD words (63 * b + i) 0)
+      (checked : (b : ℕ) → b < m → checkRight bytes b ≡ true) where
+    same-block : (b i : ℕ) → b < m → i < 64 → blockWord bytes b i ≡ laidWord words b i
+    unfolding laidWord checkRight
+    same-block b i l g = go (ltb i 63) refl
+      where
+        go : (t : Bool) → ltb i 63 ≡ t → blockWord bytes b i ≡ elim t [ true ↦ getD words (63 * b + i) 0 | false ↦ checkOf words b ]
+        go true e = listed b i l (ltb-true i 63 e)
+        go false e =
+            let at : i ≡ 63 = omega (arith, ltb-false i 63 e) in
+            ap (blockWord bytes b) at ∙ eqb-true _ _ (checked b l) ∙ check-is bytes words b (λ j n. listed b j l n)
+
+    same-word : (j : ℕ) → word bytes j ≡ word (blocksFrom words 0 m) j
+    unfolding blockWord
+    same-word j = go (decLt (j / 64) m)
+      where
+        at : 64 * (j / 64) + j % 64 ≡ j
+        at = omega arith
+
+        go : Dec (j / 64 < m) → word bytes j ≡ word (blocksFrom words 0 m) j
+        go (yes l) =
+            let in-block : j % 64 < 64 = mod-lt j (lit< tt) in
+            rw at at (same-block (j / 64) (j % 64) l in-block ∙ sym (laid-at (j / 64) (j % 64) l in-block))
+        go (no f) = word-after bytes j (omega arith) ∙ sym (word-after (blocksFrom words 0 m) j (omega (arith, blocks-length words 0 m)))
+
+    pub blocks-are : bytes ≡ blocksFrom words 0 m
+    blocks-are = ext-words bytes (blocksFrom words 0 m) (size ∙ sym (blocks-length words 0 m)) small (blocks-bytes words 0 m) same-word
+
+-- ---- what a maker leaves
+
+-- Accepted: how long the blocks are, that there is room for them, and every byte of the buffer.
+pub record Into (buffer bytes : List ℕ) (size : ℕ) (after : List ℕ) : Type 0 where
+  pub long : length bytes ≡ size
+  pub room : size ≤ length buffer
+  pub buffer-is : after ≡ bytes ++ replicate (length buffer - size) 0
+
+module _ (buffer bytes : List ℕ) where
+  pub into-accepted : (size : ℕ) → laidInto buffer bytes .answer ≡ accepted size → Into buffer bytes size (laidInto buffer bytes .buffer)
+  unfolding laidInto unmade fits filled
+  into-accepted size h = go (leb (length bytes) (length buffer)) refl
+    where
+      go : (t : Bool) → leb (length bytes) (length buffer) ≡ t → Into buffer bytes size (laidInto buffer bytes .buffer)
+      go true e =
+          let a : accepted (length bytes) ≡ accepted size = rw (e, laidInto) at h in
+          let l : length bytes ≡ size = cc in
+          record {
+            long = l;
+            room = omega (arith, leb-true (length bytes) (length buffer) e);
+            buffer-is = rw (e, laidInto) (ap (λ (n : ℕ). bytes ++ replicate (length buffer - n) 0) l);
+          }
+      go false e =
+          absurd (let a : refused (record { number = 14; place = 0 }) ≡ accepted size = rw (e, laidInto) at h in let z : _≡_ {A = ℕ} 0 1 = cc in omega arith)
+
+  -- A refusal leaves the buffer unchanged.
+  pub into-refused : (r : Refusal) → laidInto buffer bytes .answer ≡ refused r → laidInto buffer bytes .buffer ≡ buffer
+  unfolding laidInto unmade fits
+  into-refused r h = go (leb (length bytes) (length buffer)) refl
+    where
+      go : (t : Bool) → leb (length bytes) (length buffer) ≡ t → laidInto buffer bytes .buffer ≡ buffer
+      go true e =
+          absurd (let a : accepted (length bytes) ≡ refused r = rw (e, laidInto) at h in let z : _≡_ {A = ℕ} 0 1 = cc in omega arith)
+      go false e = rw (e, laidInto)

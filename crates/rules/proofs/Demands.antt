@@ -1,4 +1,4 @@
--- What the papers ask to be proved of the rules: of every set that opens, every list of entries with confirms from 1, every list of reads.
+-- What the papers ask to be proved of the rules: of every set that opens, every index offered with it, every list of entries with confirms from 1, every list of reads.
 use Prim.Native.Nat.{ℕ, zero, suc, _+_, _*_, _-_, _%_, _≤_, _<_}
 use native.Mathlib.Omega.{arith}
 use borrow.Author.Tests.{ltb-true, ltb-false}
@@ -10,7 +10,7 @@ use lib.ListN.{length, take}
 use lib.Dec.{ltb}
 use Rattle.rules.specs.Letters.{Kmer, allKnown, same, addBase}
 use Rattle.rules.specs.Refusal.{accepted}
-use Rattle.rules.specs.Set.{KmerSet, solid, opened}
+use Rattle.rules.specs.Set.{KmerSet, offering, solid, opened}
 use Rattle.rules.specs.Counted.{Try, refuse}
 use Rattle.rules.specs.Scan.{ask, alternative, errorLen}
 use Rattle.rules.specs.Graph.{All, also, start, walk, walkFrom, Exactly}
@@ -28,14 +28,14 @@ use Rattle.rules.proofs.Exactly.{no-chain, x-good, graph-exactly, gapSi
 
 -- ---- every method is fair to its F
 
-fair-at : (j : ℕ) (keys : List ℕ) (c′ : ℕ) (m : Method)
-    → (let set : KmerSet = record { k = suc j; keys = keys } in Fair (suc j) (solid set) (correctError set (suc c′) m) (F set (suc c′) m))
+fair-at : (j : ℕ) (keys index : List ℕ) (c′ : ℕ) (m : Method)
+    → (let set : KmerSet = record { k = suc j; keys = keys; index = index } in Fair (suc j) (solid set) (correctError set (suc c′) m) (F set (suc c′) m))
 unfolding F correctError
-fair-at j keys c′ One = one-fair j (solid (record { k = suc j; keys = keys })) c′ _ (omega arith)
-fair-at j keys c′ Two = two-fair j (solid (record { k = suc j; keys = keys })) c′ _ (omega arith)
-fair-at j keys c′ Graph = graph-fair (suc j) (length keys) (solid (record { k = suc j; keys = keys })) _ (omega arith)
-fair-at j keys c′ GapSize =
-    gap-fair j (length keys) (solid (record { k = suc j; keys = keys })) c′ (few (record { k = suc j; keys = keys })) _ (omega arith)
+fair-at j keys index c′ One = one-fair j (solid (record { k = suc j; keys = keys; index = index })) c′ _ (omega arith)
+fair-at j keys index c′ Two = two-fair j (solid (record { k = suc j; keys = keys; index = index })) c′ _ (omega arith)
+fair-at j keys index c′ Graph = graph-fair (suc j) (length keys) (solid (record { k = suc j; keys = keys; index = index })) _ (omega arith)
+fair-at j keys index c′ GapSize =
+    gap-fair j (length keys) (solid (record { k = suc j; keys = keys; index = index })) c′ (few (record { k = suc j; keys = keys; index = index })) _ (omega arith)
 
 pub fair : (set : KmerSet) → 1 ≤ set .k → (c : ℕ) → 1 ≤ c → (m : Method) → Fair (set .k) (solid set) (correctError set c m) (F set c m)
 fair set lk c lc m = go (set .k) c refl refl lk lc
@@ -44,10 +44,10 @@ fair set lk c lc m = go (set .k) c refl refl lk lc
     go zero c₁ e f p q = absurd (omega arith)
     go (suc j) zero e f p q = absurd (omega arith)
     go (suc j) (suc c′) e f p q =
-        let same : set ≡ record { k = suc j; keys = set .keys } = λ i. record { k = e i; keys = set .keys } in
+        let same : set ≡ record { k = suc j; keys = set .keys; index = set .index } = λ i. record { k = e i; keys = set .keys; index = set .index } in
         subst (λ (s : KmerSet). Fair (s .k) (solid s) (correctError s c m) (F s c m)) (sym same)
-        (subst (λ (d : ℕ). Fair (suc j) (solid (record { k = suc j; keys = set .keys })) (correctError (record { k = suc j; keys = set .keys }) d m)
-        (F (record { k = suc j; keys = set .keys }) d m)) (sym f) (fair-at j (set .keys) c′ m))
+        (subst (λ (d : ℕ). Fair (suc j) (solid (record { k = suc j; keys = set .keys; index = set .index })) (correctError (record { k = suc j; keys = set .keys; index = set .index }) d m)
+        (F (record { k = suc j; keys = set .keys; index = set .index }) d m)) (sym f) (fair-at j (set .keys) (set .index) c′ m))
 
 pub steady : (set : KmerSet) → 1 ≤ set .k → (c : ℕ) → 1 ≤ c → (m : Method) → Steady (set .k) (solid set) (correctError set c m)
 steady set lk c lc m = fair-steady (set .k) (solid set) (correctError set c m) (F set c m) (fair set lk c lc m)
@@ -62,8 +62,11 @@ unfolding sum
 sum-twice f [] = refl
 sum-twice f (p ∷ ps) = let i = sum-twice f ps in omega arith
 
--- A set that opens.
-module _ (bytes : List ℕ) (set : KmerSet) (o : opened bytes ≡ accepted set) where
+-- A set that opens, with whatever index is offered.
+module _ (bytes : List ℕ) (file : KmerSet) (o : opened bytes ≡ accepted file) (index : List ℕ) where
+  abbrev set : KmerSet
+  set = offering index file
+
   abbrev k : ℕ
   k = set .k
 
@@ -71,7 +74,8 @@ module _ (bytes : List ℕ) (set : KmerSet) (o : opened bytes ≡ accepted set) 
   n = length (set .keys)
 
   k-pos : 1 ≤ k
-  k-pos = let odd = opened-odd bytes set o in positive k odd
+  unfolding offering
+  k-pos = let odd = opened-odd bytes file o in positive (file .k) odd
     where
       positive : (k′ : ℕ) → k′ % 2 ≡ 1 → 1 ≤ k′
       positive zero e = absurd (omega arith)

@@ -5,10 +5,11 @@ use borrow.Author.Tests.{eqb-true, eqb-false, eq-eqb}
 use mathlib.Core.Path.{_≡_, refl, sym, ap, _∙_, subst}
 use mathlib.Core.Bool.{Bool, true, false, _||_, true≢false, false≢true}
 use mathlib.Core.List.{List, [], _∷_, _++_, map}
-use lib.ListN.{length, length-append, length-map}
+use lib.ListN.{length, take, drop, length-append, length-map, take-append-drop}
+use lib.Seq.{slice}
 use lib.Dec.{eqb}
 use Rattle.rules.specs.Letters.{Kmer, among, same, met, revcomp, evenOnes, canonical}
-use Rattle.rules.specs.Set.{KmerSet, solid}
+use Rattle.rules.specs.Set.{KmerSet, rangeStart, rangeEnd, keysFor, solid}
 use Rattle.rules.specs.Scan.{ask}
 use Rattle.rules.specs.Graph.{All, end, also, Distinct, also-distinct}
 use Rattle.rules.proofs.Kmer.{Known, same-code, revcomp-twice}
@@ -88,6 +89,17 @@ unfolding among
 among-right y [] bs h = h
 among-right y (a ∷ us) bs h = or-right (eqb y a) (among-right y us bs h)
 
+-- what stands in a part of a list stands in it
+among-part : (y lo hi : ℕ) (us : List ℕ) → among y (slice lo hi us) ≡ true → among y us ≡ true
+among-part y lo hi us h = below (behind h)
+  where
+    behind : among y (slice lo hi us) ≡ true → among y (take hi us) ≡ true
+    behind g =
+        subst (λ (ws : List ℕ). among y ws ≡ true) (take-append-drop lo (take hi us)) (among-right y (take lo (take hi us)) (slice lo hi us) g)
+
+    below : among y (take hi us) ≡ true → among y us ≡ true
+    below g = subst (λ (ws : List ℕ). among y ws ≡ true) (take-append-drop hi us) (among-left y (take hi us) (drop hi us) g)
+
 among-map : (f : ℕ → ℕ) (y : ℕ) (us : List ℕ) → among y us ≡ true → among (f y) (map f us) ≡ true
 unfolding among
 among-map f y [] h = absurd (false≢true h)
@@ -105,17 +117,30 @@ SolidKmer k sol y = (y .code < 4 ^ k) × (ask sol y .answer ≡ true)
 unfoldable pub Few : ℕ → ℕ → (ℕ → Bool) → Type 0
 Few k n sol = (ys : List Kmer) → Distinct ys → All (SolidKmer k sol) ys → length ys ≤ 2 * n
 
+-- only keys are looked at
+looked-at : (k : ℕ) (keys index : List ℕ) (y key : ℕ) → among y (keysFor (record { k = k; keys = keys; index = index }) key) ≡ true → among y keys ≡ true
+unfolding keysFor
+looked-at k keys [] y key h = h
+looked-at k keys (b ∷ bs) y key h =
+    let s : KmerSet = record { k = k; keys = keys; index = b ∷ bs } in
+    among-part y (rangeStart s key) (rangeEnd s key) keys h
+
 module _ (set : KmerSet) where
   -- the keys, and their reverse complements
   both : List ℕ
   both = set .keys ++ map (revcomp (set .k)) (set .keys)
 
+  -- a solid code's canonical code is a key, whatever index is offered
+  pub solid-among : (y : ℕ) → solid set y ≡ true → among (canonical (set .k) y) (set .keys) ≡ true
+  unfolding solid
+  solid-among y h = looked-at (set .k) (set .keys) (set .index) (canonical (set .k) y) _ h
+
   covers : (y : ℕ) → y < 4 ^ set .k → solid set y ≡ true → among y both ≡ true
-  unfolding solid canonical both
+  unfolding canonical both
   covers y lt h = go (evenOnes (set .k) y) refl
     where
       key : among (canonical (set .k) y) (set .keys) ≡ true
-      key = h
+      key = solid-among y h
 
       go : (t : Bool) → evenOnes (set .k) y ≡ t → among y both ≡ true
       go true e = among-left y (set .keys) (map (revcomp (set .k)) (set .keys)) (rw (e, canonical) at key)

@@ -19,4 +19,7 @@ pub mod Keys
 pub mod Blocks
 pub mod MakeSet
 pub mod MakeSamples
+pub mod Index
+pub mod IndexSamples
+pub mod Offered
 pub mod Demands

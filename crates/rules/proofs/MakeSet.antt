@@ -1,25 +1,25 @@
 -- The blocks of a list of keys open as that set, and so do those that an accepted call writes.
 use Prim.Native.Nat.{ℕ, zero, suc, _+_, _*_, _-_, _/_, _%_, _^_, _≤_, _<_}
 use native.Mathlib.Omega.{arith}
-use native.Mathlib.Nat.{mod-lt, pow-le-pow-right}
+use native.Mathlib.Nat.{pow-le-pow-right}
 use native.Mathlib.Decide.{decLt}
-use borrow.Author.Tests.{eq-eqb, lt-ltb, le-ltb, le-leb, eqb-true, leb-true, ltb-true, ltb-false, ne-eqb}
+use borrow.Author.Tests.{eq-eqb, lt-ltb, le-ltb, le-leb, eqb-true, leb-true, ne-eqb}
 use mathlib.Core.Path.{_≡_, refl, sym, ap, ap₂, _∙_}
-use mathlib.Core.Bool.{Bool, true, false, _&&_, _||_, not, false≢true}
+use mathlib.Core.Bool.{Bool, true, false, _||_, not, false≢true}
 use mathlib.Core.Option.{Option, none, some}
-use mathlib.Core.List.{List, [], _∷_, _++_, append-nil}
+use mathlib.Core.List.{List, [], _∷_, _++_}
 use lib.Dec.{eqb, ltb, leb, leb·zero, lit<, lit≤}
 use lib.ListN.{length, getD, take, drop, replicate, length-append, List·getD-append, List·getD-eq-default, drop-of-length-le}
 use lib.Seq.{getD-append-add, drop-cons, take-at}
 use Rattle.rules.specs.Letters.{Kmer, add, addAll, kmer, canonical, evenOnes, revcomp, code}
 use Rattle.rules.specs.Refusal.{Refusal, accepted, refused, Check, _orElse_, unless, atPlace, firstFailing}
-use Rattle.rules.specs.Set.{KmerSet, maxK, maxKeys, kRight, word, blockWord, blocks, headerK, headerN, keyWord, keysFrom, setOf, check, lengthRight, checkRight, isNone, headerRight, keyRight, setCheck, opened}
-use Rattle.rules.specs.Blocks.{blocksFrom, blocksFor, checkOf, unmade, fits, filled, laidInto}
+use Rattle.rules.specs.Set.{KmerSet, maxK, maxKeys, kRight, blockWord, blocks, headerK, headerN, keyWord, keysFrom, setOf, lengthRight, checkRight, isNone, headerRight, keyRight, setCheck, opened}
+use Rattle.rules.specs.Blocks.{blocksFrom, blocksFor, unmade}
 use Rattle.rules.specs.MakeSet.{Keys, textLines, kept, keptLines, formRight, lineKey, lineKeys, textKeys, unlessAt, risesFrom, lineCheck, lastKept, linesCheck, setWords, setBlocks, textCheck, makeSet}
 use Rattle.rules.proofs.Kmer.{four-pos, add-lt, revcomp-lt, canonical-one}
 use Rattle.rules.proofs.Opened.{both, passed, unless-passed, checked, opened-check, opened-set}
 use Rattle.rules.proofs.Keys.{none-fails, keys-length, keys-at, the-header, spare-zero, checked-keys}
-use Rattle.rules.proofs.Blocks.{Bytes, Words, ext-words, zeros-at, word-after, laidWord, blocks-length, blocks-bytes, blocks-word, check-is}
+use Rattle.rules.proofs.Blocks.{Bytes, Words, zeros-at, blocks-length, blocks-at, blocks-checked, blocks-are, Into, into-accepted, into-refused}
 
 -- Tests that all hold.
 pub none-failing : (ok : ℕ → Bool) (i m : ℕ) → ((j : ℕ) → i ≤ j → j < i + m → ok j ≡ true) → firstFailing ok i m ≡ none
@@ -87,15 +87,13 @@ module _ (k : ℕ) (keys : List ℕ) (h : Keys k keys) where
   count : ℕ
   count = 1 + blocksFor n
 
-  at : (c i : ℕ) → c < count → i < 64 → blockWord bytes c i ≡ laidWord (setWords k keys) c i
-  unfolding bytes setBlocks count n
-  at c i l g =
-      let e : 0 + c ≡ c = omega arith in
-      rw (append-nil (blocksFrom (setWords k keys) 0 count), e) at (blocks-word (setWords k keys) (set-words k keys h) 0 count [] c i l g)
+  long : length (setWords k keys) ≤ 63 * count
+  unfolding count n
+  long = omega (arith, set-length k keys)
 
   listed : (c i : ℕ) → c < count → i < 63 → blockWord bytes c i ≡ getD (setWords k keys) (63 * c + i) 0
-  unfolding laidWord
-  listed c i l g = at c i l (omega arith) ∙ rw (lt-ltb i 63 g, laidWord)
+  unfolding bytes setBlocks count n
+  listed = blocks-at (setWords k keys) (set-words k keys h) count long
 
   size : blocks bytes ≡ count
   unfolding bytes setBlocks blocks count n
@@ -111,11 +109,11 @@ module _ (k : ℕ) (keys : List ℕ) (h : Keys k keys) where
       )
 
   checks : firstFailing (checkRight bytes) 0 (blocks bytes) ≡ none
-  unfolding checkRight laidWord
-  checks = rw size (none-failing (checkRight bytes) 0 count (λ b l g. eq-eqb _ _ (right b (omega arith))))
-    where
-      right : (b : ℕ) → b < count → blockWord bytes b 63 ≡ check bytes b
-      right b g = at b 63 g (lit< tt) ∙ sym (check-is bytes (setWords k keys) b (λ i l. listed b i g l))
+  unfolding checkRight bytes setBlocks count n
+  checks =
+      rw size
+      (none-failing (checkRight bytes) 0 count
+      (λ b l g. eq-eqb _ _ (blocks-checked (setWords k keys) (set-words k keys h) count long b (omega arith))))
 
   k-is : headerK bytes ≡ k
   unfolding headerK setWords count
@@ -187,7 +185,7 @@ module _ (k : ℕ) (keys : List ℕ) (h : Keys k keys) where
       let e : 63 * (1 + blocksFor n - 1) ≡ 63 * blocksFor n = omega arith in
       rw (size, e) (none-failing (keyRight bytes) 0 (63 * blocksFor n) (λ i l g. right-key i (omega arith)))
 
-  set-is : setOf bytes ≡ record { k = k; keys = keys }
+  set-is : setOf bytes ≡ record { k = k; keys = keys; index = [] }
   unfolding setOf n
   set-is =
       rw (k-is, n-is, keys-are bytes keys (λ i l. key-is i (omega arith)) 0 (length keys) (omega arith))
@@ -197,7 +195,7 @@ module _ (k : ℕ) (keys : List ℕ) (h : Keys k keys) where
   checks-none = rw (size-right, checks, header, right-keys)
 
   -- The blocks of rising canonical keys below 4^k open, with exactly that k and those keys.
-  pub set-opens : opened (setBlocks k keys) ≡ accepted (record { k = k; keys = keys })
+  pub set-opens : opened (setBlocks k keys) ≡ accepted (record { k = k; keys = keys; index = [] })
   unfolding bytes opened
   set-opens = rw (checks-none, opened) (ap accepted set-is)
 
@@ -324,64 +322,36 @@ text-keys text k least h =
 
 -- ---- the call
 
--- A call that is accepted: no check refused, the buffer is long enough, and what stands in it.
+-- A call that is accepted: no check refused, and what it leaves.
 pub record Laid (text : List ℕ) (k least : ℕ) (buffer : List ℕ) (size : ℕ) : Type 0 where
   pub checks : textCheck text k least ≡ none
-  pub long : length (setBlocks k (textKeys k least text)) ≡ size
-  pub room : size ≤ length buffer
-  pub buffer-is : makeSet text k least buffer .buffer ≡ setBlocks k (textKeys k least text) ++ replicate (length buffer - size) 0
+  pub into : Into buffer (setBlocks k (textKeys k least text)) size (makeSet text k least buffer .buffer)
 
 pub made-laid : (text : List ℕ) (k least : ℕ) (buffer : List ℕ) (size : ℕ) → makeSet text k least buffer .answer ≡ accepted size
     → Laid text k least buffer size
-unfolding makeSet laidInto unmade fits filled
+unfolding makeSet unmade
 made-laid text k least buffer size h = go (textCheck text k least) refl
   where
-    bytes : List ℕ
-    bytes = setBlocks k (textKeys k least text)
-
-    not-refused : {r : Refusal} → refused r ≡ accepted size → ⊥
-    not-refused e = let z : _≡_ {A = ℕ} 0 1 = cc in omega arith
-
-    laid : textCheck text k least ≡ none → (t : Bool) → leb (length bytes) (length buffer) ≡ t → Laid text k least buffer size
-    laid e true f =
-        let g : accepted (length bytes) ≡ accepted size = rw (e, makeSet, f, laidInto) at h in
-        let l : length bytes ≡ size = cc in
-        record {
-          checks = e;
-          long = l;
-          room = omega (arith, leb-true (length bytes) (length buffer) f);
-          buffer-is = rw (e, makeSet, f, laidInto) (ap (λ (m : ℕ). bytes ++ replicate (length buffer - m) 0) l);
-        }
-    laid e false f = absurd (not-refused (rw (e, makeSet, f, laidInto) at h))
-
     go : (c : Check) → textCheck text k least ≡ c → Laid text k least buffer size
-    go none e = laid e (leb (length bytes) (length buffer)) refl
-    go (some r) e = absurd (not-refused (rw (e, makeSet) at h))
+    go none e = record { checks = e; into = rw (e, makeSet) (into-accepted buffer (setBlocks k (textKeys k least text)) size (rw (e, makeSet) at h)) }
+    go (some r) e = absurd (let a : refused r ≡ accepted size = rw (e, makeSet) at h in let z : _≡_ {A = ℕ} 0 1 = cc in omega arith)
 
 -- What an accepted call writes opens with exactly the kept lines' keys in order.
 pub made-opens : (text : List ℕ) (k least : ℕ) (buffer : List ℕ) (size : ℕ) → makeSet text k least buffer .answer ≡ accepted size
-    → opened (take size (makeSet text k least buffer .buffer)) ≡ accepted (record { k = k; keys = textKeys k least text })
+    → opened (take size (makeSet text k least buffer .buffer)) ≡ accepted (record { k = k; keys = textKeys k least text; index = [] })
 made-opens text k least buffer size h =
     let l = made-laid text k least buffer size h in
-    rw (l .buffer-is, take-at (setBlocks k (textKeys k least text)) (replicate (length buffer - size) 0) size (l .long))
+    rw (l .into .buffer-is, take-at (setBlocks k (textKeys k least text)) (replicate (length buffer - size) 0) size (l .into .long))
     (set-opens k (textKeys k least text) (text-keys text k least (l .checks)))
 
 -- A refusal leaves the buffer unchanged.
 pub refused-unchanged : (text : List ℕ) (k least : ℕ) (buffer : List ℕ) (r : Refusal) → makeSet text k least buffer .answer ≡ refused r
     → makeSet text k least buffer .buffer ≡ buffer
-unfolding makeSet laidInto unmade fits
+unfolding makeSet unmade
 refused-unchanged text k least buffer r h = go (textCheck text k least) refl
   where
-    bytes : List ℕ
-    bytes = setBlocks k (textKeys k least text)
-
-    laid : textCheck text k least ≡ none → (t : Bool) → leb (length bytes) (length buffer) ≡ t → makeSet text k least buffer .buffer ≡ buffer
-    laid e true f =
-        absurd (let g : accepted (length bytes) ≡ refused r = rw (e, makeSet, f, laidInto) at h in let z : _≡_ {A = ℕ} 0 1 = cc in omega arith)
-    laid e false f = rw (e, makeSet, f, laidInto)
-
     go : (c : Check) → textCheck text k least ≡ c → makeSet text k least buffer .buffer ≡ buffer
-    go none e = laid e (leb (length bytes) (length buffer)) refl
+    go none e = rw (e, makeSet) (into-refused buffer (setBlocks k (textKeys k least text)) r (rw (e, makeSet) at h))
     go (some q) e = rw (e, makeSet)
 
 -- ---- and back
@@ -442,50 +412,19 @@ module _ (bytes : List ℕ) (small : Bytes bytes) (h : setCheck bytes ≡ none) 
       let w : keyWord bytes (63 * b + i) ≡ blockWord bytes (suc b) i = rw (d, m, f) in
       sym w ∙ own-key (63 * b + i) (omega arith) ∙ sym (ap (λ (j : ℕ). getD (setWords (headerK bytes) own-keys) j 0) e ∙ set-word (headerK bytes) own-keys (63 * b + i))
 
-  own-block : (b i : ℕ) → b < own-count → i < 64 → blockWord bytes b i ≡ laidWord (setWords (headerK bytes) own-keys) b i
-  unfolding laidWord checkRight own-count
-  own-block b i l g = go (ltb i 63) refl
-    where
-      right : blockWord bytes b 63 ≡ check bytes b
-      right =
-          eqb-true _ _ (none-fails (checkRight bytes) 0 (blocks bytes) (checked bytes h .checks-right) b (omega arith) (omega (arith, the-header bytes h .count)))
+  own-check : (b : ℕ) → b < own-count → checkRight bytes b ≡ true
+  unfolding own-count
+  own-check b l = none-fails (checkRight bytes) 0 (blocks bytes) (checked bytes h .checks-right) b (omega arith) (omega (arith, the-header bytes h .count))
 
-      go : (t : Bool) → ltb i 63 ≡ t
-          → blockWord bytes b i ≡ elim t [ true ↦ getD (setWords (headerK bytes) own-keys) (63 * b + i) 0 | false ↦ checkOf (setWords (headerK bytes) own-keys) b ]
-      go true e = own-listed b i l (ltb-true i 63 e)
-      go false e =
-          let at : i ≡ 63 = omega (arith, ltb-false i 63 e) in
-          ap (blockWord bytes b) at ∙ right ∙ check-is bytes (setWords (headerK bytes) own-keys) b (λ j m. own-listed b j l m)
-
-  own-blocks : List ℕ
-  own-blocks = blocksFrom (setWords (headerK bytes) own-keys) 0 own-count
-
-  own-word : (j : ℕ) → word bytes j ≡ word own-blocks j
-  unfolding own-blocks blockWord
-  own-word j = go (decLt (j / 64) own-count)
-    where
-      at : 64 * (j / 64) + j % 64 ≡ j
-      at = omega arith
-
-      go : Dec (j / 64 < own-count) → word bytes j ≡ word (blocksFrom (setWords (headerK bytes) own-keys) 0 own-count) j
-      go (yes l) =
-          let z : 0 + j / 64 ≡ j / 64 = omega arith in
-          let laid = blocks-word (setWords (headerK bytes) own-keys) own-words 0 own-count [] (j / 64) (j % 64) l (mod-lt j (lit< tt)) in
-          let there : word (blocksFrom (setWords (headerK bytes) own-keys) 0 own-count) (64 * (j / 64) + j % 64) ≡ laidWord (setWords (headerK bytes) own-keys) (j / 64) (j % 64) =
-          rw (append-nil (blocksFrom (setWords (headerK bytes) own-keys) 0 own-count), z) at laid in
-          ap (word bytes) (sym at) ∙ own-block (j / 64) (j % 64) l (mod-lt j (lit< tt)) ∙ sym there
-          ∙ ap (word (blocksFrom (setWords (headerK bytes) own-keys) 0 own-count)) at
-      go (no f) =
-          word-after bytes j (omega (arith, own-length))
-          ∙ sym (word-after (blocksFrom (setWords (headerK bytes) own-keys) 0 own-count) j (omega (arith, blocks-length (setWords (headerK bytes) own-keys) 0 own-count)))
+  own-few : length (setWords (headerK bytes) own-keys) ≤ 63 * own-count
+  unfolding own-count
+  own-few = omega (arith, set-length (headerK bytes) own-keys, own-n)
 
   pub checked-blocks : bytes ≡ setBlocks (headerK bytes) (keysFrom bytes 0 (headerN bytes))
-  unfolding setBlocks own-keys own-blocks own-count
+  unfolding setBlocks own-keys own-count
   checked-blocks =
-      let e : own-blocks ≡ setBlocks (headerK bytes) (keysFrom bytes 0 (headerN bytes)) =
-      ap (λ (n : ℕ). blocksFrom (setWords (headerK bytes) own-keys) 0 (1 + blocksFor n)) (sym own-n) in
-      ext-words bytes own-blocks (own-length ∙ sym (blocks-length (setWords (headerK bytes) own-keys) 0 own-count)) small
-      (blocks-bytes (setWords (headerK bytes) own-keys) 0 own-count) own-word ∙ e
+      blocks-are (setWords (headerK bytes) own-keys) own-words own-count own-few bytes small own-length own-listed own-check
+      ∙ ap (λ (n : ℕ). blocksFrom (setWords (headerK bytes) own-keys) 0 (1 + blocksFor n)) (sym own-n)
 
 -- Bytes below 256 that open are the blocks of their own k and keys, so there is one set file for each set.
 pub opened-blocks : (bytes : List ℕ) → Bytes bytes → (set : KmerSet) → opened bytes ≡ accepted set → bytes ≡ setBlocks (set .k) (set .keys)

@@ -96,8 +96,8 @@ sampleOpens = (refl, refl, refl)
 -- ---- calls
 
 -- A call on a set's bytes: job and input, and the lengths of output and work, both filled with 1.
-pub given : List ℕ → List ℕ → List ℕ → ℕ → ℕ → Given
-given bytes job input out work = record { set = bytes; job = job; input = input; output = replicate out 1; work = replicate work 1 }
+unfoldable pub given : List ℕ → List ℕ → List ℕ → ℕ → ℕ → Given
+given bytes job input out work = record { set = bytes; index = []; job = job; input = input; output = replicate out 1; work = replicate work 1 }
 
 -- Job 3, 1 with lines AACGCCG and AA: both lines, 1 turn, 21 lookups, 11 bytes, and zeros behind them.
 pub printedCase :
@@ -122,7 +122,7 @@ unfolding correctBatch given sampleBytes
 bothLines = refl
 
 -- What a call refuses: number and place.
-pub refusalOf : After → Option (ℕ × ℕ)
+unfoldable pub refusalOf : After → Option (ℕ × ℕ)
 refusalOf a = elim (a .answer) [ accepted r ↦ none | refused r ↦ some (r .number, r .place) ]
 
 -- Refusals 2 to 4 (1 needs more than a million bytes). 2 counts entries: 9 whole ones, or 8 and a half; 8 are accepted. 3 and 4 name the

@@ -1,4 +1,5 @@
--- Document 01, refusals 1 to 6 and 11, and what the single-read and the batch call answer and leave in the lent buffers; document 02, W1.
+-- Document 01, refusals 1 to 6 and 11, and what the single-read and the batch call answer and leave in the lent buffers; document 02, W1,
+-- W7: an index may be offered with the set (refusal 15).
 use Prim.Native.Nat.{ℕ, suc, _+_, _*_, _-_, max}
 use mathlib.Core.Bool.{Bool, true, false, _&&_, _||_}
 use mathlib.Core.Option.{Option, none, some}
@@ -6,7 +7,8 @@ use mathlib.Core.List.{List, [], _∷_, _++_}
 use lib.ListN.{length, getD, replicate}
 use lib.Dec.{eqb, ltb, leb}
 use Rattle.rules.specs.Refusal.{Refusal, Outcome, accepted, refused, Check, _orElse_, unless, atPlace, firstFailing}
-use Rattle.rules.specs.Set.{KmerSet, opened}
+use Rattle.rules.specs.Set.{KmerSet, offering, opened}
+use Rattle.rules.specs.Index.{indexCheck}
 use Rattle.rules.specs.Driver.{Pass}
 use Rattle.rules.specs.Job.{Entry, known, methodByte, confirmByte, entryCount, entriesOf, lines, pass, result}
 use Rattle.rules.specs.Report.{Report, yieldOf}
@@ -54,13 +56,18 @@ batchRight batch =
 
 -- ---- the calls
 
--- What a call is given: the set's bytes, the job's bytes, a read or a batch, and the two lent buffers.
+-- What a call is given: the set's bytes, an index's bytes (empty: not offered), the job's bytes, a read or a batch, and the two lent buffers.
 pub record Given : Type 0 where
   pub set : List ℕ
+  pub index : List ℕ
   pub job : List ℕ
   pub input : List ℕ
   pub output : List ℕ
   pub work : List ℕ
+
+-- The same with no index offered.
+unfoldable pub withoutIndex : Given → Given
+withoutIndex g = record { set = g .set; index = []; job = g .job; input = g .input; output = g .output; work = g .work }
 
 -- What a call answers, and every byte of the two buffers afterwards.
 pub record After : Type 0 where
@@ -68,7 +75,7 @@ pub record After : Type 0 where
   pub output : List ℕ
   pub work : List ℕ
 
--- Refusals 1 to 10: no lent byte is changed.
+-- Refusals 1 to 10 and 15: no lent byte is changed.
 unfoldable pub unchanged : Given → Refusal → After
 unchanged g r = record { answer = refused r; output = g .output; work = g .work }
 
@@ -132,15 +139,18 @@ module _ (set : KmerSet) (es : List Entry) (ending : List ℕ) where
         }
       ]
 
--- After the checks of the input come the set's, 7 to 10, then 11.
+-- After the checks of the input come the set's, 7 to 10, then the index's, 15, then 11. Lookups go by the index, where one is offered.
 unfoldable pub call : List ℕ → List (List ℕ) → Check → Given → After
-unfolding unchanged opened corrected entriesOf
+unfolding unchanged opened indexCheck offering corrected entriesOf
 call ending reads refusal g =
     elim refusal [
       | some r ↦ unchanged g r
       | none ↦ elim (opened (g .set)) [
         | refused r ↦ unchanged g r
-        | accepted set ↦ corrected set (entriesOf (g .job)) ending g reads
+        | accepted set ↦ elim (indexCheck set (g .index)) [
+          | some r ↦ unchanged g r
+          | none ↦ corrected (offering (g .index) set) (entriesOf (g .job)) ending g reads
+        ]
       ]
     ]
 

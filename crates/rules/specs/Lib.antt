@@ -17,5 +17,6 @@ pub mod Program
 pub mod Solid
 pub mod Blocks
 pub mod MakeSet
+pub mod Index
 pub mod Samples
 pub mod Scenarios

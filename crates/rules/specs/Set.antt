@@ -1,9 +1,10 @@
--- Document 01, "Records", Set, and refusals 7 to 10.
-use Prim.Native.Nat.{ℕ, zero, suc, _+_, _*_, _-_, _/_, _%_, _^_}
+-- Document 01, "Records", Set, and refusals 7 to 10; document 02, W7: a lookup may go by an index.
+use Prim.Native.Nat.{ℕ, zero, suc, _+_, _*_, _-_, _/_, _%_, _^_, min}
 use mathlib.Core.Bool.{Bool, true, false, _&&_, _||_}
 use mathlib.Core.Option.{Option, none, some}
 use mathlib.Core.List.{List, [], _∷_}
 use lib.ListN.{length, getD, drop}
+use lib.Seq.{slice}
 use lib.Dec.{eqb, ltb, leb}
 use Rattle.rules.specs.Letters.{among, canonical}
 use Rattle.rules.specs.Refusal.{Outcome, accepted, refused, Check, _orElse_, unless, atPlace, firstFailing}
@@ -15,17 +16,7 @@ maxK = 31
 abbrev pub maxKeys : ℕ
 maxKeys = 16777216
 
--- A set: k and its keys.
-pub record KmerSet : Type 0 where
-  pub k : ℕ
-  pub keys : List ℕ
-
--- A code is solid when its canonical code is a key; asking once is one lookup.
-unfoldable pub solid : KmerSet → ℕ → Bool
-unfolding canonical among
-solid s y = among (canonical (s .k) y) (s .keys)
-
--- ---- words and blocks
+-- ---- words
 
 -- A little-endian number of m bytes.
 unfoldable pub little : ℕ → List ℕ → ℕ
@@ -41,6 +32,52 @@ word bytes i = little 8 (drop (8 * i) bytes)
 unfoldable pub blockWord : List ℕ → ℕ → ℕ → ℕ
 unfolding word
 blockWord bytes b i = word bytes (64 * b + i)
+
+-- ---- a set and its lookups
+
+-- A set: k, its keys, and the bytes of an index offered with it (empty: none is offered).
+pub record KmerSet : Type 0 where
+  pub k : ℕ
+  pub keys : List ℕ
+  pub index : List ℕ
+
+-- The set with an index offered.
+unfoldable pub offering : List ℕ → KmerSet → KmerSet
+offering index set = record { k = set .k; keys = set .keys; index = index }
+
+-- m is the smaller of 6 and k.
+abbrev pub firstLetters : ℕ → ℕ
+firstLetters k = min 6 k
+
+-- The code of the first m letters of y's k letters.
+unfoldable pub firstCode : ℕ → ℕ → ℕ
+firstCode k y = y / 4 ^ (k - firstLetters k)
+
+-- Entry v as the bytes of an index say it: 63 entries to a block.
+unfoldable pub entryIn : List ℕ → ℕ → ℕ
+unfolding blockWord
+entryIn index v = blockWord index (v / 63) (v % 63)
+
+-- Entries v and v + 1 of the offered index, v being the code of a canonical code's first m letters.
+unfoldable pub rangeStart : KmerSet → ℕ → ℕ
+unfolding firstCode entryIn
+rangeStart s key = entryIn (s .index) (firstCode (s .k) key)
+
+unfoldable pub rangeEnd : KmerSet → ℕ → ℕ
+unfolding firstCode entryIn
+rangeEnd s key = entryIn (s .index) (suc (firstCode (s .k) key))
+
+-- The keys that a lookup of a canonical code looks at: all; with an index only those numbered from entry v up to, not including, entry v + 1.
+unfoldable pub keysFor : KmerSet → ℕ → List ℕ
+unfolding rangeStart rangeEnd
+keysFor s key = elim (s .index) [ [] ↦ s .keys | b ∷ bs ↦ slice (rangeStart s key) (rangeEnd s key) (s .keys) ]
+
+-- A code is solid when its canonical code is a key; asking once is one lookup.
+unfoldable pub solid : KmerSet → ℕ → Bool
+unfolding canonical among keysFor
+solid s y = (let key : ℕ = canonical (s .k) y in among key (keysFor s key))
+
+-- ---- blocks
 
 -- How many whole blocks there are.
 unfoldable pub blocks : List ℕ → ℕ
@@ -77,10 +114,10 @@ unfolding keyWord
 keysFrom bytes i zero = []
 keysFrom bytes i (suc m) = keyWord bytes i ∷ keysFrom bytes (suc i) m
 
--- The set that a list of bytes says: k, and the first n words of the key blocks.
+-- The set that a list of bytes says: k, and the first n words of the key blocks; no index comes with it.
 unfoldable pub setOf : List ℕ → KmerSet
 unfolding headerK headerN keysFrom
-setOf bytes = record { k = headerK bytes; keys = keysFrom bytes 0 (headerN bytes) }
+setOf bytes = record { k = headerK bytes; keys = keysFrom bytes 0 (headerN bytes); index = [] }
 
 -- ---- opening
 

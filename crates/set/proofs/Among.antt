@@ -13,6 +13,7 @@ use Rattle.rules.specs.Set.{keyWord, keysFrom}
 use Rattle.keys.specs.declared.Found.{Found}
 use Rattle.keys.specs.declared.Found.the-variants.{At, Nothing}
 use Rattle.keys.specs.Find.{Answers}
+use Rattle.keys.proofs.Part.{key-whole}
 use Rattle.set.specs.Found.{isKey}
 
 not-from : (bytes : List ℕ) (x i n : ℕ) → ((j : ℕ) → i ≤ j → j < i + n → keyWord bytes j ≡ x → ⊥) → among x (keysFrom bytes i n) ≡ false
@@ -36,6 +37,6 @@ one-from bytes x i (suc n) j l h e = go (eq-or-lt-of-le l) (λ g. one-from bytes
     go (inl d) later = let here : eqb x (keyWord bytes i) ≡ true = eq-eqb x (keyWord bytes i) (sym (ap (keyWord bytes) d ∙ e)) in rw here
     go (inr g) later = or-true (eqb x (keyWord bytes i)) _ (later g)
 
-pub answers-among : (bytes : List ℕ) (x n : ℕ) (r : Found) → Answers bytes x 0 n r → isKey r ≡ among x (keysFrom bytes 0 n)
-answers-among bytes x n (At i) h = sym (one-from bytes x 0 n i (h .0) (omega (arith, h .1)) (h .2))
-answers-among bytes x n Nothing h = sym (not-from bytes x 0 n (λ j l g e. h j l (omega arith) e))
+pub answers-among : (bytes : List ℕ) (x n : ℕ) (r : Found) → Answers 0 bytes x 0 n r → isKey r ≡ among x (keysFrom bytes 0 n)
+answers-among bytes x n (At i) h = sym (one-from bytes x 0 n i (h .0) (omega (arith, h .1)) (sym (key-whole bytes i) ∙ h .2))
+answers-among bytes x n Nothing h = sym (not-from bytes x 0 n (λ j l g e. h j l (omega arith) (key-whole bytes j ∙ e)))

@@ -4,16 +4,17 @@ use kmer::Header;
 use kmer::Kmer;
 ghost use mathlib.Core.Path.{_≡_};
 ghost use mathlib.Core.Option.{none};
-ghost use Prim.Native.Nat.{ℕ, _+_, _-_, _*_, _≤_, _<_, max};
+ghost use Prim.Native.Nat.{ℕ, _+_, _-_, _*_, _/_, _^_, _≤_, _<_, max};
 ghost use lib.ListN.{length, getD};
-ghost use Rattle.rules.specs.Set.{maxK, maxKeys, blocks, headerK, headerN, keyWord, setCheck, setOf, solid};
+ghost use Rattle.rules.specs.Set.{maxK, maxKeys, blocks, headerK, headerN, keyWord, setCheck, setOf, firstLetters, entryIn, solid};
+ghost use Rattle.rules.specs.Index.{indexBlocks, indexCheck};
 ghost use Rattle.rules.specs.Letters.{canonical};
 ghost use Rattle.rules.specs.Scan as rules;
 ghost use Rattle.kmer.specs.Kmer.{Shifts, kmerOf, IsKmer};
-ghost use Rattle.keys.specs.Find.{Bracket};
+ghost use Rattle.keys.specs.Find.{Bracket, Answers};
 ghost use lib.Dec.{eqb};
 ghost use Rattle.set.specs.Ready as table;
-ghost use Rattle.set.specs.Ready.{tableLength, prefix, Below, Filled, Table, Ready};
+ghost use Rattle.set.specs.Ready.{tableLength, prefix, Below, Filled, InPrefix, LineOf, Table, Ready, Ranged};
 ghost use Rattle.set.specs.Ends.{Marked, Run, highest};
 ghost use Rattle.set.specs.Found.{isKey};
 ghost use Rattle.set.specs.Asked.{AskedIs};
@@ -44,7 +45,7 @@ fn is_key(found: Found) -> bool
     }
 }
 
-// A key, and the indices of the keys between which it can stand.
+// A key, and the numbers of the keys between which it can stand.
 struct Range {
     key: u64,
     from: usize,
@@ -52,10 +53,10 @@ struct Range {
 }
 
 // The key of a k-mer, among those of its prefix.
-fn range_of(set: &[u8], starts: &[u32], n: usize, shift: u32, kmer: Kmer) -> Range
-    requires { ⌜ Table (now set) (now starts) n shift × IsKmer (headerK (now set)) kmer ⌝ }
+fn range_of(set: &[u8], starts: &[u32], shift: u32, finer: u32, kmer: Kmer) -> Range
+    requires { ⌜ Table (now set) (now starts) shift finer × IsKmer (headerK (now set)) kmer ⌝ }
     ensures { λ r. ⌜
-        (r .key ≡ canonical (headerK (now (set .entry))) (kmer .code)) × Bracket (now (set .entry)) n (r .key) (r .from) (r .end) ⌝ }
+        (r .key ≡ canonical (headerK (now (set .entry))) (kmer .code)) × InPrefix (now (set .entry)) shift (r .key) (r .from) (r .end) ⌝ }
 {
     let key = kmer::canonical(kmer);
     let prefix = prefix_of(key, shift);
@@ -66,10 +67,60 @@ fn range_of(set: &[u8], starts: &[u32], n: usize, shift: u32, kmer: Kmer) -> Ran
     }
 }
 
+// The keys that a lookup may look at: with an index those numbered from entry v up to entry v + 1, v being the code of the key's first letters;
+// without one all keys.
+struct Span {
+    first: usize,
+    last: usize,
+}
+
+fn span_of(set: &[u8], starts: &[u32], shift: u32, finer: u32, key: u64) -> Span
+    requires { ⌜ Table (now set) (now starts) shift finer × (key < 4 ^ headerK (now set)) ⌝ }
+    ensures { λ r. ⌜ InPrefix (now (set .entry)) (shift + finer) key (r .first) (r .last) ⌝ }
+{
+    let v = prefix_of(key, shift) >> finer;
+    Span {
+        first: start(starts, v << finer),
+        last: start(starts, (v + 1) << finer),
+    }
+}
+
+// A few keys of one prefix: no other is read.
+fn in_few(set: &[u8], n: usize, range: Range) -> Found
+    requires { ⌜ (setCheck (now set) ≡ none) × (range .from < range .end) × (range .end ≤ range .from + 4) × (range .end ≤ headerN (now set)) ⌝ }
+    ensures { λ r. ⌜ Answers 0 (now (set .entry)) (range .key) (range .from) (range .end) r ⌝ }
+{
+    let skip = keys::place(range.from);
+    let stop = keys::place(range.end - 1) + 8;
+    keys::in_few(&set[skip..stop], skip, range.key, n, range.from, range.end)
+}
+
+// Many keys of one prefix: the search gets the bytes of the span's keys, so that it can read no other word.
+fn in_many(set: &[u8], shift: u32, range: Range, span: Span) -> Found
+    requires { ⌜
+        (setCheck (now set) ≡ none) × (shift < 64) × Bracket 0 (now set) 0 (headerN (now set)) (range .key) (range .from) (range .end)
+        × (range .from < range .end) × (span .first ≤ range .from) × (range .end ≤ span .last) × (span .last ≤ headerN (now set)) ⌝ }
+    ensures { λ r. ⌜ Answers 0 (now (set .entry)) (range .key) (span .first) (span .last) r ⌝ }
+{
+    let skip = keys::place(span.first);
+    let stop = keys::place(span.last - 1) + 8;
+    keys::find(
+        &set[skip..stop],
+        skip,
+        range.key,
+        shift,
+        span.first,
+        span.last,
+        range.from,
+        range.end,
+    )
+}
+
 // A lookup is made only of a k-mer without unknown letters. Of the header it takes what it needs: a struct that is handed over is laid into
-// memory for each lookup. Since `get` and `ask` both call it, it stays a function of its own.
-fn look_up(set: &[u8], starts: &[u32], n: usize, shift: u32, kmer: Kmer) -> bool
-    requires { ⌜ Table (now set) (now starts) n shift × IsKmer (headerK (now set)) kmer × (kmer .unknown ≡ 0) ⌝ }
+// memory for each lookup, and so is a seventh number, hence the last is the one that is seldom used. Since `get` and `ask` both call it, it
+// stays a function of its own.
+fn look_up(set: &[u8], starts: &[u32], kmer: Kmer, n: usize, shift: u32, finer: u32) -> bool
+    requires { ⌜ Table (now set) (now starts) shift finer × IsKmer (headerK (now set)) kmer × (kmer .unknown ≡ 0) ⌝ }
     ensures { λ r. ⌜ r ≡ solid (setOf (now (set .entry))) (kmer .code) ⌝ }
 {
     // Both codes are read here: the compiler then chooses between them without a branch.
@@ -78,15 +129,22 @@ fn look_up(set: &[u8], starts: &[u32], n: usize, shift: u32, kmer: Kmer) -> bool
         rev: kmer.rev,
         unknown: 0,
     };
-    let range = range_of(set, starts, n, shift, both);
-    is_key(keys::find(set, range.key, shift, n, range.from, range.end))
+    let range = range_of(set, starts, shift, finer, both);
+    if range.end <= range.from {
+        return false;
+    }
+    if range.end - range.from <= 4 {
+        return is_key(in_few(set, n, range));
+    }
+    let span = span_of(set, starts, shift, finer, range.key);
+    is_key(in_many(set, shift, range, span))
 }
 
 pub fn get(set: &[u8], starts: &[u32], head: Header, kmer: Kmer) -> bool
     requires { ⌜ Ready (now set) (now starts) head × IsKmer (head .k) kmer × (kmer .unknown ≡ 0) ⌝ }
     ensures { λ r. ⌜ r ≡ solid (setOf (now (set .entry))) (kmer .code) ⌝ }
 {
-    look_up(set, starts, head.n, head.shift, kmer)
+    look_up(set, starts, kmer, head.n, head.shift, head.finer)
 }
 
 // A k-mer asked: whether it is solid, and the lookups made.
@@ -106,22 +164,30 @@ pub fn ask(set: &[u8], starts: &[u32], head: Header, kmer: Kmer) -> Asked
             lookups: 0,
         };
     }
-    let solid = look_up(set, starts, head.n, head.shift, kmer);
+    let solid = look_up(set, starts, kmer, head.n, head.shift, head.finer);
     Asked { solid, lookups: 1 }
 }
 
-// The line that a lookup of the k-mer reads first.
+// The first of the lines that a lookup of the k-mer reads first, none that it may not read.
 pub fn first_line(set: &[u8], starts: &[u32], head: Header, kmer: Kmer) -> usize
     requires { ⌜ Ready (now set) (now starts) head × IsKmer (head .k) kmer ⌝ }
-    ensures { λ r. ⌜ r < maxKeys ⌝ }
+    ensures { λ r. ⌜ (r ≤ maxKeys) × LineOf (now (set .entry)) (head .shift + head .finer) (canonical (head .k) (kmer .code)) r ⌝ }
 {
     let both = Kmer {
         code: kmer.code,
         rev: kmer.rev,
         unknown: 0,
     };
-    let range = range_of(set, starts, head.n, head.shift, both);
-    keys::first_line(range.key, head.shift, range.from, range.end)
+    let range = range_of(set, starts, head.shift, head.finer, both);
+    let span = span_of(set, starts, head.shift, head.finer, range.key);
+    keys::first_line(
+        range.key,
+        head.shift,
+        span.first,
+        span.last,
+        range.from,
+        range.end,
+    )
 }
 
 // How many bits a prefix has: at most 16, at most a key's 2k, and no more than four prefixes to a key.
@@ -144,11 +210,11 @@ fn prefix_bits(k: usize, n: usize) -> usize
     bits
 }
 
-fn header(k: usize, n: usize, bits: usize) -> Header
-    requires { ⌜ (1 ≤ k) × (k ≤ maxK) × (bits ≤ 2 * k) ⌝ }
-    ensures { λ r. ⌜ Shifts r × (r .k ≡ k) × (r .n ≡ n) × (r .shift ≡ 2 * k - bits) ⌝ }
+fn header(k: usize, n: usize, bits: usize, finer: usize) -> Header
+    requires { ⌜ (1 ≤ k) × (k ≤ maxK) × (bits ≤ 2 * k) × (finer ≤ bits) ⌝ }
+    ensures { λ r. ⌜ Shifts r × (r .k ≡ k) × (r .n ≡ n) × (r .shift ≡ 2 * k - bits) × (r .finer ≡ finer) ⌝ }
 {
-    kmer::header_of(k, n, (2 * k - bits) as u32)
+    kmer::header_of(k, n, (2 * k - bits) as u32, finer as u32)
 }
 
 fn clear(starts: &mut [u32], entries: usize)
@@ -230,12 +296,68 @@ fn fill(set: &[u8], n: usize, shift: u32, prefixes: usize, starts: &mut [u32])
     carry_ends(starts, prefixes + 1);
 }
 
-pub fn prepare(set: &[u8], k: usize, n: usize, starts: &mut [u32]) -> Header
-    requires { ⌜ (setCheck (now set) ≡ none) × (k ≡ headerK (now set)) × (n ≡ headerN (now set)) × (length (now starts) ≡ tableLength) ⌝ }
-    ensures { λ r. ⌜ Ready (now (set .entry)) (now (starts .exit)) r ⌝ }
+// The table made from the keys, by prefixes of so many bits.
+fn by_keys(set: &[u8], k: usize, n: usize, bits: usize, finer: usize, starts: &mut [u32]) -> Header
+    requires { ⌜
+        (setCheck (now set) ≡ none) × (k ≡ headerK (now set)) × (n ≡ headerN (now set)) × (length (now starts) ≡ tableLength)
+        × (bits ≤ 16) × (bits ≤ 2 * k) × (finer ≤ bits) ⌝ }
+    ensures { λ r. ⌜ Ready (now (set .entry)) (now (starts .exit)) r × (r .k ≡ k) × (r .shift + r .finer ≡ 2 * k - bits + finer) ⌝ }
 {
-    let bits = prefix_bits(k, n);
-    let head = header(k, n, bits);
+    let head = header(k, n, bits, finer);
     fill(set, n, head.shift, 1 << bits, starts);
     head
+}
+
+// The entries of an index are a table too, by prefixes of m letters.
+fn copy_entries(index: &[u8], entries: usize, starts: &mut [u32])
+    requires { ⌜ (entries ≤ length (now starts)) × (512 * ((entries + 62) / 63) ≤ length (now index)) ⌝ }
+    requires { ⌜ ((v : ℕ) → v < entries → entryIn (now index) v < 2 ^ 32) ⌝ }
+    ensures { λ _. ⌜ ((v : ℕ) → v < entries → getD (now (starts .exit)) v 0 ≡ entryIn (now (index .entry)) v) ⌝ }
+{
+    for v in 0..entries {
+        starts[v] = index::entry_at(index, v) as u32;
+    }
+}
+
+fn by_index(set: &[u8], index: &[u8], k: usize, n: usize, starts: &mut [u32]) -> Header
+    requires { ⌜
+        (setCheck (now set) ≡ none) × (k ≡ headerK (now set)) × (n ≡ headerN (now set)) × (length (now starts) ≡ tableLength)
+        × (now index ≡ indexBlocks (setOf (now set))) ⌝ }
+    ensures { λ r. ⌜ Ready (now (set .entry)) (now (starts .exit)) r × (r .k ≡ k) × (r .shift + r .finer ≡ 2 * (k - firstLetters k)) ⌝ }
+{
+    let bits = 2 * index::letters(k);
+    copy_entries(index, (1 << bits) + 1, starts);
+    header(k, n, bits, 0)
+}
+
+// Whether a table finer than an index is worth the walk over the keys: any answer is right.
+fn pays(bases: usize) -> bool {
+    65536 < bases
+}
+
+// For lookups of about so many bases. Where no index is offered it is empty, and all keys are one range.
+pub fn prepare(
+    set: &[u8],
+    index: &[u8],
+    k: usize,
+    n: usize,
+    bases: usize,
+    starts: &mut [u32],
+) -> Header
+    requires { ⌜
+        (setCheck (now set) ≡ none) × (k ≡ headerK (now set)) × (n ≡ headerN (now set)) × (length (now starts) ≡ tableLength)
+        × (indexCheck (setOf (now set)) (now index) ≡ none) ⌝ }
+    ensures { λ r. ⌜ Ready (now (set .entry)) (now (starts .exit)) r × Ranged (now (index .entry)) r ⌝ }
+{
+    let bits = prefix_bits(k, n);
+    if index.len() == 0 {
+        return by_keys(set, k, n, bits, bits, starts);
+    }
+    let letters = 2 * index::letters(k);
+    if letters < bits {
+        if pays(bases) {
+            return by_keys(set, k, n, bits, bits - letters, starts);
+        }
+    }
+    by_index(set, index, k, n, starts)
 }

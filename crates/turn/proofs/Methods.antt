@@ -24,7 +24,7 @@ module _ (bytes starts : List ℕ) (head : Header) (ready : Ready bytes starts h
   sol = solid (setOf bytes)
 
   n-is : length (setOf bytes .keys) ≡ head .n
-  n-is = set-count bytes ∙ sym (ready .table .n-is)
+  n-is = set-count bytes ∙ sym (ready .n-is)
 
   under : (m : Method) → methodOf method ≡ m → attemptOf bytes method c s y ≡ correctError (setOf bytes) c m s y
   under m e = ap (λ (x : Method). correctError (setOf bytes) c x s y) e

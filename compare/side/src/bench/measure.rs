@@ -104,10 +104,29 @@ impl<'a> Batch<'a> {
             reads.push(read);
         }
         let (input, expected) = (batch_of(&reads), batch_of(&results));
+        Batch::of_call(library, world, method, reads, (Call::Batch, input, expected))
+    }
+
+    /// A call with its input and what it gives.
+    fn of_call(
+        library: &'a dyn Library,
+        world: &'a World,
+        method: Method,
+        reads: Vec<Vec<u8>>,
+        (call, input, expected): (Call, Vec<u8>, Vec<u8>),
+    ) -> Self {
         let output = MOST_BYTES.min(input.len().max(expected.len()) * 5 / 4);
-        let job = Job { call: Call::Batch, entries: vec![method.byte(), CONFIRM], input, output, work: 2 * output };
+        let job = Job { call, index: Vec::new(), entries: vec![method.byte(), CONFIRM], input, output, work: 2 * output };
         let (output, work) = (vec![0; job.output], vec![0; job.work]);
         Batch { reads, report: None, library, against: None, world, set: Box::new(&world.rust), method, job, expected, output, work }
+    }
+
+    /// A read with errors by a read call, cut to so many bases.
+    pub fn of_read(library: &'a dyn Library, world: &'a World, method: Method, errors: usize, bases: usize) -> Self {
+        let mut read = world.read(&mut reads_of(world, method.byte(), errors), errors);
+        read.truncate(bases);
+        let expected = oracle::pass(&world.rust, method, CONFIRM, &read).bytes;
+        Batch::of_call(library, world, method, vec![read.clone()], (Call::Read, read, expected))
     }
 
     /// Reads with errors: the same ones for the same cell, whatever else is measured.
@@ -141,7 +160,7 @@ impl<'a> Batch<'a> {
         })
     }
 
-    /// One batch call of ours.
+    /// One call of ours.
     pub fn ours(&mut self) -> f64 {
         self.ours_over(&self.world.set)
     }
@@ -151,6 +170,14 @@ impl<'a> Batch<'a> {
         let library = self.library;
         let (report, seconds) = self.checked("ours", |job, output, work| library.correct(set, job, output, work));
         self.report = Some(report);
+        seconds
+    }
+
+    /// One call of ours that offers an index.
+    pub fn ours_with(&mut self, index: &[u8]) -> f64 {
+        self.job.index.extend_from_slice(index);
+        let seconds = self.ours();
+        self.job.index.clear();
         seconds
     }
 
@@ -196,7 +223,7 @@ pub fn open(library: &dyn Library, world: &World) -> f64 {
 
 /// Seconds of a batch call without a line: opening the set and filling the table of starts.
 pub fn empty_batch(library: &dyn Library, world: &World, method: Method) -> f64 {
-    let job = Job { call: Call::Batch, entries: vec![method.byte(), CONFIRM], input: Vec::new(), output: 0, work: 0 };
+    let job = Job { call: Call::Batch, index: Vec::new(), entries: vec![method.byte(), CONFIRM], input: Vec::new(), output: 0, work: 0 };
     let (answer, seconds) = timed(|| library.correct(&world.set, &job, &mut [], &mut []));
     assert!(answer.is_ok(), "an empty batch is accepted");
     seconds

@@ -22,7 +22,7 @@ pub fn run(side: &str, set: &str, batch: &str) -> Result<(), String> {
     let say = |error: std::io::Error| error.to_string();
     let input = std::fs::read(batch).map_err(say)?;
     let output = input.len() * 5 / 4;
-    let job = Job { call: Call::Batch, entries: vec![Method::One.byte(), CONFIRM], input, output, work: 2 * output };
+    let job = Job { call: Call::Batch, index: Vec::new(), entries: vec![Method::One.byte(), CONFIRM], input, output, work: 2 * output };
     match side {
         "ours" => {
             let set = std::fs::read(set).map_err(say)?;
@@ -37,11 +37,21 @@ pub fn run(side: &str, set: &str, batch: &str) -> Result<(), String> {
             }
         }
     }
-    let status = std::fs::read_to_string("/proc/self/status").map_err(say)?;
-    let most =
-        status.lines().find_map(|line| line.strip_prefix("VmHWM:")).and_then(|rest| rest.trim().strip_suffix(" kB")?.trim().parse::<u64>().ok());
-    println!("{}", most.ok_or("no VmHWM")? * 1024);
+    println!("{}", told("/proc/self/status", "VmHWM:").ok_or("no VmHWM")?);
     Ok(())
+}
+
+/// Bytes that can still be had, or none where the system does not say.
+pub fn available() -> Option<u64> {
+    told("/proc/meminfo", "MemAvailable:")
+}
+
+/// A number of bytes that the system tells in kB.
+fn told(file: &str, name: &str) -> Option<u64> {
+    let text = std::fs::read_to_string(file).ok()?;
+    let rest = text.lines().find_map(|line| line.strip_prefix(name))?;
+    let kilobytes: u64 = rest.trim().strip_suffix(" kB")?.trim().parse().ok()?;
+    Some(kilobytes * 1024)
 }
 
 /// The Rust's set, filled block by block.

@@ -22,9 +22,11 @@ pub enum Part {
     Before,
     /// Ours over a set that does not start on a line of memory.
     Off,
+    /// Ours with an index of the set.
+    Indexed,
 }
 
-const PARTS: usize = 5;
+const PARTS: usize = 6;
 
 /// The Rust, ours and the opening.
 const PLAIN: usize = 3;
@@ -107,7 +109,12 @@ impl Rounds {
 
     /// Rust's time by ours.
     pub fn ratio(&self) -> Spread {
-        self.of(|round| round.of(Part::Rust) / round.of(Part::Ours))
+        self.of_parts(Part::Rust, Part::Ours)
+    }
+
+    /// A part's time by another's, within each round.
+    pub fn of_parts(&self, part: Part, by: Part) -> Spread {
+        self.of(|round| round.of(part) / round.of(by))
     }
 
     pub fn ratio_less_opening(&self) -> Spread {
@@ -120,7 +127,7 @@ impl Rounds {
 
     /// A part's median by ours, with the lowest and the highest of the rounds; none where it is not run.
     pub fn by_ours(&self, part: Part) -> Option<Spread> {
-        let rounds = self.of(|round| round.of(part) / round.of(Part::Ours));
+        let rounds = self.of_parts(part, Part::Ours);
         let median = self.median(part) / self.ours();
         (median > 0.0).then_some(Spread { median, ..rounds })
     }

@@ -6,7 +6,7 @@ use side::bench::page::{Peak, Results};
 use side::bench::rounds::Part;
 use side::bench::split::{split, Split};
 use side::bench::system::{count_running_time, Allocator};
-use side::bench::{aligned, chart, make, memory, page};
+use side::bench::{aligned, chart, index, make, memory, page};
 use side::cases::batch_of;
 use side::library::{library, Library};
 use side::referee::correctors::{Method, METHODS};
@@ -18,7 +18,7 @@ use std::process::ExitCode;
 static ALLOCATOR: Allocator = Allocator;
 
 const USAGE: &str =
-    "compare/bench [--make] [--aligned] [--quick] [--stand-in] [--against LIBRARY] [--out FOLDER] [--keys N,..] [--k K,..] [--method NAME,..] [--errors N,..] [--huge] [--split] [--running-time]";
+    "compare/bench [--make] [--aligned] [--index] [--quick] [--stand-in] [--against LIBRARY] [--out FOLDER] [--keys N,..] [--k K,..] [--method NAME,..] [--errors N,..] [--huge] [--split] [--running-time]";
 const KEYS: [usize; 4] = [1_000, 100_000, 4_000_000, 16_000_000];
 /// How many of these --quick takes.
 const QUICK: usize = 2;
@@ -59,6 +59,7 @@ struct Options {
     split: bool,
     make: bool,
     aligned: bool,
+    index: bool,
     against: Option<String>,
     folder: Option<String>,
 }
@@ -73,10 +74,11 @@ impl Options {
             }
             whole
         }
-        let sizes: &[usize] = match (self.aligned, quick) {
-            (true, _) => &aligned::KEYS,
-            (false, true) => &KEYS[..QUICK],
-            (false, false) => &KEYS,
+        let sizes: &[usize] = match (self.aligned, self.index, quick) {
+            (true, _, _) => &aligned::KEYS,
+            (_, true, _) => &index::KEYS,
+            (_, _, true) => &KEYS[..QUICK],
+            _ => &KEYS,
         };
         let whole = [
             or_all(&mut self.keys, sizes),
@@ -114,6 +116,7 @@ fn options(arguments: &[String]) -> Result<Options, String> {
             "--split" => options.split = true,
             "--make" => options.make = true,
             "--aligned" => options.aligned = true,
+            "--index" => options.index = true,
             "--against" => options.against = Some(value()?.clone()),
             "--running-time" => count_running_time(),
             "--out" => options.folder = Some(value()?.clone()),
@@ -151,6 +154,10 @@ fn bench(arguments: &[String]) -> Result<(), String> {
         make::measure_all(library());
         return Ok(());
     }
+    if options.index {
+        print!("{}", index::section(&index::measure_all(library(), &options.keys)));
+        return Ok(());
+    }
     let against = options.against.as_deref().map(Against::load).transpose()?;
     let against = against.as_ref();
     if options.aligned {
@@ -167,17 +174,18 @@ fn bench(arguments: &[String]) -> Result<(), String> {
     let k = if options.k.contains(&ONE_K) { ONE_K } else { options.k[0] };
     write(chart, chart::draw(&results.cells, k, &options.keys, &options.errors))?;
     let made = make::section(&make::measure_all(library()));
-    write("BENCHMARK.md", page::write(&results, chart) + &lines_of_memory(&options, against) + &made)?;
+    write("BENCHMARK.md", page::write(&results, chart) + &with_millions(&options, against) + &made)?;
     println!("{}", folder.join("BENCHMARK.md").display());
     Ok(())
 }
 
-/// The page's section on aligned sets, if it has sets of millions of keys.
-fn lines_of_memory(options: &Options, against: Option<&Against>) -> String {
+/// The page's sections on aligned sets and on indexes, if it has sets of millions of keys.
+fn with_millions(options: &Options, against: Option<&Against>) -> String {
     if options.keys.iter().all(|n| *n < MANY_KEYS) {
         return String::new();
     }
-    aligned::section(&aligned::measure_all(library(), against, &aligned::KEYS))
+    let aligned = aligned::section(&aligned::measure_all(library(), against, &aligned::KEYS));
+    aligned + &index::section(&index::measure_all(library(), &index::KEYS))
 }
 
 fn measure_all(options: &Options, against: Option<&Against>) -> Results {

@@ -116,8 +116,14 @@ fn compare(options: &Options, library: &dyn Library) -> bool {
             }
         }
     });
-    let asked = options.only.as_ref().is_none_or(|only| only.eq_ignore_ascii_case("make"));
-    let made = if asked { make::run(library, options.seed, options.rounds) } else { Made::default() };
+    let asked = |kind: &str| options.only.as_ref().is_none_or(|only| only.eq_ignore_ascii_case(kind));
+    let mut made = Made::default();
+    if asked("make") {
+        make::run_sets(library, options.seed, options.rounds, &mut made);
+    }
+    if asked("index") {
+        make::run_indexes(library, options.seed, options.rounds, &mut made);
+    }
     let _ = std::panic::take_hook();
     report(options, library, found.into_inner().expect("no thread panics"), made, begun.elapsed())
 }

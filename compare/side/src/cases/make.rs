@@ -48,7 +48,7 @@ fn letters(k: usize, code: u64) -> Vec<u8> {
 }
 
 /// So many canonical codes, rising; fewer where k has not so many.
-fn codes(rng: &mut Rng, k: usize, number: usize) -> Vec<u64> {
+pub fn codes(rng: &mut Rng, k: usize, number: usize) -> Vec<u64> {
     let most = ((mask(k) as u128 + 1) / 2).min(number as u128) as usize;
     let mut codes = std::collections::BTreeSet::new();
     while codes.len() < most {

@@ -1,6 +1,7 @@
 //! "Job" as document 02 has it, "Report" and the refusals: the single-read and the batch call.
 use super::correctors::Method;
 use super::driver::{pass, Pass};
+use super::index;
 use super::letters::Kmer;
 use super::set::{Refusal, Set};
 
@@ -20,6 +21,8 @@ pub enum Call {
 #[derive(Clone, Debug)]
 pub struct Job {
     pub call: Call,
+    /// The index that is offered with the set; none if it is empty.
+    pub index: Vec<u8>,
     /// The bytes of a job file: pairs, method first.
     pub entries: Vec<u8>,
     pub input: Vec<u8>,
@@ -86,9 +89,13 @@ pub fn call(opened: &Result<Set, Refusal>, job: &Job) -> Outcome {
     if let Some(refusal) = input_refusal(job) {
         return Outcome::refused(refusal);
     }
-    match opened {
-        Err(refusal) => Outcome::refused(*refusal),
-        Ok(set) => correct(set, job),
+    let set = match opened {
+        Err(refusal) => return Outcome::refused(*refusal),
+        Ok(set) => set,
+    };
+    match index::refusal(set, &job.index) {
+        Some(refusal) => Outcome::refused(refusal),
+        None => correct(set, job),
     }
 }
 

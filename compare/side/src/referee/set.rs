@@ -1,5 +1,7 @@
 //! "Set", and refusals 7 to 10.
+use super::index;
 use super::letters::{canonical, mask};
+use std::cell::OnceCell;
 
 const BLOCK_BYTES: usize = 512;
 const BLOCK_WORDS: usize = 63;
@@ -21,12 +23,18 @@ impl Refusal {
 pub struct Set {
     pub k: usize,
     pub keys: Vec<u64>,
+    index: OnceCell<Vec<u8>>,
 }
 
 impl Set {
     /// A k-mer is solid when its canonical code is a key.
     pub fn solid(&self, code: u64) -> bool {
         self.keys.binary_search(&canonical(self.k, code)).is_ok()
+    }
+
+    /// The blocks of its index, made once.
+    pub fn index(&self) -> &[u8] {
+        self.index.get_or_init(|| index::blocks_of(index::entries(self.k, &self.keys)))
     }
 }
 
@@ -50,7 +58,7 @@ pub fn open(bytes: &[u8]) -> Result<Set, Refusal> {
         return Err(Refusal::new(10, place));
     }
     keys.truncate(n as usize);
-    Ok(Set { k: k as usize, keys })
+    Ok(Set { k: k as usize, keys, index: OnceCell::new() })
 }
 
 /// Little-endian 64-bit words.

@@ -5,9 +5,8 @@
 //! on the stack: `CORRECTOR_STACK` of corrector.h says how much a thread needs, which is less than a thread of `std` has.
 //!
 //! Each call opens the set and fills a table of where its keys start, 6 ms at 4 million keys and 22 at 16 million, so send batches as long as may
-//! be. A large `Vec<u8>` starts 16 bytes into a page, where lookups in a set of millions of keys take more lines of memory than they need to:
-//! lend it from memory that starts at a multiple of 64 bytes (4 to 7 % less time), or better of 2 MB, with `madvise(.., MADV_HUGEPAGE)`
-//! before the set is read into it (5 to 27 % less).
+//! be. Lend a large set from memory that starts at a multiple of 2 MB, with `madvise(.., MADV_HUGEPAGE)` before the set is read into it: a batch
+//! took 12 and 6 % less time with 4 and 16 million keys. Where calls are short, offer the set's index, which saves filling the table.
 //!
 //! ```
 //! # fn set_of(k: u64, keys: &[u64]) -> Vec<u8> {
@@ -24,7 +23,7 @@
 //! let read = b"AACGCCG";
 //! let mut output = [0; 16];
 //! let mut work = vec![0; corrector::work_length(output.len(), read.len())];
-//! let report = corrector::correct_read(&set, Job::new(&entries), read, &mut output, &mut work)?;
+//! let report = corrector::correct_read(&set, None, Job::new(&entries), read, &mut output, &mut work)?;
 //! assert_eq!(output[..report.written], *b"AACTCCG");
 //! # Ok::<(), corrector::Refusal>(())
 //! ```
@@ -105,13 +104,20 @@ pub fn open(set: &[u8]) -> Result<Set, Refusal> {
 /// Accepted, `output` has the result in its first [`written`](Report::written) bytes and zeros behind it, and `work` is all zero. Refused
 /// with [`Refusal::NoRoom`], both are all zero; refused otherwise, neither has changed. The set is checked at each call, so many reads are
 /// better sent as a batch.
-pub fn correct_read(set: &[u8], job: Job<'_>, read: &[u8], output: &mut [u8], work: &mut [u8]) -> Result<Report, Refusal> {
-    answer(raw::correct(raw::Call::Read, raw::Lent { set, job: job.as_bytes(), input: read, output, work }))
+///
+/// An index of the set, from [`make_index`], saves a call the walk over all keys by which it would fill its own table. It changes no result and
+/// no number; an index of another set is refused. An empty one counts as none.
+pub fn correct_read(set: &[u8], index: Option<&[u8]>, job: Job<'_>, read: &[u8], output: &mut [u8], work: &mut [u8]) -> Result<Report, Refusal> {
+    answer(raw::correct(raw::Call::Read, lent(set, index, job, read, output, work)))
 }
 
 /// Corrects a batch, lines each ended by byte 10, as [`correct_read`] does a read. The output is lines too.
-pub fn correct_batch(set: &[u8], job: Job<'_>, batch: &[u8], output: &mut [u8], work: &mut [u8]) -> Result<Report, Refusal> {
-    answer(raw::correct(raw::Call::Batch, raw::Lent { set, job: job.as_bytes(), input: batch, output, work }))
+pub fn correct_batch(set: &[u8], index: Option<&[u8]>, job: Job<'_>, batch: &[u8], output: &mut [u8], work: &mut [u8]) -> Result<Report, Refusal> {
+    answer(raw::correct(raw::Call::Batch, lent(set, index, job, batch, output, work)))
+}
+
+fn lent<'a>(set: &'a [u8], index: Option<&'a [u8]>, job: Job<'a>, input: &'a [u8], output: &'a mut [u8], work: &'a mut [u8]) -> raw::Lent<'a> {
+    raw::Lent { set, index: index.unwrap_or_default(), job: job.as_bytes(), input, output, work }
 }
 
 /// The k-mers of a read, and the solid ones among them. A read that is shorter than k has none.
@@ -142,7 +148,35 @@ pub fn set_length(n: usize) -> usize {
 /// # Ok::<(), corrector::Refusal>(())
 /// ```
 pub fn make_set(text: &[u8], k: u64, least: u64, blocks: &mut [u8]) -> Result<usize, Refusal> {
-    match raw::make_set(text, k, least, blocks) {
+    made(raw::make_set(text, k, least, blocks))
+}
+
+/// The length of an index of a set with this k, in bytes.
+pub fn index_length(k: usize) -> usize {
+    512 * (4_usize.pow(k.min(6) as u32) + 1).div_ceil(63)
+}
+
+/// Makes the index of a set by first letters: entry v, from 0 to 4^m, is the number of keys whose first m letters have a code below v, m being
+/// the smaller of 6 and k. It is blocks as a set's are, numbered from 0, with the entries from block 0 on.
+///
+/// Accepted, `blocks` has the index in its first bytes, as many as the call answers, and zeros behind them; [`index_length`] says how many. A set
+/// is refused as by [`open`], then a buffer that is too short; refused, `blocks` has not changed.
+///
+/// ```
+/// # let mut set = vec![0; corrector::set_length(5)];
+/// # corrector::make_set(b"ACT,9\nCCG,4\nCTC,7\nAAC,5\nTCC,8\n", 3, 1, &mut set)?;
+/// let k = corrector::open(&set)?.k;
+/// let mut index = vec![0; corrector::index_length(k)];
+/// assert_eq!(corrector::make_index(&set, &mut index)?, index.len());
+/// # Ok::<(), corrector::Refusal>(())
+/// ```
+pub fn make_index(set: &[u8], blocks: &mut [u8]) -> Result<usize, Refusal> {
+    made(raw::make_index(set, blocks))
+}
+
+// The length of the blocks that a maker answers.
+fn made(numbers: [u64; 3]) -> Result<usize, Refusal> {
+    match numbers {
         [0, _, length] => Ok(length as usize),
         [number, place, _] => Err(Refusal::from_numbers(number, place)),
     }

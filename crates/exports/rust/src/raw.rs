@@ -7,11 +7,11 @@ use crate::job::Entry;
 extern "C" {
     fn corrector_open(set: *const u8, set_length: usize, answer: *mut u64, answer_length: usize) -> u64;
     fn corrector_read(
-        set: *const u8, set_length: usize, job: *const u8, job_length: usize, read: *const u8, read_length: usize,
+        set: *const u8, set_length: usize, index: *const u8, index_length: usize, job: *const u8, job_length: usize, read: *const u8, read_length: usize,
         output: *mut u8, output_length: usize, work: *mut u8, work_length: usize, answer: *mut u64, answer_length: usize,
     ) -> u64;
     fn corrector_batch(
-        set: *const u8, set_length: usize, job: *const u8, job_length: usize, batch: *const u8, batch_length: usize,
+        set: *const u8, set_length: usize, index: *const u8, index_length: usize, job: *const u8, job_length: usize, batch: *const u8, batch_length: usize,
         output: *mut u8, output_length: usize, work: *mut u8, work_length: usize, answer: *mut u64, answer_length: usize,
     ) -> u64;
     fn corrector_count_solid(
@@ -20,11 +20,16 @@ extern "C" {
     fn corrector_make_set(
         text: *const u8, text_length: usize, k: u64, least: u64, blocks: *mut u8, blocks_length: usize, answer: *mut u64, answer_length: usize,
     ) -> u64;
+    fn corrector_make_index(
+        set: *const u8, set_length: usize, blocks: *mut u8, blocks_length: usize, answer: *mut u64, answer_length: usize,
+    ) -> u64;
 }
 
 /// What a read or a batch call is lent, but for its answer.
 pub struct Lent<'a> {
     pub set: &'a [u8],
+    /// Empty: not offered.
+    pub index: &'a [u8],
     pub job: &'a [u8],
     pub input: &'a [u8],
     pub output: &'a mut [u8],
@@ -67,6 +72,8 @@ pub fn correct(call: Call, lent: Lent<'_>) -> [u64; 8] {
         entry(
             lent.set.as_ptr(),
             lent.set.len(),
+            lent.index.as_ptr(),
+            lent.index.len(),
             lent.job.as_ptr(),
             lent.job.len(),
             lent.input.as_ptr(),
@@ -97,5 +104,13 @@ pub fn make_set(text: &[u8], k: u64, least: u64, blocks: &mut [u8]) -> [u64; 3] 
     unsafe {
         corrector_make_set(text.as_ptr(), text.len(), k, least, blocks.as_mut_ptr(), blocks.len(), answer.as_mut_ptr(), answer.len());
     }
+    answer
+}
+
+/// Number, place, length of the blocks.
+pub fn make_index(set: &[u8], blocks: &mut [u8]) -> [u64; 3] {
+    let mut answer = [0; 3];
+    // SAFETY: each pointer and length are a live slice's; `blocks` and `answer` are lent to this call alone.
+    unsafe { corrector_make_index(set.as_ptr(), set.len(), blocks.as_mut_ptr(), blocks.len(), answer.as_mut_ptr(), answer.len()) };
     answer
 }

@@ -2,8 +2,8 @@
 use std::error::Error;
 use std::fmt::{Display, Formatter, Result};
 
-/// Why a call is refused. Checked in this order: the first that applies is told; [`make_set`](crate::make_set) has an order of its own. Places
-/// count from 0.
+/// Why a call is refused. Checked in this order, but for 11, which comes last: the first that applies is told;
+/// [`make_set`](crate::make_set) has an order of its own. Places count from 0.
 #[derive(Clone, Copy, Debug, PartialEq, Eq)]
 pub enum Refusal {
     /// 1: the read or batch is longer than [`MAX_INPUT`](crate::MAX_INPUT) bytes.
@@ -55,6 +55,8 @@ pub enum Refusal {
     },
     /// 14: the buffer is too short for the blocks.
     TooShort,
+    /// 15: an offered index isn't the one of the set.
+    Index,
 }
 
 impl Refusal {
@@ -76,11 +78,12 @@ impl Refusal {
             12 => Self::Line { line: place },
             13 => Self::NotRising { line: place },
             14 => Self::TooShort,
-            _ => unreachable!("the library refuses by 1 to 14"),
+            15 => Self::Index,
+            _ => unreachable!("the library refuses by 1 to 15"),
         }
     }
 
-    /// The number, 1 to 14.
+    /// The number, 1 to 15.
     pub fn number(self) -> u8 {
         match self {
             Self::InputLength => 1,
@@ -97,6 +100,7 @@ impl Refusal {
             Self::Line { .. } => 12,
             Self::NotRising { .. } => 13,
             Self::TooShort => 14,
+            Self::Index => 15,
         }
     }
 
@@ -128,6 +132,7 @@ impl Display for Refusal {
             Self::Line { line } => write!(to, "line {line} of the counts breaks the form"),
             Self::NotRising { line } => write!(to, "the code of line {line} of the counts does not rise"),
             Self::TooShort => write!(to, "the buffer is too short for the blocks"),
+            Self::Index => write!(to, "the index is not that of the set"),
         }
     }
 }

@@ -9,13 +9,13 @@ const ROUNDS: usize = 4;
 const ROOM: usize = 4096;
 const JOBS: [&[u8]; 5] = [&[1, 2], &[2, 3], &[3, 1], &[4, 2], &[1, 4, 2, 3, 3, 1, 4, 2]];
 
-type Call = fn(&[u8], Job<'_>, &[u8], &mut [u8], &mut [u8]) -> Result<Report, Refusal>;
+type Call = fn(&[u8], Option<&[u8]>, Job<'_>, &[u8], &mut [u8], &mut [u8]) -> Result<Report, Refusal>;
 type Done = (Result<Report, Refusal>, Vec<u8>, Vec<u8>);
 
 fn correct(set: &[u8], job: &[u8], read: &[u8], output: &mut [u8], work: &mut [u8]) -> [Done; 2] {
     let line = [read, b"\n"].concat();
     let mut done = |call: Call, input: &[u8]| {
-        let answer = call(set, Job::from_bytes(job), input, output, work);
+        let answer = call(set, None, Job::from_bytes(job), input, output, work);
         (answer, output.to_vec(), work.to_vec())
     };
     [done(correct_read, read), done(correct_batch, &line)]

@@ -83,7 +83,7 @@ came c =
 
 -- n is bounded
 keys : (c : tie.Start Inv-loop μ-loop) → c .args .head .n ≤ maxKeys
-keys c = rw (c .pre .0 .table .n-is) (opened-n-le _ (c .pre .0 .table .opens))
+keys c = rw (c .pre .0 .n-is) (opened-n-le _ (c .pre .0 .table .opens))
 
 add-lookups : tie.Need-add-lookups Inv-loop μ-loop
 add-lookups c = omega (arith, c .before .before .before .before .before .pre)

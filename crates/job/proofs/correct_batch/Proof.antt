@@ -1,16 +1,20 @@
 use Prim.Native.Nat.{ℕ}
 use mathlib.Core.Path.{_≡_, sym, ap, _∙_}
-use mathlib.Core.Bool.{true}
+use mathlib.Core.Bool.{Bool, true}
 use mathlib.Core.Option.{none}
 use borrow.Author.Tests.{not-true, not-false}
 use lib.ListN.{length, length-replicate}
-use Rattle.rules.specs.Calls.{inputCheck, batchRight}
+use Rattle.rules.specs.Refusal.{accepted, unless}
+use Rattle.rules.specs.Set.{setOf, opened}
+use Rattle.rules.specs.Index.{indexCheck}
+use Rattle.rules.specs.Calls.{withoutIndex, inputCheck, batchRight}
 use Rattle.input.specs.Input.{checkOf}
 use Rattle.input.proofs.Checks.{is-refused}
 use Rattle.blocks.proofs.Opening.{is-refused as set-is-refused, set-opened, set-checked, set-refused}
+use Rattle.index.specs.Index.{Opens}
 use Rattle.set.specs.Ready.{tableLength}
 use Rattle.report.proofs.Within.{within}
-use Rattle.job.proofs.Opening.{batch-refused, batch-not-right, batch-not-opened, batch-corrected}
+use Rattle.job.proofs.Opening.{batch-refused, batch-not-right, batch-not-opened, batch-index-wrong, batch-corrected}
 use borrow.Author.Needs.{needs}
 use Rattle.job.proofs.correct_batch.Statement.{statement}
 use Rattle.job.proofs.correct_batch.Tie as tie
@@ -33,7 +37,7 @@ returns c =
     (batch-refused _ _ (sym (m .check-input .ensures) ∙ ap checkOf (c .refused .ensures)), tt)
 
 -- Checks 1 to 5 let pass.
-fine : (c : tie.After-enum-told) → let a = c .before .before .before .before .before .before .before .before .args in
+fine : (c : tie.After-enum-told) → let a = c .before .before .before .before .before .before .before .before .before .args in
     inputCheck (length (a .batch .now)) (a .job .now) (length (a .output .now)) (length (a .work .now)) ≡ none
 fine c = sym (c .before .before .check-input .ensures) ∙ ap checkOf (c .enum-told .given .1)
 
@@ -45,7 +49,7 @@ returns-2 c =
     let b = c .before in
     (batch-not-right _ (fine (b .before)) (sym (b .check-batch .ensures) ∙ not-true _ (c .if1 .taken)), tt)
 
-right : (c : tie.Else1) → batchRight (c .before .before .before .before .before .before .before .before .before .before .args .batch .now) ≡ true
+right : (c : tie.Else1) → batchRight (c .before .before .before .before .before .before .before .before .before .before .before .args .batch .now) ≡ true
 right c = sym (c .before .check-batch .ensures) ∙ not-false _ (c .if1 .left)
 
 open-requires : tie.Need-open-requires
@@ -66,22 +70,51 @@ returns-3 c =
     let b = o .before in
     (batch-not-opened _ (fine (b .before .before)) (right b) _ (set-refused _ _ _ (c .refused2 .ensures) (o .«open» .ensures)), tt)
 
+-- The set opens.
+opens : (c : tie.After-known-told) → let a = c .before .before .before .before .before .before .before .before .before .before .before .before .before .before .before .args in
+    opened (a .set .now) ≡ accepted (setOf (a .set .now))
+opens c = set-opened _ _ _ _ (c .before .opened .given .1) (c .before .before .before .«open» .ensures)
+
+checked : (c : tie.After-known-told) → let o = c .before .opened .given .0 in
+    Opens (c .before .before .before .before .before .before .before .before .before .before .before .before .before .before .before .args .set .now) (o .0) (o .1 .0)
+checked c =
+    let t = set-checked _ _ _ _ (c .before .opened .given .1) (c .before .before .before .«open» .ensures) in
+    record { right = t .0; k-is = t .1; n-is = t .2 }
+
+check-index-requires : tie.Need-check-index-requires
+check-index-requires c κs = checked c
+
+returns-4 : tie.Need-returns-4
+unfolding unless
+returns-4 c =
+    let i = c .before in
+    let b = i .before .before .before .before .before in
+    let wrong = sym (i .check-index .ensures) ∙ ap (λ (t : Bool). unless t 15) (not-true (i .check-index .result) (c .if2 .taken)) in
+    (batch-index-wrong _ (fine (b .before .before)) (right b) (opens (i .before)) wrong, tt)
+
+-- The index passes.
+passes : (c : tie.Else2) → let a = c .before .before .before .before .before .before .before .before .before .before .before .before .before .before .before .before .before .args in
+    indexCheck (setOf (a .set .now)) (a .index .now) ≡ none
+unfolding unless
+passes c = sym (c .before .check-index .ensures) ∙ ap (λ (t : Bool). unless t 15) (not-false (c .before .check-index .result) (c .if2 .left))
+
 slice-aggregate-prepare : tie.Need-slice-aggregate-prepare
 slice-aggregate-prepare c = search needs
 
 prepare-requires : tie.Need-prepare-requires
 prepare-requires c κs =
-    let k = c .before .before in
-    let t = set-checked _ _ _ _ (k .opened .given .1) (k .before .before .«open» .ensures) in
-    (t .0, t .1, t .2, length-replicate {A = ℕ} tableLength 0)
+    let e = c .before in
+    let t = checked (e .before .before) in
+    (t .right, t .k-is, t .n-is, length-replicate {A = ℕ} tableLength 0, passes e)
 
 slice-aggregate-correct-lines : tie.Need-slice-aggregate-correct-lines
 slice-aggregate-correct-lines c = search needs
 
 correct-lines-requires : tie.Need-correct-lines-requires
 correct-lines-requires c κs =
-    let b = c .before .before .before .before .before .before .before .before .before .before in
-    (c .before .before .before .before .prepare .ensures, within _ _ _ _ (fine (b .before .before)), right b)
+    let p = c .before .before .before .before in
+    let b = p .before .before .before .before .before .before .before .before in
+    (p .prepare .ensures .0, within _ _ _ _ (fine (b .before .before)), right b)
 
 same-length : tie.Need-same-length
 same-length c = search needs
@@ -89,14 +122,14 @@ same-length c = search needs
 same-length-2 : tie.Need-same-length-2
 same-length-2 c = search needs
 
-returns-4 : tie.Need-returns-4
-returns-4 c =
+returns-5 : tie.Need-returns-5
+unfolding withoutIndex
+returns-5 c =
     let q = c .before .before .before .before in
-    let k = q .before .before .before .before .before .before .before .before in
-    let b = k .before .before .before in
+    let e = q .before .before .before .before .before .before .before in
+    let b = e .before .before .before .before .before .before in
     let f = fine (b .before .before) in
-    let opens = set-opened _ _ _ _ (k .opened .given .1) (k .before .before .«open» .ensures) in
-    batch-corrected _ f (right b) _ opens (within _ _ _ _ f .confirms) (q .correct-lines .ensures)
+    batch-corrected _ f (right b) (opens (e .before .before)) _ (passes e) (within _ _ _ _ f .confirms) (q .correct-lines .ensures)
 
 pub correct-batch-spec : {M : Type 1} → statement M
 correct-batch-spec =
@@ -114,10 +147,12 @@ correct-batch-spec =
     enum-told-3
     refused-requires-2
     returns-3
+    check-index-requires
+    returns-4
     slice-aggregate-prepare
     prepare-requires
     slice-aggregate-correct-lines
     correct-lines-requires
     same-length
     same-length-2
-    returns-4)
+    returns-5)

@@ -1,14 +1,20 @@
 use Prim.Native.Nat.{ℕ}
 use mathlib.Core.Path.{_≡_, sym, ap, _∙_}
+use mathlib.Core.Bool.{Bool}
 use mathlib.Core.Option.{none}
+use borrow.Author.Tests.{not-true, not-false}
 use lib.ListN.{length, length-replicate}
-use Rattle.rules.specs.Calls.{inputCheck}
+use Rattle.rules.specs.Refusal.{accepted, unless}
+use Rattle.rules.specs.Set.{setOf, opened}
+use Rattle.rules.specs.Index.{indexCheck}
+use Rattle.rules.specs.Calls.{withoutIndex, inputCheck}
 use Rattle.input.specs.Input.{checkOf}
 use Rattle.input.proofs.Checks.{is-refused}
 use Rattle.blocks.proofs.Opening.{is-refused as set-is-refused, set-opened, set-checked, set-refused}
+use Rattle.index.specs.Index.{Opens}
 use Rattle.set.specs.Ready.{tableLength}
 use Rattle.report.proofs.Within.{within}
-use Rattle.job.proofs.Opening.{read-refused, read-not-opened, read-corrected}
+use Rattle.job.proofs.Opening.{read-refused, read-not-opened, read-index-wrong, read-corrected}
 use borrow.Author.Needs.{needs}
 use Rattle.job.proofs.correct_read.Statement.{statement}
 use Rattle.job.proofs.correct_read.Tie as tie
@@ -31,7 +37,7 @@ returns c =
     (read-refused _ _ (sym (m .check-input .ensures) ∙ ap checkOf (c .refused .ensures)), tt)
 
 -- Checks 1 to 5 let pass.
-fine : (c : tie.After-enum-told) → let a = c .before .before .before .before .before .before .before .before .args in
+fine : (c : tie.After-enum-told) → let a = c .before .before .before .before .before .before .before .before .before .args in
     inputCheck (length (a .read .now)) (a .job .now) (length (a .output .now)) (length (a .work .now)) ≡ none
 fine c = sym (c .before .before .check-input .ensures) ∙ ap checkOf (c .enum-told .given .1)
 
@@ -52,14 +58,42 @@ returns-2 c =
     let o = c .before .before .before in
     (read-not-opened _ _ (fine (o .before)) (set-refused _ _ _ (c .refused2 .ensures) (o .«open» .ensures)), tt)
 
+-- The set opens.
+opens : (c : tie.After-known-told) → let a = c .before .before .before .before .before .before .before .before .before .before .before .before .before .args in
+    opened (a .set .now) ≡ accepted (setOf (a .set .now))
+opens c = set-opened _ _ _ _ (c .before .opened .given .1) (c .before .before .before .«open» .ensures)
+
+checked : (c : tie.After-known-told) → let o = c .before .opened .given .0 in
+    Opens (c .before .before .before .before .before .before .before .before .before .before .before .before .before .args .set .now) (o .0) (o .1 .0)
+checked c =
+    let t = set-checked _ _ _ _ (c .before .opened .given .1) (c .before .before .before .«open» .ensures) in
+    record { right = t .0; k-is = t .1; n-is = t .2 }
+
+check-index-requires : tie.Need-check-index-requires
+check-index-requires c κs = checked c
+
+returns-3 : tie.Need-returns-3
+unfolding unless
+returns-3 c =
+    let i = c .before in
+    let f = fine (i .before .before .before .before .before) in
+    let wrong = sym (i .check-index .ensures) ∙ ap (λ (t : Bool). unless t 15) (not-true (i .check-index .result) (c .if1 .taken)) in
+    (read-index-wrong _ f (opens (i .before)) wrong, tt)
+
+-- The index passes.
+passes : (c : tie.Else1) → let a = c .before .before .before .before .before .before .before .before .before .before .before .before .before .before .before .args in
+    indexCheck (setOf (a .set .now)) (a .index .now) ≡ none
+unfolding unless
+passes c = sym (c .before .check-index .ensures) ∙ ap (λ (t : Bool). unless t 15) (not-false (c .before .check-index .result) (c .if1 .left))
+
 slice-aggregate-prepare : tie.Need-slice-aggregate-prepare
 slice-aggregate-prepare c = search needs
 
 prepare-requires : tie.Need-prepare-requires
 prepare-requires c κs =
-    let k = c .before .before in
-    let t = set-checked _ _ _ _ (k .opened .given .1) (k .before .before .«open» .ensures) in
-    (t .0, t .1, t .2, length-replicate {A = ℕ} tableLength 0)
+    let e = c .before in
+    let t = checked (e .before .before) in
+    (t .right, t .k-is, t .n-is, length-replicate {A = ℕ} tableLength 0, passes e)
 
 slice-aggregate-correct-one : tie.Need-slice-aggregate-correct-one
 slice-aggregate-correct-one c = search needs
@@ -67,7 +101,7 @@ slice-aggregate-correct-one c = search needs
 correct-one-requires : tie.Need-correct-one-requires
 correct-one-requires c κs =
     let p = c .before .before .before .before in
-    (p .prepare .ensures, within _ _ _ _ (fine (p .before .before .before .before .before .before)))
+    (p .prepare .ensures .0, within _ _ _ _ (fine (p .before .before .before .before .before .before .before .before)))
 
 same-length : tie.Need-same-length
 same-length c = search needs
@@ -75,13 +109,13 @@ same-length c = search needs
 same-length-2 : tie.Need-same-length-2
 same-length-2 c = search needs
 
-returns-3 : tie.Need-returns-3
-returns-3 c =
+returns-4 : tie.Need-returns-4
+unfolding withoutIndex
+returns-4 c =
     let q = c .before .before .before .before in
-    let k = q .before .before .before .before .before .before .before .before in
-    let f = fine (k .before .before .before) in
-    let opens = set-opened _ _ _ _ (k .opened .given .1) (k .before .before .«open» .ensures) in
-    read-corrected _ _ f opens (within _ _ _ _ f .confirms) (q .correct-one .ensures)
+    let e = q .before .before .before .before .before .before .before in
+    let f = fine (e .before .before .before .before .before .before) in
+    read-corrected _ _ f (opens (e .before .before)) (passes e) (within _ _ _ _ f .confirms) (q .correct-one .ensures)
 
 pub correct-read-spec : {M : Type 1} → statement M
 correct-read-spec =
@@ -97,10 +131,12 @@ correct-read-spec =
     enum-told-3
     refused-requires-2
     returns-2
+    check-index-requires
+    returns-3
     slice-aggregate-prepare
     prepare-requires
     slice-aggregate-correct-one
     correct-one-requires
     same-length
     same-length-2
-    returns-3)
+    returns-4)

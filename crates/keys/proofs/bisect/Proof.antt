@@ -3,17 +3,17 @@ use native.Mathlib.Omega.{arith}
 use mathlib.Core.Path.{sym}
 use borrow.Author.Needs.{needs}
 use lib.Arith.{lt-of-le-ne}
-use Rattle.rules.specs.Set.{keyWord}
-use Rattle.keys.specs.Find.{Bracket}
+use Rattle.keys.specs.Find.{keyIn, Bracket}
 use Rattle.keys.proofs.Bracket.{lower-through, higher-from, answers-none}
+use Rattle.keys.proofs.Part.{key-room}
 use Rattle.keys.proofs.bisect.Statement.{statement}
 use Rattle.keys.proofs.bisect.Tie as tie
 
 abbrev Inv-loop : tie.InvT-loop
-Inv-loop set key n from end low₀ high₀ low high = Bracket set n key low high
+Inv-loop part skip key first last from end low₀ high₀ low high = Bracket skip part first last key low high
 
 abbrev μ-loop : tie.MeasureT-loop
-μ-loop set key n from end low₀ high₀ low high = high - low
+μ-loop part skip key first last from end low₀ high₀ low high = high - low
 
 loop-holds : tie.Need-loop-holds Inv-loop μ-loop
 loop-holds c = search needs
@@ -25,7 +25,10 @@ add-i : tie.Need-add-i Inv-loop μ-loop
 add-i c = search needs
 
 key-at-requires : tie.Need-key-at-requires Inv-loop μ-loop
-key-at-requires c κs = search needs
+key-at-requires c κs =
+    let l = c .before in
+    let p = l .before .before .pre .0 in
+    key-room p _ (omega (arith, l .loop .inv .within)) (omega (arith, l .loop .inv .within))
 
 returns : tie.Need-returns Inv-loop μ-loop
 returns c = search needs
@@ -41,8 +44,8 @@ loop-again c =
     let k = c .before .before in
     let l = k .before .before in
     record {
-      within = l .loop .inv .within;
-      below = lower-through _ _ _ (l .before .before .pre .0) _ (omega (arith, l .loop .inv .within)) (rw (← (k .key-at .ensures)) (c .if2 .taken));
+      within = omega (arith, l .loop .inv .within);
+      below = lower-through (l .before .before .pre .0) _ _ (omega (arith, l .loop .inv .within)) (rw (← (k .key-at .ensures)) (c .if2 .taken));
       above = l .loop .inv .above;
     }
 
@@ -51,7 +54,7 @@ loop-less-2 c = search needs
 
 -- The key is neither the one in the middle nor above it.
 below-middle : (c : tie.Else2 Inv-loop μ-loop) → let l = c .before .before .before .before in
-    l .before .before .args .key < keyWord (l .before .before .args .set .now) (l .loop .low + (l .loop .high - l .loop .low) / 2)
+    l .before .before .args .key < keyIn (l .before .before .args .skip) (l .before .before .args .part .now) (l .loop .low + (l .loop .high - l .loop .low) / 2)
 below-middle c = rw (← (c .before .before .key-at .ensures)) (lt-of-le-ne (c .if2 .left) (λ e. c .before .if1 .left (sym e)))
 
 loop-again-2 : tie.Need-loop-again-2 Inv-loop μ-loop
@@ -60,7 +63,7 @@ loop-again-2 c =
     record {
       within = omega (arith, l .loop .inv .within);
       below = l .loop .inv .below;
-      above = higher-from _ _ _ (l .before .before .pre .0) _ (below-middle c);
+      above = higher-from (l .before .before .pre .0) _ _ (omega (arith, l .loop .inv .within)) (below-middle c);
     }
 
 returns-2 : tie.Need-returns-2 Inv-loop μ-loop

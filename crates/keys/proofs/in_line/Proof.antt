@@ -3,8 +3,7 @@ use native.Mathlib.Omega.{arith}
 use mathlib.Core.Path.{_≡_, ap, _∙_}
 use mathlib.Core.Bool.{cond}
 use lib.Dec.{leb}
-use Rattle.rules.specs.Set.{keyWord}
-use Rattle.keys.specs.Find.{firstKey}
+use Rattle.keys.specs.Find.{keyIn, firstKey}
 use Rattle.keys.proofs.Bracket.{answers-all}
 use Rattle.keys.proofs.Window.{if-le, quarters}
 use borrow.Author.Needs.{needs}
@@ -26,7 +25,7 @@ add-line-key : tie.Need-add-line-key
 add-line-key c = omega (arith, half-le c)
 
 line-key-requires-2 : tie.Need-line-key-requires-2
-line-key-requires-2 c κs = omega (arith, half-le c, c .before .before .before .pre .0 .room, c .before .before .before .pre .1 .within)
+line-key-requires-2 c κs = (c .before .before .before .pre .2, omega (arith, half-le c))
 
 pick-requires-2 : tie.Need-pick-requires-2
 pick-requires-2 c κs = search needs
@@ -40,9 +39,7 @@ add-in-pair : tie.Need-add-in-pair
 add-in-pair c = omega (arith, half-le (c .before .before), quarter-le c)
 
 in-pair-requires : tie.Need-in-pair-requires
-in-pair-requires c κs =
-    let p = c .before .before .before .before .before .pre in
-    omega (arith, half-le (c .before .before), quarter-le c, p .0 .room, p .0 .few, p .1 .within)
+in-pair-requires c κs = (c .before .before .before .before .before .pre .2, omega (arith, half-le (c .before .before), quarter-le c))
 
 returns : tie.Need-returns
 returns c =
@@ -52,11 +49,11 @@ returns c =
     let k = p .before in
     let s = k .before .before in
     let a = s .args in
-    let four : p .pick .result ≡ cond (leb (keyWord (a .set .now) (firstKey (a .line) + 4)) (a .key)) 4 0 =
+    let four : p .pick .result ≡ cond (leb (keyIn (a .skip) (a .part .now) (firstKey (a .line) + 4)) (a .key)) 4 0 =
     p .pick .ensures ∙ ap (λ (w : ℕ). cond (leb w (a .key)) 4 0) (k .line-key .ensures) in
-    let two : p2 .pick2 .result ≡ cond (leb (keyWord (a .set .now) (firstKey (a .line) + (p .pick .result + 2))) (a .key)) 2 0 =
+    let two : p2 .pick2 .result ≡ cond (leb (keyIn (a .skip) (a .part .now) (firstKey (a .line) + (p .pick .result + 2))) (a .key)) 2 0 =
     p2 .pick2 .ensures ∙ ap (λ (w : ℕ). cond (leb w (a .key)) 2 0) (k2 .line-key2 .ensures) in
-    answers-all (quarters (a .set .now) (a .n) (a .key) (s .pre .0) (a .line) (p .pick .result) (p2 .pick2 .result) (s .pre .1) four two)
+    answers-all (quarters (s .pre .0) (a .key) (a .line) (p .pick .result) (p2 .pick2 .result) (s .pre .1) four two)
     (c .in-pair .result) (c .in-pair .ensures)
 
 pub in-line-spec : {M : Type 1} → statement M

@@ -3,17 +3,19 @@ use native.Mathlib.Omega.{arith}
 use native.Mathlib.Nat.{add-zero}
 use mathlib.Core.Path.{sym, _∙_}
 use borrow.Author.Needs.{needs}
-use Rattle.keys.specs.Find.{Bracket, firstKey}
+use Rattle.keys.specs.Find.{Bracket, firstKey, Lines}
 use Rattle.keys.proofs.Bracket.{higher-from, answers-none}
+use Rattle.keys.proofs.Part.{three-lines}
 use Rattle.keys.proofs.Window.{window, behind-window}
 use Rattle.keys.proofs.search.Statement.{statement}
 use Rattle.keys.proofs.search.Tie as tie
 
 abbrev Inv-loop : tie.InvT-loop
-Inv-loop set key n from end first low₀ high₀ i₀ step₀ low high i step = Bracket set n key low high × (low < high → (low ≤ i) × (i < high)) × (step ≤ 16777216)
+Inv-loop part skip key first last from end guessed low₀ high₀ i₀ step₀ low high i step =
+    Bracket skip part first last key low high × (low < high → (low ≤ i) × (i < high)) × (step ≤ 16777216)
 
 abbrev μ-loop : tie.MeasureT-loop
-μ-loop set key n from end first low₀ high₀ i₀ step₀ low high i step = high - low
+μ-loop part skip key first last from end guessed low₀ high₀ i₀ step₀ low high i step = high - low
 
 loop-holds : tie.Need-loop-holds Inv-loop μ-loop
 loop-holds c = (c .before .pre .1, λ l. (c .before .pre .2, c .before .pre .3), search needs)
@@ -24,11 +26,8 @@ inside c = c .before .loop .inv .1 (c .loop-test .taken)
 line-before-requires : tie.Need-line-before-requires Inv-loop μ-loop
 line-before-requires c κs = let l = c .before in omega (arith, inside c, l .loop .inv .0 .within, l .before .before .pre .0 .few)
 
-add-first-key : tie.Need-add-first-key Inv-loop μ-loop
-add-first-key c = search needs
-
-first-key-requires : tie.Need-first-key-requires Inv-loop μ-loop
-first-key-requires c κs = search needs
+beyond-requires : tie.Need-beyond-requires Inv-loop μ-loop
+beyond-requires c κs = search needs
 
 bisect-requires : tie.Need-bisect-requires Inv-loop μ-loop
 bisect-requires c κs = search needs
@@ -36,18 +35,28 @@ bisect-requires c κs = search needs
 returns : tie.Need-returns Inv-loop μ-loop
 returns c = search needs
 
-in-window-requires : tie.Need-in-window-requires Inv-loop μ-loop
-in-window-requires c κs = search needs
+-- The three lines hold none but the part's keys, and another key stands behind them.
+full : (c : tie.Else1 Inv-loop μ-loop) →
+    let b = c .before .before in
+    let a = b .before .before .before .before .args in
+    (a .first ≤ firstKey (b .line-before .result)) × (firstKey (b .line-before .result + 3) < a .last)
+full c = c .before .beyond .ensures (c .if1 .left)
 
--- The three lines are full of keys.
-full : (c : tie.Else1 Inv-loop μ-loop) → firstKey (c .before .before .line-before .result + 3) ≤ c .before .before .before .before .before .before .args .n
-full c = omega (arith, c .if1 .left, c .before .first-key .ensures)
+lines : (c : tie.Else1 Inv-loop μ-loop) →
+    let b = c .before .before in
+    let a = b .before .before .before .before .args in
+    Lines (a .skip) (a .part .now) (b .line-before .result) (b .line-before .result + 3)
+lines c = three-lines (c .before .before .before .before .before .before .pre .0) _ (full c .0) (full c .1)
+
+in-window-requires : tie.Need-in-window-requires Inv-loop μ-loop
+in-window-requires c κs = lines c
 
 window-line-requires : tie.Need-window-line-requires Inv-loop μ-loop
 window-line-requires c κs =
     let w = c .before in
     let s = w .before .before .before .before .before .before .before in
-    (s .pre .0, window _ _ _ (s .pre .0) _ (full (w .before)) (sym (w .in-window .ensures) ∙ c .if2 .taken))
+    let f = full (w .before) in
+    (s .pre .0, window (s .pre .0) _ _ (f .0) (f .1) (sym (w .in-window .ensures) ∙ c .if2 .taken), lines (w .before))
 
 in-line-requires : tie.Need-in-line-requires Inv-loop μ-loop
 in-line-requires c κs = search needs
@@ -62,10 +71,12 @@ lesser-requires : tie.Need-lesser-requires Inv-loop μ-loop
 lesser-requires c κs = search needs
 
 line-key-requires : tie.Need-line-key-requires Inv-loop μ-loop
-line-key-requires c κs = search needs
+line-key-requires c κs =
+    let w = lines (c .before .before .before) in
+    (record { few = omega (arith, w .few); starts = w .starts; ends = omega (arith, w .ends) }, search needs)
 
-first-key-requires-2 : tie.Need-first-key-requires-2 Inv-loop μ-loop
-first-key-requires-2 c κs = search needs
+first-key-requires : tie.Need-first-key-requires Inv-loop μ-loop
+first-key-requires c κs = search needs
 
 back-requires : tie.Need-back-requires Inv-loop μ-loop
 back-requires c κs = search needs
@@ -74,7 +85,7 @@ loop-less : tie.Need-loop-less Inv-loop μ-loop
 loop-less c =
     let f = c .before in
     let b = f .before .before .before .before .before .before .before .before in
-    omega (arith, inside (b .before), b .line-before .ensures, f .first-key2 .ensures)
+    omega (arith, inside (b .before), b .line-before .ensures, f .first-key .ensures)
 
 loop-again : tie.Need-loop-again Inv-loop μ-loop
 loop-again c =
@@ -84,19 +95,19 @@ loop-again c =
     let l = w .before .before .before .before .before in
     let p = l .before .before .pre .0 in (
       record {
-        within = omega (arith, f .first-key2 .ensures, full (w .before), p .few);
+        within = omega (arith, f .first-key .ensures, full (w .before), l .loop .inv .0 .within);
         below = l .loop .inv .0 .below;
-        above = rw (f .first-key2 .ensures) (higher-from _ _ _ p _ (rw (k .line-key .ensures, add-zero) at (f .before .if3 .taken)));
+        above = rw (f .first-key .ensures) (higher-from p _ _ (full (w .before) .0) (rw (k .line-key .ensures, add-zero) at (f .before .if3 .taken)));
       },
       c .back .ensures,
       omega (arith, k .before .lesser .ensures),
     )
 
-add-first-key-2 : tie.Need-add-first-key-2 Inv-loop μ-loop
-add-first-key-2 c = search needs
+add-first-key : tie.Need-add-first-key Inv-loop μ-loop
+add-first-key c = search needs
 
-first-key-requires-3 : tie.Need-first-key-requires-3 Inv-loop μ-loop
-first-key-requires-3 c κs = search needs
+first-key-requires-2 : tie.Need-first-key-requires-2 Inv-loop μ-loop
+first-key-requires-2 c κs = search needs
 
 add-low : tie.Need-add-low Inv-loop μ-loop
 add-low c = search needs
@@ -108,7 +119,7 @@ loop-less-2 : tie.Need-loop-less-2 Inv-loop μ-loop
 loop-less-2 c =
     let f = c .before in
     let b = f .before .before .before .before .before .before .before .before in
-    omega (arith, inside (b .before), b .line-before .ensures, f .first-key3 .ensures)
+    omega (arith, inside (b .before), b .line-before .ensures, f .first-key2 .ensures)
 
 loop-again-2 : tie.Need-loop-again-2 Inv-loop μ-loop
 loop-again-2 c =
@@ -118,8 +129,8 @@ loop-again-2 c =
     let l = w .before .before .before .before .before in
     let p = l .before .before .pre .0 in (
       record {
-        within = l .loop .inv .0 .within;
-        below = rw (f .first-key3 .ensures) (behind-window _ _ _ p _ (full (w .before)) (sym (w .in-window .ensures) ∙ k .before .before .if2 .left)
+        within = omega (arith, f .first-key2 .ensures, full (w .before), l .loop .inv .0 .within);
+        below = rw (f .first-key2 .ensures) (behind-window p _ _ (full (w .before) .1) (sym (w .in-window .ensures) ∙ k .before .before .if2 .left)
             (rw (k .line-key .ensures, add-zero) at (f .before .if3 .left)));
         above = l .loop .inv .0 .above;
       },
@@ -138,8 +149,7 @@ search-spec =
     μ-loop
     loop-holds
     line-before-requires
-    add-first-key
-    first-key-requires
+    beyond-requires
     bisect-requires
     returns
     in-window-requires
@@ -149,12 +159,12 @@ search-spec =
     mul-lesser
     lesser-requires
     line-key-requires
-    first-key-requires-2
+    first-key-requires
     back-requires
     loop-less
     loop-again
-    add-first-key-2
-    first-key-requires-3
+    add-first-key
+    first-key-requires-2
     add-low
     on-requires
     loop-less-2

@@ -4,8 +4,7 @@ use native.Mathlib.Nat.{add-zero}
 use mathlib.Core.Path.{_≡_, refl, ap, _∙_}
 use mathlib.Core.Bool.{cond}
 use lib.Dec.{leb}
-use Rattle.rules.specs.Set.{keyWord}
-use Rattle.keys.specs.Find.{firstKey}
+use Rattle.keys.specs.Find.{keyIn, firstKey}
 use Rattle.keys.proofs.Window.{if-le, three}
 use borrow.Author.Needs.{needs}
 use Rattle.keys.proofs.window_line.Statement.{statement}
@@ -38,10 +37,10 @@ few c =
     )
 
 add-result : tie.Need-add-result
-add-result c = let s = c .before .before .before .before .before in omega (arith, few c, s .pre .1 .within, s .pre .0 .few)
+add-result c = let s = c .before .before .before .before .before in omega (arith, few c, s .pre .2 .few)
 
 add-result-2 : tie.Need-add-result-2
-add-result-2 c = let s = c .before .before .before .before .before in omega (arith, few c, s .pre .1 .within, s .pre .0 .few)
+add-result-2 c = let s = c .before .before .before .before .before in omega (arith, few c, s .pre .2 .few)
 
 returns : tie.Need-returns
 returns c =
@@ -50,11 +49,17 @@ returns c =
     let f = p .before in
     let s = f .before .before in
     let a = s .args in
-    let second : p .pick .result ≡ cond (leb (keyWord (a .set .now) (firstKey (a .line + 1))) (a .key)) 1 0 =
-    p .pick .ensures ∙ ap (λ (w : ℕ). cond (leb w (a .key)) 1 0) (f .line-key .ensures ∙ ap (keyWord (a .set .now)) (add-zero _)) in
-    let third : c .pick2 .result ≡ cond (leb (keyWord (a .set .now) (firstKey (a .line + 2))) (a .key)) 1 0 =
-    c .pick2 .ensures ∙ ap (λ (w : ℕ). cond (leb w (a .key)) 1 0) (f2 .line-key2 .ensures ∙ ap (keyWord (a .set .now)) (add-zero _)) in
-    rw (second, third) (three (a .set .now) (a .n) (a .key) (s .pre .0) (a .line) (s .pre .1) _ _ refl refl)
+    let second : p .pick .result ≡ cond (leb (keyIn (a .skip) (a .part .now) (firstKey (a .line + 1))) (a .key)) 1 0 =
+    p .pick .ensures ∙ ap (λ (w : ℕ). cond (leb w (a .key)) 1 0) (f .line-key .ensures ∙ ap (keyIn (a .skip) (a .part .now)) (add-zero _)) in
+    let third : c .pick2 .result ≡ cond (leb (keyIn (a .skip) (a .part .now) (firstKey (a .line + 2))) (a .key)) 1 0 =
+    c .pick2 .ensures ∙ ap (λ (w : ℕ). cond (leb w (a .key)) 1 0) (f2 .line-key2 .ensures ∙ ap (keyIn (a .skip) (a .part .now)) (add-zero _)) in (
+      rw (second, third) (three (s .pre .0) (a .key) (a .line) (s .pre .1) _ _ refl refl),
+      (let w = s .pre .2 in record {
+        few = omega (arith, few c, w .few);
+        starts = omega (arith, few c, w .starts);
+        ends = omega (arith, few c, w .ends);
+      }),
+    )
 
 pub window-line-spec : {M : Type 1} → statement M
 window-line-spec =

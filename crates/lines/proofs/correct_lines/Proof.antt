@@ -1,6 +1,7 @@
 use Prim.Native.Nat.{_+_, _-_, _≤_}
 use native.Mathlib.Omega.{arith}
 use mathlib.Core.Path.{_≡_, refl, _∙_}
+use mathlib.Core.List.{[]}
 use borrow.Author.Needs.{needs}
 use lib.ListN.{length}
 use Rattle.rules.specs.Calls.{Given, maxLines}
@@ -13,7 +14,7 @@ use Rattle.lines.proofs.correct_lines.Tie as tie
 
 abbrev Inv-loop : tie.InvT-loop
 Inv-loop set starts head job batch output₀ work₀ done₀ line₀ from₀ output work done line from =
-    (from ≤ length batch) × (length work ≡ length work₀) × going (given set job batch output₀ work₀) from line done output
+    (from ≤ length batch) × (length work ≡ length work₀) × going (given set [] job batch output₀ work₀) from line done output
 
 abbrev μ-loop : tie.MeasureT-loop
 μ-loop set starts head job batch output₀ work₀ done₀ line₀ from₀ output work done line from = length batch - from
@@ -25,7 +26,7 @@ start l = l .before .before .before .before .before .before .before
 abbrev call : tie.At-loop Inv-loop μ-loop → Given
 call l =
     let a = start l .args in
-    given (a .set .now) (a .job .now) (a .batch .now) (a .output .now) (a .work .now)
+    given (a .set .now) [] (a .job .now) (a .batch .now) (a .output .now) (a .work .now)
 
 loop-holds : tie.Need-loop-holds Inv-loop μ-loop
 loop-holds c = (search needs, refl, begin _ _ _ _)

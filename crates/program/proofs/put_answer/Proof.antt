@@ -10,16 +10,21 @@ use borrow.Author.Needs.{needs}
 use Rattle.program.proofs.put_answer.Statement.{statement}
 use Rattle.program.proofs.put_answer.Tie as tie
 
-slice-relend-prefix-correct-batch : tie.Need-slice-relend-prefix-correct-batch
-slice-relend-prefix-correct-batch c = let s = c .before .before .before .before in omega (arith, length-page [] 0 (s .args .page .now) (s .pre))
-
 slice-aggregate-correct-batch : tie.Need-slice-aggregate-correct-batch
-slice-aggregate-correct-batch c =
+slice-aggregate-correct-batch c = search needs
+
+slice-relend-prefix-correct-batch : tie.Need-slice-relend-prefix-correct-batch
+slice-relend-prefix-correct-batch c =
     let s = c .before .before .before .before .before in
-    sym (length-take-le 32768 (s .args .page .now) (omega (arith, length-page [] 0 (s .args .page .now) (s .pre))))
+    omega (arith, length-page [] 0 (s .args .page .now) (s .pre))
 
 slice-aggregate-correct-batch-2 : tie.Need-slice-aggregate-correct-batch-2
-slice-aggregate-correct-batch-2 c = search needs
+slice-aggregate-correct-batch-2 c =
+    let s = c .before .before .before .before .before .before in
+    sym (length-take-le 32768 (s .args .page .now) (omega (arith, length-page [] 0 (s .args .page .now) (s .pre))))
+
+slice-aggregate-correct-batch-3 : tie.Need-slice-aggregate-correct-batch-3
+slice-aggregate-correct-batch-3 c = search needs
 
 correct-batch-requires : tie.Need-correct-batch-requires
 correct-batch-requires c κs = search needs
@@ -29,7 +34,7 @@ enum-known-answer c = search needs
 
 -- Where the call returned.
 abbrev start : tie.After-correct-batch → tie.Start
-start b = b .before .before .before .before .before .before .before
+start b = b .before .before .before .before .before .before .before .before
 
 put-report-requires : tie.Need-put-report-requires
 unfolding zeros
@@ -38,7 +43,7 @@ put-report-requires c κs =
     let b = a .before .before .before .before .before in
     let e = b .correct-batch in
     let p = start b .pre in
-    let k = e .kept .1 .1 .1 .0 in
+    let k = e .kept .1 .1 .1 .1 .0 in
     omega (
       arith,
       written-fits _ _ _ _ _ _ _ _ p refl (e .ensures .0) k _ (a .answer .given .1),
@@ -53,7 +58,7 @@ unfolding zeros
 put-refusal-requires c κs =
     let b = c .before .before .before .before .before .before .before in
     let e = b .correct-batch in
-    omega (arith, length-lent _ _ _ _ _ _ _ _ (start b .pre) refl (e .ensures .0) (e .kept .1 .1 .1 .0))
+    omega (arith, length-lent _ _ _ _ _ _ _ _ (start b .pre) refl (e .ensures .0) (e .kept .1 .1 .1 .1 .0))
 
 same-length : tie.Need-same-length
 unfolding zeros
@@ -64,7 +69,7 @@ same-length c =
     omega (
       arith,
       c .before .before .put-report .kept .0,
-      length-lent _ _ _ _ _ _ _ _ p refl (e .ensures .0) (e .kept .1 .1 .1 .0),
+      length-lent _ _ _ _ _ _ _ _ p refl (e .ensures .0) (e .kept .1 .1 .1 .1 .0),
       length-page [] 0 (start b .args .page .now) p,
     )
 
@@ -75,7 +80,7 @@ returns c =
     let a = q .before .before .before in
     let b = a .before .before .before .before .before in
     let e = b .correct-batch in
-    report-printed _ _ _ _ _ _ _ _ (start b .pre) refl (e .ensures .0) (e .kept .1 .1 .1 .0) _ (a .answer .given .1) _ _ (q .put-report .ensures)
+    report-printed _ _ _ _ _ _ _ _ (start b .pre) refl (e .ensures .0) (e .kept .1 .1 .1 .1 .0) _ (a .answer .given .1) _ _ (q .put-report .ensures)
 
 same-length-2 : tie.Need-same-length-2
 unfolding zeros
@@ -86,7 +91,7 @@ same-length-2 c =
     omega (
       arith,
       c .before .before .put-refusal .kept .0,
-      length-lent _ _ _ _ _ _ _ _ p refl (e .ensures .0) (e .kept .1 .1 .1 .0),
+      length-lent _ _ _ _ _ _ _ _ p refl (e .ensures .0) (e .kept .1 .1 .1 .1 .0),
       length-page [] 0 (start b .args .page .now) p,
     )
 
@@ -97,15 +102,16 @@ returns-2 c =
     let a = q .before .before .before in
     let b = a .before .before .before .before .before in
     let e = b .correct-batch in
-    refusal-printed _ _ _ _ _ _ _ _ (start b .pre) refl (e .ensures .0) (e .kept .1 .1 .1 .0) _ (a .answer2 .given .1) _ _ (q .put-refusal .ensures)
+    refusal-printed _ _ _ _ _ _ _ _ (start b .pre) refl (e .ensures .0) (e .kept .1 .1 .1 .1 .0) _ (a .answer2 .given .1) _ _ (q .put-refusal .ensures)
 
 pub put-answer-spec : {M : Type 1} → statement M
 put-answer-spec =
     tie.close
     (tie.spec
-    slice-relend-prefix-correct-batch
     slice-aggregate-correct-batch
+    slice-relend-prefix-correct-batch
     slice-aggregate-correct-batch-2
+    slice-aggregate-correct-batch-3
     correct-batch-requires
     enum-known-answer
     put-report-requires

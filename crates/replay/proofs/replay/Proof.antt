@@ -9,16 +9,20 @@ use Rattle.replay.proofs.replay.Statement.{statement}
 use Rattle.replay.proofs.replay.Tie as tie
 
 abbrev Inv-loop : tie.InvT-loop
-Inv-loop cases fill set₀ set-end₀ agree₀ case₀ t9 t10 t11 set set-end agree case = (8192 ≡ length set) × Counts set-end set × (agree ≤ case) × (case ≤ cases)
+Inv-loop cases fill set₀ set-end₀ index₀ index-end₀ agree₀ case₀ t11 t12 t13 set set-end index index-end agree case =
+    (8192 ≡ length set) × Counts set-end set × (34304 ≡ length index) × Counts index-end index × (agree ≤ case) × (case ≤ cases)
 
 abbrev μ-loop : tie.MeasureT-loop
-μ-loop cases fill set₀ set-end₀ agree₀ case₀ t9 t10 t11 set set-end agree case = cases - case
+μ-loop cases fill set₀ set-end₀ index₀ index-end₀ agree₀ case₀ t11 t12 t13 set set-end index index-end agree case = cases - case
 
 loop-holds : tie.Need-loop-holds Inv-loop μ-loop
 loop-holds c = search needs
 
 slice-aggregate-next-case : tie.Need-slice-aggregate-next-case Inv-loop μ-loop
 slice-aggregate-next-case c = search needs
+
+slice-aggregate-next-case-2 : tie.Need-slice-aggregate-next-case-2 Inv-loop μ-loop
+slice-aggregate-next-case-2 c = search needs
 
 next-case-requires : tie.Need-next-case-requires Inv-loop μ-loop
 next-case-requires c κs = search needs
@@ -34,6 +38,12 @@ array-share-prefix-set c = search needs
 
 slice-aggregate-replay-case : tie.Need-slice-aggregate-replay-case Inv-loop μ-loop
 slice-aggregate-replay-case c = search needs
+
+array-share-prefix-index : tie.Need-array-share-prefix-index Inv-loop μ-loop
+array-share-prefix-index c = search needs
+
+slice-aggregate-replay-case-2 : tie.Need-slice-aggregate-replay-case-2 Inv-loop μ-loop
+slice-aggregate-replay-case-2 c = search needs
 
 replay-case-requires : tie.Need-replay-case-requires Inv-loop μ-loop
 replay-case-requires c κs = search needs
@@ -69,7 +79,7 @@ loop-less : tie.Need-loop-less Inv-loop μ-loop
 loop-less c = search needs
 
 loop-again : tie.Need-loop-again Inv-loop μ-loop
-loop-again c = (search needs, search needs, ⊎-elim (λ w. omega arith) (λ w. omega arith) (c .match .came), search needs)
+loop-again c = (search needs, search needs, search needs, search needs, ⊎-elim (λ w. omega arith) (λ w. omega arith) (c .match .came), search needs)
 
 ends-requires : tie.Need-ends-requires Inv-loop μ-loop
 ends-requires c κs = search needs
@@ -103,11 +113,14 @@ replay-spec =
     μ-loop
     loop-holds
     slice-aggregate-next-case
+    slice-aggregate-next-case-2
     next-case-requires
     malformed-requires
     returns
     array-share-prefix-set
     slice-aggregate-replay-case
+    array-share-prefix-index
+    slice-aggregate-replay-case-2
     replay-case-requires
     enum-told
     add-agree

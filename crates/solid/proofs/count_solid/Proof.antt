@@ -1,7 +1,9 @@
 use Prim.Native.Nat.{ℕ}
 use native.Mathlib.Omega.{arith}
-use mathlib.Core.Path.{_≡_, sym, ap, _∙_}
+use mathlib.Core.Path.{_≡_, refl, sym, ap, _∙_}
+use mathlib.Core.Logic.{inl}
 use mathlib.Core.Option.{none}
+use mathlib.Core.List.{[]}
 use lib.Dec.{leb}
 use lib.ListN.{length, length-replicate}
 use Rattle.rules.specs.Refusal.{accepted, unless}
@@ -10,6 +12,7 @@ use Rattle.rules.specs.Calls.{maxRead}
 use Rattle.input.specs.Input.{checkOf}
 use Rattle.input.proofs.Checks.{is-refused}
 use Rattle.blocks.proofs.Opening.{is-refused as set-is-refused, set-opened, set-checked, set-refused}
+use Rattle.rules.proofs.Index.{index-passes}
 use Rattle.set.specs.Ready.{tableLength}
 use Rattle.solid.proofs.Solids.{count-long, count-refused, count-none, count-all}
 use borrow.Author.Needs.{needs}
@@ -75,10 +78,13 @@ returns-3 c =
 slice-aggregate-prepare : tie.Need-slice-aggregate-prepare
 slice-aggregate-prepare c = search needs
 
+slice-aggregate-prepare-2 : tie.Need-slice-aggregate-prepare-2
+slice-aggregate-prepare-2 c = search needs
+
 prepare-requires : tie.Need-prepare-requires
 prepare-requires c κs =
-    let k = opening (c .before .before) in
-    (k .1, k .2, k .3, length-replicate {A = ℕ} tableLength 0)
+    let k = opening (c .before .before .before) in
+    (k .1, k .2, k .3, length-replicate {A = ℕ} tableLength 0, index-passes _ [] .1 (inl refl))
 
 slice-aggregate-count-kmers : tie.Need-slice-aggregate-count-kmers
 slice-aggregate-count-kmers c = search needs
@@ -86,23 +92,24 @@ slice-aggregate-count-kmers c = search needs
 count-kmers-requires : tie.Need-count-kmers-requires
 count-kmers-requires c κs =
     let p = c .before .before in
-    let r = p .prepare .ensures in
-    let k = opening (p .before .before .before) in
-    (r, omega (arith, r .k-is, k .2, p .before .before .if1 .left))
+    let r = p .prepare .ensures .0 in
+    let e = p .before .before .before in
+    let k = opening (e .before) in
+    (r, omega (arith, r .k-is, k .2, e .if1 .left))
 
-sub-t18 : tie.Need-sub-t18
-sub-t18 c = search needs
+sub-t21 : tie.Need-sub-t21
+sub-t21 c = search needs
 
-add-t19 : tie.Need-add-t19
-add-t19 c = search needs
+add-t22 : tie.Need-add-t22
+add-t22 c = search needs
 
 returns-4 : tie.Need-returns-4
 returns-4 c =
     let p = c .before .before .before in
-    let e = p .before .before in
+    let e = p .before .before .before in
     let k = opening (e .before) in
     let o = e .before .before .before .before in
-    let same = p .prepare .ensures .k-is ∙ sym (k .2) in
+    let same = p .prepare .ensures .0 .k-is ∙ sym (k .2) in
     sym (count-all _ _ (short (o .before)) (k .0) _ (k .2) _ (e .if1 .left) (rw same at (c .count-kmers .ensures)))
 
 pub count-solid-spec : {M : Type 1} → statement M
@@ -121,9 +128,10 @@ count-solid-spec =
     returns-2
     returns-3
     slice-aggregate-prepare
+    slice-aggregate-prepare-2
     prepare-requires
     slice-aggregate-count-kmers
     count-kmers-requires
-    sub-t18
-    add-t19
+    sub-t21
+    add-t22
     returns-4)

@@ -12,11 +12,12 @@ fn block(number: usize, words: &[u64]) -> Vec<u8> {
 
 /// A set file, whatever its k and keys are.
 pub fn set_of(k: u64, keys: &[u64]) -> Vec<u8> {
-    let mut set = block(0, &[k, keys.len() as u64]);
-    for (i, words) in keys.chunks(WORDS).enumerate() {
-        set.extend(block(i + 1, words));
-    }
-    set
+    [block(0, &[k, keys.len() as u64]), blocks_of(1, keys)].concat()
+}
+
+/// Words as blocks, the first of them with this number.
+pub fn blocks_of(first: usize, words: &[u64]) -> Vec<u8> {
+    words.chunks(WORDS).enumerate().flat_map(|(i, words)| block(first + i, words)).collect()
 }
 
 /// Document 01's set.
@@ -39,12 +40,17 @@ pub fn canonical(kmer: &[u8]) -> u64 {
     }
 }
 
-/// The set of a genome's k-mers.
-pub fn genome_set(k: usize, genome: &[u8]) -> Vec<u8> {
+/// The keys of a genome's k-mers.
+pub fn keys_of(k: usize, genome: &[u8]) -> Vec<u64> {
     let mut keys: Vec<u64> = genome.windows(k).map(canonical).collect();
     keys.sort_unstable();
     keys.dedup();
-    set_of(k as u64, &keys)
+    keys
+}
+
+/// The set of a genome's k-mers.
+pub fn genome_set(k: usize, genome: &[u8]) -> Vec<u8> {
+    set_of(k as u64, &keys_of(k, genome))
 }
 
 /// xorshift.

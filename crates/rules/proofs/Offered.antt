@@ -1,0 +1,231 @@
+-- Document 02, W7: with an index that passes 15, correction results and reported lookups are as without it: of every pass, of every report, and of a whole call,
+-- each byte of its buffers too.
+use Prim.Native.Nat.{ℕ, suc, _+_, _*_, _-_, _≤_}
+use native.Mathlib.Omega.{arith}
+use mathlib.Core.Path.{_≡_, refl, sym, ap, ap₂, _∙_, subst, fun-ext}
+use mathlib.Core.Bool.{Bool, true, false}
+use mathlib.Core.Logic.{_↔_, _⊎_, inl, inr}
+use mathlib.Core.Option.{Option, none, some}
+use mathlib.Core.List.{List, [], _∷_, _++_}
+use lib.ListN.{length, replicate}
+use lib.Dec.{ltb}
+use Rattle.rules.specs.Letters.{Kmer}
+use Rattle.rules.specs.Refusal.{Refusal, Outcome, accepted, refused, Check, _orElse_, unless}
+use Rattle.rules.specs.Set.{KmerSet, offering, solid, opened}
+use Rattle.rules.specs.Index.{indexCheck}
+use Rattle.rules.specs.Counted.{Try}
+use Rattle.rules.specs.Exist.{Mend, exist, one, two}
+use Rattle.rules.specs.Graph.{graph}
+use Rattle.rules.specs.GapSize.{gapSize}
+use Rattle.rules.specs.Driver.{Pass, drive}
+use Rattle.rules.specs.Job.{Method, One, Two, Graph, GapSize, Entry, entriesOf, lines, correctError, pass, result}
+use Rattle.rules.specs.Report.{Report, yieldOf}
+use Rattle.rules.specs.Counts.{Fed, sum, passesOf, allPasses, turns, lookups, attempts, corrections, W, F, ceiling, Demand3}
+use Rattle.rules.specs.Calls.{Given, withoutIndex, After, unchanged, noRoom, longest, tooLong, results, report, corrected, call, givenCheck, batchRight, correctRead, correctBatch}
+use Rattle.rules.proofs.Index.{index-refused, offering-none, offered-agrees}
+
+-- ---- a set that opens, and an index that passes 15
+
+module _ (bytes : List ℕ) (set : KmerSet) (o : opened bytes ≡ accepted set) (index : List ℕ) (passes : indexCheck set index ≡ none) where
+  abbrev indexed : KmerSet
+  indexed = offering index set
+
+  -- For every k-mer, indexed and direct lookup agree.
+  pub same-solid : solid indexed ≡ solid set
+  same-solid = fun-ext (offered-agrees bytes set o index passes)
+
+  pub same-attempt : (c : ℕ) (m : Method) → correctError indexed c m ≡ correctError set c m
+  unfolding correctError offering
+  same-attempt c One = fun-ext (λ s. fun-ext (λ y. ap (λ (sol : ℕ → Bool). exist (set .k) sol c s (one (set .k) sol) y) same-solid))
+  same-attempt c Two = fun-ext (λ s. fun-ext (λ y. ap (λ (sol : ℕ → Bool). exist (set .k) sol c s (two (set .k) sol) y) same-solid))
+  same-attempt c Graph = fun-ext (λ s. fun-ext (λ y. ap (λ (sol : ℕ → Bool). graph (set .k) (length (set .keys)) sol s y) same-solid))
+  same-attempt c GapSize = fun-ext (λ s. fun-ext (λ y. ap (λ (sol : ℕ → Bool). gapSize (set .k) (length (set .keys)) sol c s y) same-solid))
+
+  -- A pass: its bytes, and all that it counts.
+  pub same-pass : (e : Entry) (fed : List ℕ) → pass indexed e fed ≡ pass set e fed
+  unfolding pass offering
+  same-pass e fed = λ i. drive (set .k) (same-solid i) (same-attempt (e .confirm) (e .method) i) fed
+
+  pub same-result : (es : List Entry) (read : List ℕ) → result indexed es read ≡ result set es read
+  unfolding result
+  same-result [] read = refl
+  same-result (e ∷ es) read = rw (same-pass e read) (same-result es (pass set e read .bytes))
+
+  pub same-longest : (es : List Entry) (read : List ℕ) → longest indexed es read ≡ longest set es read
+  unfolding longest
+  same-longest [] read = refl
+  same-longest (e ∷ es) read = rw (same-pass e read, same-longest es (pass set e read .bytes))
+
+  same-passes : (es : List Entry) (read : List ℕ) → passesOf indexed es read ≡ passesOf set es read
+  unfolding passesOf
+  same-passes [] read = refl
+  same-passes (e ∷ es) read = rw (same-pass e read, same-passes es (pass set e read .bytes))
+
+  pub same-all : (es : List Entry) (reads : List (List ℕ)) → allPasses indexed es reads ≡ allPasses set es reads
+  unfolding allPasses
+  same-all es [] = refl
+  same-all es (read ∷ reads) = rw (same-passes es read, same-all es reads)
+
+  -- What one pass counts, and its limits.
+  pub same-turns : turns indexed ≡ turns set
+  unfolding turns
+  same-turns = fun-ext (λ p. ap (λ (q : Pass). q .turns) (same-pass (p .entry) (p .bytes)))
+
+  pub same-lookups : lookups indexed ≡ lookups set
+  unfolding lookups
+  same-lookups = fun-ext (λ p. ap (λ (q : Pass). q .lookups) (same-pass (p .entry) (p .bytes)))
+
+  pub same-attempts : attempts indexed ≡ attempts set
+  unfolding attempts
+  same-attempts = fun-ext (λ p. ap (λ (q : Pass). q .attempts) (same-pass (p .entry) (p .bytes)))
+
+  pub same-corrections : corrections indexed ≡ corrections set
+  unfolding corrections
+  same-corrections = fun-ext (λ p. ap (λ (q : Pass). q .accepted) (same-pass (p .entry) (p .bytes)))
+
+  same-W : W indexed ≡ W set
+  unfolding W offering
+  same-W = refl
+
+  same-F : (c : ℕ) (m : Method) → F indexed c m ≡ F set c m
+  unfolding F offering
+  same-F c One = refl
+  same-F c Two = refl
+  same-F c Graph = refl
+  same-F c GapSize = refl
+
+  same-ceiling : ceiling indexed ≡ ceiling set
+  unfolding ceiling W offering
+  same-ceiling =
+      fun-ext (λ p. ap (λ (f : ℕ). elim (ltb (length (p .bytes)) (set .k)) [ true ↦ 0 | false ↦ 1 + W set p * f ]) (same-F (p .entry .confirm) (p .entry .method)))
+
+  -- Summed over all passes.
+  same-sum : (f : KmerSet → Fed → ℕ) → f indexed ≡ f set → (es : List Entry) (reads : List (List ℕ))
+      → sum (f indexed) (allPasses indexed es reads) ≡ sum (f set) (allPasses set es reads)
+  same-sum f e es reads = ap₂ sum e (same-all es reads)
+
+  -- Demand 3, both ways.
+  pub same-demand : (es : List Entry) (reads : List (List ℕ)) (t l : ℕ) → Demand3 indexed es reads t l ↔ Demand3 set es reads t l
+  same-demand es reads t l =
+      let ts = same-sum turns same-turns es reads in
+      let ls = same-sum lookups same-lookups es reads in
+      let ws = same-sum W same-W es reads in
+      let cs = same-sum ceiling same-ceiling es reads in (
+        λ d. record {
+          turns-are = d .turns-are ∙ ts;
+          lookups-are = d .lookups-are ∙ ls;
+          turns-under = subst (λ (w : ℕ). t ≤ 2 * w) ws (d .turns-under);
+          lookups-under = subst (λ (c : ℕ). l ≤ c) cs (d .lookups-under);
+        },
+        λ d. record {
+          turns-are = d .turns-are ∙ sym ts;
+          lookups-are = d .lookups-are ∙ sym ls;
+          turns-under = subst (λ (w : ℕ). t ≤ 2 * w) (sym ws) (d .turns-under);
+          lookups-under = subst (λ (c : ℕ). l ≤ c) (sym cs) (d .lookups-under);
+        },
+      )
+
+  module _ (es : List Entry) (ending : List ℕ) where
+    pub same-results : (reads : List (List ℕ)) → results indexed es ending reads ≡ results set es ending reads
+    unfolding results
+    same-results [] = refl
+    same-results (read ∷ reads) = rw (same-result es read, same-results reads)
+
+    pub same-too-long : (i left : ℕ) (reads : List (List ℕ)) → tooLong indexed es ending i left reads ≡ tooLong set es ending i left reads
+    unfolding tooLong
+    same-too-long i left [] = refl
+    same-too-long i left (read ∷ reads) =
+        ap₂ (λ (l : ℕ) (o : Option ℕ). elim (ltb left (l + length ending)) [ true ↦ some i | false ↦ o ])
+        (same-longest es read)
+        (ap (λ (r : List ℕ). tooLong indexed es ending (suc i) (left - (length r + length ending)) reads) (same-result es read)
+        ∙ same-too-long (suc i) (left - (length (result set es read) + length ending)) reads)
+
+    -- The report's numbers.
+    pub same-report : (reads : List (List ℕ)) → report indexed es ending reads ≡ report set es ending reads
+    unfolding report
+    same-report reads =
+        let a : sum (attempts indexed) (allPasses indexed es reads) ≡ sum (attempts set) (allPasses set es reads) = same-sum attempts same-attempts es reads in
+        let c : sum (corrections indexed) (allPasses indexed es reads) ≡ sum (corrections set) (allPasses set es reads) = same-sum corrections same-corrections es reads in
+        λ i. record {
+          written = length (same-results reads i);
+          turns = same-sum turns same-turns es reads i;
+          lookups = same-sum lookups same-lookups es reads i;
+          attempts = a i;
+          accepted = c i;
+          yield = yieldOf (c i) (a i);
+        }
+
+    -- Answer, report and every byte.
+    pub same-corrected : (g : Given) (reads : List (List ℕ)) → corrected indexed es ending g reads ≡ corrected set es ending g reads
+    unfolding corrected
+    same-corrected g reads =
+        λ i. elim (same-too-long 0 (length (g .output)) reads i) [
+          | some line ↦ noRoom g line
+          | none ↦ record {
+            answer = accepted (same-report reads i);
+            output = same-results reads i ++ replicate (length (g .output) - length (same-results reads i)) 0;
+            work = replicate (length (g .work)) 0;
+          }
+        ]
+
+-- ---- the calls
+
+-- The index passes 15, if the set opens.
+abbrev pub Passes15 : Given → Type 0
+Passes15 g = (set : KmerSet) → opened (g .set) ≡ accepted set → indexCheck set (g .index) ≡ none
+
+-- Any call: whatever its ending, its reads and its earlier checks.
+pub same-call : (ending : List ℕ) (reads : List (List ℕ)) (refusal : Check) (g : Given) → Passes15 g
+    → call ending reads refusal g ≡ call ending reads refusal (withoutIndex g)
+unfolding call unchanged withoutIndex indexCheck corrected noRoom
+same-call ending reads (some r) g p = refl
+same-call ending reads none g p = go (opened (g .set)) refl
+  where
+    go : (a : Outcome KmerSet) → opened (g .set) ≡ a → call ending reads none g ≡ call ending reads none (withoutIndex g)
+    go (refused r) e = rw (e, call)
+    go (accepted set) e =
+        rw (e, call, p set e)
+        (same-corrected (g .set) set e (g .index) (p set e) (entriesOf (g .job)) ending g reads
+        ∙ ap (λ (s : KmerSet). corrected s (entriesOf (g .job)) ending g reads) (sym (offering-none (g .set) set e)))
+
+-- Every call, whatever index is offered: it is refused with 15, or it is the call without.
+abbrev pub Or15 : After → After → Type 0
+Or15 a b = (a .answer ≡ refused (record { number = 15; place = 0 })) ⊎ (a ≡ b)
+
+pub call-or-15 : (ending : List ℕ) (reads : List (List ℕ)) (refusal : Check) (g : Given)
+    → Or15 (call ending reads refusal g) (call ending reads refusal (withoutIndex g))
+unfolding call unchanged withoutIndex
+call-or-15 ending reads (some r) g = inr refl
+call-or-15 ending reads none g = go (opened (g .set)) refl
+  where
+    go : (a : Outcome KmerSet) → opened (g .set) ≡ a → Or15 (call ending reads none g) (call ending reads none (withoutIndex g))
+    go (refused r) e =
+        inr (same-call ending reads none g
+        (λ set f. absurd (let h : refused r ≡ accepted set = sym e ∙ f in let z : _≡_ {A = ℕ} 0 1 = cc in omega arith)))
+    go (accepted set) e = at (indexCheck set (g .index)) refl
+      where
+        at : (c : Check) → indexCheck set (g .index) ≡ c → Or15 (call ending reads none g) (call ending reads none (withoutIndex g))
+        at none f =
+            inr (same-call ending reads none g
+            (λ s h. subst (λ (x : KmerSet). indexCheck x (g .index) ≡ none) (let q : accepted set ≡ accepted s = sym e ∙ h in cc) f))
+        at (some r) f =
+            let whole : call ending reads none g ≡ unchanged g r = rw (e, call, f) in
+            inl (ap (λ (a : After). a .answer) whole ∙ ap refused (index-refused set (g .index) r f))
+
+-- With an index that passes 15 both calls answer, report and leave in every byte what they do without.
+pub read-unindexed : (g : Given) → Passes15 g → correctRead g ≡ correctRead (withoutIndex g)
+unfolding correctRead withoutIndex
+read-unindexed g p = same-call [] (g .input ∷ []) (givenCheck g) g p
+
+pub batch-unindexed : (g : Given) → Passes15 g → correctBatch g ≡ correctBatch (withoutIndex g)
+unfolding correctBatch withoutIndex
+batch-unindexed g p = same-call (10 ∷ []) (lines (g .input)) (givenCheck g orElse unless (batchRight (g .input)) 6) g p
+
+-- Whatever is offered.
+pub read-or-15 : (g : Given) → Or15 (correctRead g) (correctRead (withoutIndex g))
+unfolding correctRead withoutIndex
+read-or-15 g = call-or-15 [] (g .input ∷ []) (givenCheck g) g
+
+pub batch-or-15 : (g : Given) → Or15 (correctBatch g) (correctBatch (withoutIndex g))
+unfolding correctBatch withoutIndex
+batch-or-15 g = call-or-15 (10 ∷ []) (lines (g .input)) (givenCheck g orElse unless (batchRight (g .input)) 6) g
