@@ -18,7 +18,6 @@ use Rattle.set.proofs.Opened.{opened-k-low, opened-k-high, opened-n-le, set-cou
 use Rattle.rules.specs.Calls.{maxRead}
 use Rattle.correct.specs.Pass.{maxF, Small}
 use Rattle.correct.proofs.Drives.{drive-fewer}
-use Rattle.correct.proofs.InTurn.{both}
 
 -- What a pass that is fed w bytes can count.
 pub record Limited (w : ℕ) (p : Pass) : Type 0 where
@@ -62,8 +61,7 @@ module _ (bytes : List ℕ) (opens : setCheck bytes ≡ none) (c : ℕ) (c-low :
         | no gt ↦ omega (arith, drive-short (setOf bytes .k) (solid (setOf bytes)) (correctError (setOf bytes) c m) 0 fed (omega arith))
       ]
 
--- ---- several passes, none of them fed more than maxRead bytes
-
+-- fed no more than maxRead bytes
 pub one-small : (w : ℕ) (p : Pass) → w ≤ maxRead → Limited w p → Small 1 p
 one-small w p h l =
     let m = mul-le-mul-right maxF h in
@@ -72,13 +70,4 @@ one-small w p h l =
       lookups = omega (arith, l .lookups);
       attempts = omega (arith, l .attempts);
       accepted = omega (arith, l .accepted);
-    }
-
-pub add-small : (i j : ℕ) (p q : Pass) → Small i p → Small j q → Small (i + j) (both p q)
-add-small i j p q a b =
-    record {
-      turns = omega (arith, a .turns, b .turns);
-      lookups = omega (arith, a .lookups, b .lookups);
-      attempts = omega (arith, a .attempts, b .attempts);
-      accepted = omega (arith, a .accepted, b .accepted);
     }

@@ -33,11 +33,6 @@ pub record Small (i : ℕ) (p : rules.Pass) : Type 0 where
   pub attempts : p .attempts ≤ i * (2 * maxRead)
   pub accepted : p .accepted ≤ i * (2 * maxRead)
 
--- A pass of an entry into the buffer out, whose room it may use.
-pub record PassInto (room : ℕ) (out : List ℕ) (n : rules.Pass) (r : Pass) : Type 0 where
-  pub is : PassIs room out n r
-  pub small : Small 1 n
-
 pub record Passed (out out′ : List ℕ) (n : rules.Pass) (r : Pass) : Type 0 where
   pub is : PassIs (length out) out′ n r
   pub room : length out′ ≡ length out

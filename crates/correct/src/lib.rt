@@ -1,19 +1,17 @@
-// The driver, `Corrector::correct` of src/correct/mod.rs: a pass, which is one read through one method, and a read through the entries
-// of a job. Document 01, "Driver", and document 02, W1.
+// The driver, `Corrector::correct` of src/correct/mod.rs: a pass, which is one read through one method. Document 01, "Driver".
 use kmer::Header;
 use kmer::Kmer;
 use turn::Place;
 use turn::Turned;
 ghost use mathlib.Core.Path.{_≡_};
-ghost use Prim.Native.Nat.{_+_, _-_, _≤_, _<_, _^_};
+ghost use Prim.Native.Nat.{_≤_};
 ghost use lib.ListN.{length, take};
 ghost use Rattle.rules.specs.Set.{setOf};
-ghost use Rattle.rules.specs.Job.{entry, entryAt, entryCount, entriesOf, Confirmed, pass};
+ghost use Rattle.rules.specs.Job.{entry, pass};
 ghost use Rattle.set.specs.Ready.{Ready};
-ghost use Rattle.rules.specs.Calls.{maxRead, maxOutput, maxMethods};
-ghost use Rattle.correct.specs.Pass.{returned, PassIs, PassInto, Passed};
+ghost use Rattle.rules.specs.Calls.{maxRead};
+ghost use Rattle.correct.specs.Pass.{returned, PassIs, Passed};
 ghost use Rattle.turn.specs.Turn.{stateOf, Stands, Countable, endOf};
-ghost use Rattle.correct.specs.Through.{held, Through, joined};
 
 // What was written and counted.
 pub struct Counts {
@@ -85,7 +83,7 @@ fn turns_of(
 }
 
 // The read as it is, with nothing counted.
-fn copied(read: &[u8], out: &mut [u8]) -> Pass
+pub fn copied(read: &[u8], out: &mut [u8]) -> Pass
     ensures { λ r. ⌜ PassIs (length (now (out .entry))) (now (out .exit)) (returned (now (read .entry))) r ⌝ }
 {
     if out.len() < read.len() {
@@ -136,117 +134,4 @@ pub fn correct(
         accepted: 0,
     };
     turns_of(set, starts, head, method, c, first, read, out)
-}
-
-// The first pass, entry 0, from the read.
-fn first_pass(
-    set: &[u8],
-    starts: &[u32],
-    head: Header,
-    job: &[u8],
-    read: &[u8],
-    output: &mut [u8],
-    work: &mut [u8],
-) -> Pass
-    requires { ⌜
-        Ready (now set) (now starts) head × (0 < entryCount (now job)) × Confirmed (entriesOf (now job)) × (length (now read) ≤ maxRead)
-        × (length (now work) ≡ length (now output)) ⌝ }
-    ensures { λ r. ⌜
-        PassInto (length (now (output .entry))) (held (entryCount (now (job .entry)) - 1) (now (output .exit)) (now (work .exit)))
-        (pass (setOf (now (set .entry))) (entryAt (now (job .entry)) 0) (now (read .entry)))
-        r ⌝ }
-{
-    let method = entries::method_of(job, 0);
-    let c = entries::confirm_of(job, 0);
-    let left = entries::count(job);
-    if left % 2 == 1 {
-        correct(set, starts, head, method, c, read, output)
-    } else {
-        correct(set, starts, head, method, c, read, work)
-    }
-}
-
-// The pass of a later entry, from the buffer that the one before wrote to the other.
-fn next_pass(
-    set: &[u8],
-    starts: &[u32],
-    head: Header,
-    job: &[u8],
-    i: usize,
-    written: usize,
-    output: &mut [u8],
-    work: &mut [u8],
-) -> Pass
-    requires { ⌜
-        Ready (now set) (now starts) head × (i < entryCount (now job)) × Confirmed (entriesOf (now job)) × (written ≤ length (now output))
-        × (length (now output) ≤ maxOutput) × (length (now work) ≡ length (now output)) ⌝ }
-    ensures { λ r. ⌜
-        PassInto (length (now (output .entry))) (held (entryCount (now (job .entry)) - i - 1) (now (output .exit)) (now (work .exit)))
-        (pass (setOf (now (set .entry))) (entryAt (now (job .entry)) i)
-        (take written (held (entryCount (now (job .entry)) - i) (now (output .entry)) (now (work .entry)))))
-        r ⌝ }
-{
-    let method = entries::method_of(job, i);
-    let c = entries::confirm_of(job, i);
-    let left = entries::count(job) - i;
-    if left % 2 == 0 {
-        correct(set, starts, head, method, c, &output[..written], work)
-    } else {
-        correct(set, starts, head, method, c, &work[..written], output)
-    }
-}
-
-// The counts of the passes so far and of the next.
-fn join(done: Counts, next: Counts) -> Counts
-    requires { ⌜
-        (done .turns + next .turns < 2 ^ 64) × (done .lookups + next .lookups < 2 ^ 64)
-        × (done .attempts + next .attempts < 2 ^ 64) × (done .accepted + next .accepted < 2 ^ 64) ⌝ }
-    ensures { λ r. ⌜ r ≡ joined done next ⌝ }
-{
-    Counts {
-        written: next.written,
-        turns: done.turns + next.turns,
-        lookups: done.lookups + next.lookups,
-        attempts: done.attempts + next.attempts,
-        accepted: done.accepted + next.accepted,
-    }
-}
-
-// A read through the entries of a job, each method reading the bytes of the one before and taking its own confirm. The two buffers take
-// turns, and the number of passes that are left says which one is written, so that the last pass ends in the output. Without entries
-// the read is copied.
-pub fn through(
-    set: &[u8],
-    starts: &[u32],
-    head: Header,
-    job: &[u8],
-    read: &[u8],
-    output: &mut [u8],
-    work: &mut [u8],
-) -> Pass
-    requires { ⌜
-        Ready (now set) (now starts) head × (entryCount (now job) ≤ maxMethods) × Confirmed (entriesOf (now job)) × (length (now read) ≤ maxRead) ⌝ }
-    requires { ⌜ (length (now output) ≤ maxOutput) × (length (now work) ≡ length (now output)) ⌝ }
-    ensures { λ r. ⌜
-        Through (setOf (now (set .entry))) (now (job .entry)) (now (read .entry))
-        (now (output .entry)) (now (output .exit)) (now (work .entry)) (now (work .exit))
-        r ⌝ }
-{
-    let n = entries::count(job);
-    if n == 0 {
-        return copied(read, output);
-    }
-    let Pass::Done(first) = first_pass(set, starts, head, job, read, output, work) else {
-        return Pass::Full;
-    };
-    let mut counts = first;
-    for i in 1..n {
-        let written = counts.written;
-        let passed = next_pass(set, starts, head, job, i, written, output, work);
-        let Pass::Done(next) = passed else {
-            return Pass::Full;
-        };
-        counts = join(counts, next);
-    }
-    Pass::Done(counts)
 }

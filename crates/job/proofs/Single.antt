@@ -17,7 +17,7 @@ use Rattle.correct.specs.declared.Pass.the-variants.{Done, Full}
 use Rattle.refusal.specs.declared.Refusal.the-variants.{NoRoom}
 use Rattle.report.specs.declared.Answer.{Answer}
 use Rattle.report.specs.declared.Answer.the-variants.{Report as Reported, Refused}
-use Rattle.correct.specs.Through.{through, ThroughIs, Through}
+use Rattle.through.specs.Through.{through, ThroughIs, Through}
 use Rattle.report.specs.Answer.{given, Exact}
 use Rattle.input.specs.Input.{Within}
 use Rattle.report.specs.Ending.{Cleared, reportOn}

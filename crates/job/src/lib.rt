@@ -35,7 +35,7 @@ fn correct_one(
         r (now (output .exit)) (now (work .exit)) ⌝ }
 {
     let room = output.len();
-    let passed = correct::through(set, starts, head, job, read, output, &mut work[..room]);
+    let passed = through::through(set, starts, head, job, read, output, &mut work[..room]);
     let Pass::Done(done) = passed else {
         return report::no_room(0, output, work);
     };

@@ -23,7 +23,7 @@ use Rattle.report.specs.declared.Answer.{Answer}
 use Rattle.report.specs.declared.Answer.the-variants.{Report as Reported, Refused}
 use Rattle.report.specs.Answer.{Exact}
 use Rattle.correct.specs.Pass.{passOf, Small}
-use Rattle.correct.specs.Through.{through}
+use Rattle.through.specs.Through.{through}
 use Rattle.lines.specs.Lines.{lineThrough, LineIs, summed, Countable}
 use Rattle.report.specs.Ending.{Cleared, reportOn}
 use Rattle.input.specs.Input.{Within}

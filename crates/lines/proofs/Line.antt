@@ -12,7 +12,7 @@ use Rattle.rules.specs.Job.{Entry, entriesOf}
 use Rattle.correct.specs.declared.Counts.{Counts}
 use Rattle.correct.specs.declared.Pass.{Pass}
 use Rattle.correct.specs.declared.Pass.the-variants.{Done, Full}
-use Rattle.correct.specs.Through.{ThroughIs, Through}
+use Rattle.through.specs.Through.{ThroughIs, Through}
 use Rattle.lines.specs.Lines.{LineIs}
 
 module _ (o : List ℕ) (at : ℕ) (h : at < length o) where

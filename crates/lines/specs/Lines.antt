@@ -11,7 +11,7 @@ use Rattle.correct.specs.declared.Counts.{Counts}
 use Rattle.correct.specs.declared.Pass.{Pass}
 use Rattle.correct.specs.declared.Pass.the-variants.{Done, Full}
 use Rattle.correct.specs.Pass.{passOf, Small}
-use Rattle.correct.specs.Through.{through}
+use Rattle.through.specs.Through.{through}
 
 -- A line with byte 10 behind its result.
 abbrev pub lineThrough : KmerSet → List Entry → List ℕ → Rules.Pass

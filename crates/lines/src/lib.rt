@@ -40,7 +40,7 @@ fn correct_line(
     }
     let end = output.len() - 1;
     let room = end - at;
-    let passed = correct::through(
+    let passed = through::through(
         set,
         starts,
         head,

@@ -11,13 +11,12 @@ use Rattle.rules.specs.Job.{Entry, entryAt, entryCount, entriesOf, pass, result
 use Rattle.rules.specs.Counts.{sum, passesOf}
 use Rattle.rules.specs.Calls.{maxRead, longest}
 use Rattle.rules.proofs.Job.{entriesOf-length}
 use Rattle.correct.specs.declared.Counts.{Counts}
 use Rattle.correct.specs.declared.Pass.{Pass}
 use Rattle.correct.specs.declared.Pass.the-variants.{Done, Full}
 use Rattle.correct.specs.Pass.{passOf, returned, PassIs, Small}
-use Rattle.correct.specs.Through.{joined, through, held, ThroughIs}
-use Rattle.correct.proofs.InTurn.{held-even, held-length, entriesLeft, entries-all, entries-next, entries-over, both, goOn, begun, next, over, fits, long, longest-end}
-use Rattle.correct.proofs.Limits.{add-small}
+use Rattle.through.specs.Through.{joined, through, held, ThroughIs}
+use Rattle.through.proofs.InTurn.{held-even, held-length, entriesLeft, entries-all, entries-next, entries-over, both, add-small, goOn, begun, next, over, fits, long, longest-end}
 
 module _ (set : KmerSet) (job read : List ℕ) where
   abbrev es : List Entry

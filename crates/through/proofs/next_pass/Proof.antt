@@ -5,9 +5,9 @@ use lib.Seq.{length-take-le}
 use borrow.Author.Needs.{needs}
 use Rattle.rules.specs.Job.{entryCount}
 use Rattle.rules.proofs.Job.{confirmed-entry}
-use Rattle.correct.proofs.InTurn.{held-even, held-odd}
-use Rattle.correct.proofs.next_pass.Statement.{statement}
-use Rattle.correct.proofs.next_pass.Tie as tie
+use Rattle.through.proofs.InTurn.{held-even, held-odd}
+use Rattle.through.proofs.next_pass.Statement.{statement}
+use Rattle.through.proofs.next_pass.Tie as tie
 
 abbrev start : tie.After-method-of → tie.Start
 start m = m .before .before .before .before .before .before

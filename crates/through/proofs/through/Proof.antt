@@ -6,12 +6,12 @@ use lib.ListN.{length, take}
 use borrow.Author.Needs.{needs}
 use Rattle.rules.specs.Set.{setOf}
 use Rattle.rules.specs.Job.{entryAt, entryCount, pass}
 use Rattle.correct.specs.declared.Pass.{Pass}
 use Rattle.correct.specs.Pass.{PassIs}
-use Rattle.correct.specs.Through.{joined, held}
-use Rattle.correct.proofs.Underway.{Underway, none-done, first-full, first-done, next-done, next-full, all-done}
-use Rattle.correct.proofs.through.Statement.{statement}
-use Rattle.correct.proofs.through.Tie as tie
+use Rattle.through.specs.Through.{joined, held}
+use Rattle.through.proofs.Underway.{Underway, none-done, first-full, first-done, next-done, next-full, all-done}
+use Rattle.through.proofs.through.Statement.{statement}
+use Rattle.through.proofs.through.Tie as tie
 
 abbrev Inv-loop : tie.InvT-loop
 Inv-loop set starts head job read output₀ work₀ n counts₀ i₀ output work counts i =

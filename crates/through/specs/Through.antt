@@ -10,10 +10,10 @@ use Rattle.rules.specs.Driver as rules
 use Rattle.rules.specs.Job.{Entry, entriesOf, result}
 use Rattle.rules.specs.Counts.{Fed, sum, passesOf, turns, lookups, attempts, corrections}
 use Rattle.rules.specs.Calls.{longest}
 use Rattle.correct.specs.declared.Pass.{Pass}
 use Rattle.correct.specs.declared.Pass.the-variants.{Done, Full}
 use Rattle.correct.specs.declared.Counts.{Counts}
-use Rattle.correct.specs.Pass.{passOf, Small}
+use Rattle.correct.specs.Pass.{passOf, PassIs, Small}
 
 -- The entries' result, and what their passes count.
 unfoldable pub through : KmerSet → List Entry → List ℕ → rules.Pass
@@ -39,6 +39,11 @@ pub record Through (set : KmerSet) (job read output output′ work work′ : Lis
   pub is : ThroughIs set (entriesOf job) read (length output) output′ r
   pub output-room : length output′ ≡ length output
   pub work-room : length work′ ≡ length work
+
+-- A pass of an entry into the buffer out, whose room it may use.
+pub record PassInto (room : ℕ) (out : List ℕ) (n : rules.Pass) (r : Pass) : Type 0 where
+  pub is : PassIs room out n r
+  pub small : Small 1 n
 
 -- The buffer that holds what is read while n passes are left: the last pass ends in the output.
 unfoldable pub held : ℕ → List ℕ → List ℕ → List ℕ

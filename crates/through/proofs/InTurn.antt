@@ -14,7 +14,8 @@ use Rattle.rules.specs.Driver.{Pass}
 use Rattle.rules.specs.Job.{Entry, entryAt, entryCount, entriesFrom, entriesOf, pass, result}
 use Rattle.rules.specs.Counts.{sum, passesOf, turns, lookups, attempts, corrections}
 use Rattle.rules.specs.Calls.{longest}
-use Rattle.correct.specs.Through.{through, held}
+use Rattle.correct.specs.Pass.{Small}
+use Rattle.through.specs.Through.{through, held}
 
 -- ---- the buffer that is read
 
@@ -63,6 +64,15 @@ both p q =
       lookups = p .lookups + q .lookups;
       attempts = p .attempts + q .attempts;
       accepted = p .accepted + q .accepted;
+    }
+
+pub add-small : (i j : ℕ) (p q : Pass) → Small i p → Small j q → Small (i + j) (both p q)
+add-small i j p q a b =
+    record {
+      turns = omega (arith, a .turns, b .turns);
+      lookups = omega (arith, a .lookups, b .lookups);
+      attempts = omega (arith, a .attempts, b .attempts);
+      accepted = omega (arith, a .accepted, b .accepted);
     }
 
 module _ (set : KmerSet) where
