@@ -7,9 +7,9 @@ use mathlib.Core.Path.{_≡_, refl, sym, ap, _∙_}
 use mathlib.Core.Bool.{Bool, true, false}
 use mathlib.Core.Option.{Option, none, some, Option·some-injective}
 use mathlib.Core.List.{List, [], _∷_, _++_}
-use lib.ListN.{length, take, set, getD}
-use lib.Seq.{slice, slice-empty, slice-cons, take-suc-set, drop-append-le, length-take-le}
-use Rattle.rules.specs.Letters.{Kmer, same, met, addBase, addAll, last, lastLetter}
+use lib.ListN.{length, take, set}
+use lib.Seq.{slice, slice-empty, take-suc-set, drop-append-le, length-take-le}
+use Rattle.rules.specs.Letters.{Kmer, met, addBase, addAll, last, lastLetter}
 use Rattle.rules.specs.Set.{maxKeys, headerK, setOf, solid}
 use Rattle.rules.specs.Counted.{Try, after, refuse, give, next, _>>=_}
 use Rattle.rules.specs.Scan.{ask, sole, alternative}
@@ -26,28 +26,10 @@ use Rattle.set.specs.Ready.{Ready}
 use Rattle.set.proofs.Opened.{opened-n-le, set-count}
 use Rattle.scan.proofs.Laws.{known-four, alternative-four}
 use Rattle.graph.proofs.Laws.{bind-none, bind-some}
-use Rattle.gap_size.specs.Gap.{gapMend, onward, passed}
+use Rattle.passed.specs.Passed.{onward, passed}
+use Rattle.gap_size.specs.Gap.{gapMend}
 
 -- ---- the k-mers that letters lead through
-
--- whether z is among those that the bases from i up to end lead through; y′ is the first of them
-module _ (z : Kmer) (k : ℕ) (y : Kmer) (i end : ℕ) (s : List ℕ) where
-  module _ {y′ : Kmer} (lt : i < end) (h : end ≤ length s) (is : y′ ≡ addBase k y (getD s i 0)) where
-    first : onward k y (slice i end s) ≡ y′ ∷ onward k y′ (slice (i + 1) end s)
-    unfolding onward
-    first = rw (slice-cons i end s 0 lt h, add-one, is)
-
-    pub seen-here : same z y′ ≡ true → met z (onward k y (slice i end s)) ≡ true
-    unfolding met
-    seen-here e = rw (first, e)
-
-    pub seen-on : same z y′ ≡ false → met z (onward k y (slice i end s)) ≡ met z (onward k y′ (slice (i + 1) end s))
-    unfolding met
-    seen-on e = rw (first, e)
-
-  pub seen-end : end ≤ i → i ≤ end → met z (onward k y (slice i end s)) ≡ false
-  unfolding met onward
-  seen-end g h = let e : i ≡ end = omega arith in rw (e, slice-empty end s)
 
 onward-snoc : (k : ℕ) (y : Kmer) (bs : List ℕ) (b : ℕ) → onward k y (bs ++ (b ∷ [])) ≡ onward k y bs ++ (addBase k (addAll k y bs) b ∷ [])
 unfolding onward addAll

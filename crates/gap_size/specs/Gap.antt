@@ -1,12 +1,10 @@
--- A gap from x on, and the k-mers that letters lead through.
+-- A gap from x on.
 use Prim.Native.Nat.{ℕ, _+_, _-_, _^_, _≤_, _<_}
 use mathlib.Core.Path.{_≡_}
 use mathlib.Core.Bool.{Bool, true}
 use mathlib.Core.List.{List, [], _∷_}
 use lib.ListN.{length}
-use lib.Seq.{slice}
 use Rattle.rules.specs.Letters as rules
-use Rattle.rules.specs.Letters.{addBase, add, code}
 use Rattle.rules.specs.Set.{solid, setOf}
 use Rattle.rules.specs.Counted.{Try, after, give, _>>=_}
 use Rattle.rules.specs.Scan.{ask}
@@ -25,16 +23,6 @@ use Rattle.scan.specs.Attempt.{Attempted}
 unfoldable pub gapMend : ℕ → (ℕ → Bool) → ℕ → rules.Kmer → Try Mend
 unfolding gap spell _>>=_ give
 gapMend k sol moves x = gap k sol moves (x ∷ []) x 0 >>= (λ seen. give (record { letters = spell seen; resume = length seen }))
-
--- The k-mers after y that bases lead through.
-unfoldable pub onward : ℕ → rules.Kmer → List ℕ → List rules.Kmer
-unfolding add code
-onward k y [] = []
-onward k y (b ∷ bs) = addBase k y b ∷ onward k (addBase k y b) bs
-
--- x and the k-mers after it, the first letter in out being x's last.
-abbrev pub passed : ℕ → rules.Kmer → ℕ → List ℕ → List rules.Kmer
-passed k x moves out = x ∷ onward k x (slice 1 (moves + 1) out)
 
 -- What the moves of a gap ask: x is solid, index is not below k, and there is room for all letters.
 pub record Fillable (bytes starts : List ℕ) (head : Header) (scan : Scan) (x : Kmer) (out : List ℕ) : Type 0 where

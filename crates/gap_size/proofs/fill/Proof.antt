@@ -11,9 +11,9 @@ use Rattle.rules.proofs.Scan.{ask-known}
 use Rattle.kmer.specs.declared.Kmer.{Kmer}
 use Rattle.kmer.specs.Kmer.{kmerOf, IsKmer}
 use Rattle.scan.proofs.Laws.{no-next, next-kmer, nuc-lt, sole-known, known-asked}
-use Rattle.gap_size.specs.Gap.{passed}
-use Rattle.gap_size.specs.Filter.{suffix, Covers}
-use Rattle.gap_size.proofs.Bits.{move-begins}
+use Rattle.passed.specs.Passed.{passed}
+use Rattle.passed.specs.Filter.{suffix, Covers}
+use Rattle.passed.proofs.Bits.{move-begins}
 use Rattle.gap_size.proofs.Laws.{Filling, passed-none, filling-start, gap-dead, gap-repeats, passed-more, gap-goes, gap-bound, gap-room, gap-refused, gap-mends}
 use Rattle.gap_size.proofs.fill.Statement.{statement}
 use Rattle.gap_size.proofs.fill.Tie as tie

@@ -1,8 +1,8 @@
 use mathlib.Core.Logic.{inl, inr}
 use borrow.Author.Needs.{needs}
-use Rattle.gap_size.proofs.Bits.{noted}
-use Rattle.gap_size.proofs.filter.note.Statement.{statement}
-use Rattle.gap_size.proofs.filter.note.Tie as tie
+use Rattle.passed.proofs.Bits.{noted}
+use Rattle.passed.proofs.filter.note.Statement.{statement}
+use Rattle.passed.proofs.filter.note.Tie as tie
 
 hash-requires : tie.Need-hash-requires
 hash-requires c κs = search needs

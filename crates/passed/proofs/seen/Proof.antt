@@ -6,10 +6,10 @@ use lib.Seq.{slice}
 use borrow.Author.Needs.{needs}
 use Rattle.rules.specs.Letters.{met}
 use Rattle.kmer.specs.Kmer.{kmerOf, IsKmer}
-use Rattle.gap_size.specs.Gap.{onward, passed}
-use Rattle.gap_size.proofs.Laws.{seen-here, seen-on, seen-end}
-use Rattle.gap_size.proofs.seen.Statement.{statement}
-use Rattle.gap_size.proofs.seen.Tie as tie
+use Rattle.passed.specs.Passed.{onward, passed}
+use Rattle.passed.proofs.Among.{seen-here, seen-on, seen-end}
+use Rattle.passed.proofs.seen.Statement.{statement}
+use Rattle.passed.proofs.seen.Tie as tie
 
 abbrev Inv-loop : tie.InvT-loop
 Inv-loop head letters moves kmer at₀ end i₀ at i =

@@ -2,10 +2,10 @@ use mathlib.Core.Path.{sym, _∙_}
 use mathlib.Core.Logic.{inl, inr, ⊎-elim}
 use borrow.Author.Needs.{needs}
 use Rattle.kmer.specs.Kmer.{kmerOf}
-use Rattle.gap_size.specs.Filter.{suffix, Noted}
-use Rattle.gap_size.proofs.Bits.{asked, not-passed}
-use Rattle.gap_size.proofs.meet.Statement.{statement}
-use Rattle.gap_size.proofs.meet.Tie as tie
+use Rattle.passed.specs.Filter.{suffix, Noted}
+use Rattle.passed.proofs.Bits.{asked, not-passed}
+use Rattle.passed.proofs.meet.Statement.{statement}
+use Rattle.passed.proofs.meet.Tie as tie
 
 -- the next k-mer's last letters are noted
 told : (c : tie.After-note) → let b = c .before .before .before .before .before in

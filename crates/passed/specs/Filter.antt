@@ -6,7 +6,7 @@ use mathlib.Core.List.{List, [], _∷_, _++_}
 use lib.ListN.{length, getD}
 use lib.Bits.{bitAnd, bitOr, bitXor}
 use Rattle.rules.specs.Letters.{Kmer, met}
-use Rattle.gap_size.specs.declared.Met.{Met}
+use Rattle.passed.specs.declared.Met.{Met}
 
 -- A k-mer's first k − 1 letters, and its last.
 abbrev pub allButLast : Kmer → ℕ

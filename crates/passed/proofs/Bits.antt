@@ -20,7 +20,7 @@ use Rattle.rules.specs.Scan.{sole}
 use Rattle.kmer.specs.declared.Header.{Header}
 use Rattle.kmer.specs.Kmer.{Shifts}
 use Rattle.kmer.proofs.Laws.{quarter-is}
-use Rattle.gap_size.specs.Filter.{allButLast, suffix, hashOf, slotOf, bitsOf, Has, In, BitsSet, Noted, Covers, Begun, Asked}
+use Rattle.passed.specs.Filter.{allButLast, suffix, hashOf, slotOf, bitsOf, Has, In, BitsSet, Noted, Covers, Begun, Asked}
 
 within : (k w m b : ℕ) → b < 2 ^ k → bitAnd w b ≡ b → bitAnd (bitOr w m) b ≡ b
 within zero w m b lt h = let z : b ≡ 0 = omega arith in rw z (and-zero-r (bitOr w m))

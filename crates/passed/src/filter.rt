@@ -3,7 +3,7 @@
 ghost use mathlib.Core.Path.{_≡_};
 ghost use Prim.Native.Nat.{_<_};
 ghost use lib.ListN.{length};
-ghost use Rattle.gap_size.specs.Filter.{hashOf, slotOf, bitsOf, BitsSet, Noted};
+ghost use Rattle.passed.specs.Filter.{hashOf, slotOf, bitsOf, BitsSet, Noted};
 
 // Products that fit, so that nothing wraps; the second spreads out the codes of few letters.
 fn hash(code: u64) -> u64

@@ -3,8 +3,8 @@ use native.Mathlib.Omega.{arith}
 use mathlib.Core.Path.{refl}
 use lib.Bits.{and-le-r}
 use borrow.Author.Needs.{needs}
-use Rattle.gap_size.proofs.filter.slot.Statement.{statement}
-use Rattle.gap_size.proofs.filter.slot.Tie as tie
+use Rattle.passed.proofs.filter.slot.Statement.{statement}
+use Rattle.passed.proofs.filter.slot.Tie as tie
 
 sub-result : tie.Need-sub-result
 sub-result c = search needs

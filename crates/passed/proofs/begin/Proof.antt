@@ -1,8 +1,8 @@
 use borrow.Author.Needs.{needs}
 use Rattle.kmer.specs.Kmer.{kmerOf}
-use Rattle.gap_size.proofs.Bits.{begun}
-use Rattle.gap_size.proofs.begin.Statement.{statement}
-use Rattle.gap_size.proofs.begin.Tie as tie
+use Rattle.passed.proofs.Bits.{begun}
+use Rattle.passed.proofs.begin.Statement.{statement}
+use Rattle.passed.proofs.begin.Tie as tie
 
 note-requires : tie.Need-note-requires
 note-requires c κs = search needs

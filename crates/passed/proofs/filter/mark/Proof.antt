@@ -1,7 +1,7 @@
 use borrow.Author.Needs.{needs}
-use Rattle.gap_size.proofs.Bits.{marked}
-use Rattle.gap_size.proofs.filter.mark.Statement.{statement}
-use Rattle.gap_size.proofs.filter.mark.Tie as tie
+use Rattle.passed.proofs.Bits.{marked}
+use Rattle.passed.proofs.filter.mark.Statement.{statement}
+use Rattle.passed.proofs.filter.mark.Tie as tie
 
 slot-requires : tie.Need-slot-requires
 slot-requires c κs = search needs

@@ -1,7 +1,7 @@
 use Rattle.kmer.specs.Kmer.{kmerOf}
-use Rattle.gap_size.proofs.Bits.{suffix-is}
-use Rattle.gap_size.proofs.suffix_of.Statement.{statement}
-use Rattle.gap_size.proofs.suffix_of.Tie as tie
+use Rattle.passed.proofs.Bits.{suffix-is}
+use Rattle.passed.proofs.suffix_of.Statement.{statement}
+use Rattle.passed.proofs.suffix_of.Tie as tie
 
 returns : tie.Need-returns
 unfolding kmerOf
