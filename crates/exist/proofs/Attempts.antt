@@ -17,8 +17,8 @@ use Rattle.scan.specs.declared.Attempt.the-variants.{Mend as Mended, Refused, F
 use Rattle.scenario.specs.declared.Mend.{Mend}
 use Rattle.scenario.specs.Scenario.{spelledOut}
 use Rattle.scenario.proofs.Trials.{refused-bind, given-bind}
-use Rattle.exist.specs.declared.Scenarii.{Scenarii}
-use Rattle.exist.specs.Exist.{mendsOf, KeptIs}
+use Rattle.trials.specs.declared.Scenarii.{Scenarii}
+use Rattle.trials.specs.Trials.{mendsOf, KeptIs}
 use Rattle.exist.proofs.Letters.{spelled-length}
 
 -- made lookups before it

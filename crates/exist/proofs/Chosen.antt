@@ -2,14 +2,12 @@
 use Prim.Native.Nat.{ℕ, zero, suc, _+_, _-_, _≤_, _<_}
 use native.Mathlib.Omega.{arith}
 use native.Mathlib.Numerals.{add-one}
-use native.Mathlib.Nat.{eq-or-lt-of-le}
-use mathlib.Core.Logic.{_⊎_, inl, inr}
 use mathlib.Core.Path.{_≡_, refl, ap, _∙_, subst}
 use mathlib.Core.Bool.{Bool, true, false}
 use mathlib.Core.Option.{none, some}
-use mathlib.Core.List.{List, [], _∷_, _++_, map, map-append}
-use lib.ListN.{length, take, drop, getD, set, replicate, length-map, List·getD-map, drop-of-length-le}
-use lib.Seq.{length-take-le, getD-take, drop-cons, take-suc-set, getD-set-same, getD-set-other}
+use mathlib.Core.List.{List, [], _∷_, _++_, map}
+use lib.ListN.{length, take, drop, getD, replicate, length-map, List·getD-map, drop-of-length-le}
+use lib.Seq.{length-take-le, getD-take, drop-cons}
 use borrow.Author.Tests.{lt-ltb, le-ltb}
 use Rattle.rules.specs.Letters.{Kmer, inPlace, addAll}
 use Rattle.rules.specs.Counted.{Counted, refuse, give, after, _>>_}
@@ -19,8 +17,9 @@ use Rattle.set.specs.declared.Asked.{Asked as More}
 use Rattle.set.specs.Asked.{AskedIs}
 use Rattle.scenario.proofs.Trials.{solid-yes, solid-no, refused-then, given-then}
 use Rattle.scenario.specs.declared.Mend.{Mend as Kept}
-use Rattle.scenario.specs.Scenario.{spelledOut, Small}
-use Rattle.exist.specs.Exist.{blank, moreOf}
+use Rattle.scenario.specs.Scenario.{spelledOut}
+use Rattle.trials.specs.Trials.{blank}
+use Rattle.exist.specs.Exist.{moreOf}
 
 -- ---- one base more
 
@@ -67,18 +66,6 @@ module _ (l : List Kept) (n : ℕ) (h : n ≤ length l) where
 
   pub mends-one : n ≡ 1 → mends ≡ spelledOut (getD l 0 blank) ∷ []
   mends-one e = mends-cons 0 (omega arith) ∙ rw (drop-of-length-le mends {i = 0 + 1} (omega (arith, mends-length)))
-
--- one more stored behind the n of the group
-module _ (l : List Kept) (n : ℕ) (m : Kept) (h : n < length l) where
-  pub mends-store : map spelledOut (take (n + 1) (set l n m)) ≡ map spelledOut (take n l) ++ (spelledOut m ∷ [])
-  mends-store = rw (add-one, take-suc-set l n m h) (map-append spelledOut (take n l) (m ∷ []))
-
-  pub small-store : Small m → ((i : ℕ) → i < n → Small (getD l i blank)) → (i : ℕ) → i < n + 1 → Small (getD (set l n m) i blank)
-  small-store q r i g = let le : i ≤ n = omega arith in go (eq-or-lt-of-le le)
-    where
-      go : (i ≡ n) ⊎ (i < n) → Small (getD (set l n m) i blank)
-      go (inl e) = rw (e, getD-set-same l n m blank h) q
-      go (inr e) = rw (getD-set-other l n i m blank (λ z. omega arith)) (r i e)
 
 -- ---- the choice
 

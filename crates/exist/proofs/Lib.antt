@@ -1,4 +1,3 @@
 pub mod Letters
-pub mod Scores
 pub mod Chosen
 pub mod Attempts

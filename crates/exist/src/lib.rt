@@ -1,12 +1,11 @@
-// Document 01, "Correctors", One and Two: ports src/correct/exist/mod.rs. A scenario is its number in the source's order. A k-mer that holds an
-// unknown letter isn't solid, and no lookup is made or counted for it (document 02, W5).
+// Document 01, "Correctors", One and Two: ports src/correct/exist/mod.rs. The choice among the scenarios that trials keep.
 use kmer::Header;
 use kmer::Kmer;
 use scan::Attempt;
 use scan::Next;
 use scenario::Mend;
-use scenario::Trial;
 use set::Asked;
+use trials::Scenarii;
 ghost use mathlib.Core.Path.{_≡_};
 ghost use Prim.Native.Nat.{_≤_, _<_, _^_};
 ghost use lib.ListN.{length, take};
@@ -18,15 +17,9 @@ ghost use Rattle.rules.specs.Exist as rules;
 ghost use Rattle.kmer.specs.Kmer.{Shifts, kmerOf, IsKmer, HasLetters};
 ghost use Rattle.set.specs.Ready.{Ready};
 ghost use Rattle.scan.specs.Attempt.{Attempted};
-ghost use Rattle.scenario.specs.Scenario.{numberOf, scenarios, nth, spelledOut, Small};
-ghost use Rattle.exist.specs.Exist.{Eligible, mendsOf, Held, KeptIs, LetterIs, MoreIs, ChoiceIs};
-
-// The scenarios kept, the first `count` of the group, and the lookups of all scenarios.
-struct Scenarii {
-    kept: [Mend; 13],
-    count: usize,
-    lookups: u64,
-}
+ghost use Rattle.scenario.specs.Scenario.{scenarios, spelledOut, Small};
+ghost use Rattle.trials.specs.Trials.{mendsOf, Held};
+ghost use Rattle.exist.specs.Exist.{LetterIs, MoreIs, ChoiceIs};
 
 // The mend to use.
 enum Pick {
@@ -37,95 +30,6 @@ enum Pick {
 struct Choice {
     pick: Pick,
     lookups: u64,
-}
-
-// The tried k-mer, unless the score is 0 from the outset: the trial refuses, its k-mer isn't solid, or o + c exceeds the length of s.
-fn eligible(
-    set: &[u8],
-    starts: &[u32],
-    head: Header,
-    two: bool,
-    number: usize,
-    c: usize,
-    x: Kmer,
-    s: &[u8],
-) -> Trial
-    requires { ⌜ Ready (now set) (now starts) head × IsKmer (head .k) x × (number < numberOf two) × (1 ≤ c) × (c < 256) ⌝ }
-    ensures { λ r. ⌜ Eligible (head .k) (solid (setOf (now (set .entry)))) c (now (s .entry))
-        (nth (scenarios two (head .k) (solid (setOf (now (set .entry)))) (kmerOf x) (now (s .entry))) number) r ⌝ }
-{
-    let trial = scenario::apply(set, starts, head, two, number, x, s);
-    let tried = trial.tried;
-    let Next::Kmer(kmer) = tried else {
-        return trial;
-    };
-    let start = scenario::check_start(two, number);
-    let asked = set::ask(set, starts, head, kmer);
-    let own = asked.lookups;
-    let lookups = trial.lookups + own;
-    if !asked.solid {
-        return Trial {
-            tried: Next::Refused,
-            lookups,
-        };
-    }
-    if s.len() < start + c {
-        return Trial {
-            tried: Next::Refused,
-            lookups,
-        };
-    }
-    Trial { tried, lookups }
-}
-
-// The scenarios that score c: the c bases of s from o are added, and the trial ends at the first base whose k-mer isn't solid.
-fn get_scenarii(
-    set: &[u8],
-    starts: &[u32],
-    head: Header,
-    two: bool,
-    c: usize,
-    x: Kmer,
-    s: &[u8],
-) -> Scenarii
-    requires { ⌜ Ready (now set) (now starts) head × IsKmer (head .k) x × (1 ≤ c) × (c < 256) ⌝ }
-    ensures { λ r. ⌜ KeptIs (rules.kept (head .k) (solid (setOf (now (set .entry)))) c (now (s .entry))
-        (scenarios two (head .k) (solid (setOf (now (set .entry)))) (kmerOf x) (now (s .entry)))) r ⌝ }
-{
-    let mut kept = [Mend {
-        code: 0,
-        letters: 0,
-        resume: 0,
-    }; 13];
-    let mut count = 0;
-    let mut lookups = 0;
-    let end = scenario::number_of(two);
-    'scenarios: for number in 0..end {
-        let trial = eligible(set, starts, head, two, number, c, x, s);
-        lookups += trial.lookups;
-        let tried = trial.tried;
-        let Next::Kmer(first) = tried else {
-            continue 'scenarios;
-        };
-        let start = scenario::check_start(two, number);
-        let last = start + c;
-        let mut kmer = first;
-        for j in start..last {
-            kmer = scan::add_base(kmer, s[j], head);
-            let asked = set::ask(set, starts, head, kmer);
-            lookups += asked.lookups;
-            if !asked.solid {
-                continue 'scenarios;
-            }
-        }
-        kept[count] = scenario::correct(two, number, x, first);
-        count += 1;
-    }
-    Scenarii {
-        kept,
-        count,
-        lookups,
-    }
 }
 
 // The code of letter i.
@@ -254,7 +158,7 @@ pub fn correct_error(
         return Attempt::Refused(made + scan::alt_cost(kmer, head));
     };
     let confirm = c as usize;
-    let scenarii = get_scenarii(set, starts, head, two, confirm, x, s);
+    let scenarii = trials::get_scenarii(set, starts, head, two, confirm, x, s);
     let choice = choose(set, starts, head, confirm, kmer, s, scenarii);
     let lookups = made + 4 + scenarii.lookups + choice.lookups;
     let pick = choice.pick;

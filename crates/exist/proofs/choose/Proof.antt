@@ -10,7 +10,7 @@ use Rattle.rules.specs.Exist.{Mend}
 use Rattle.rules.specs.Set.{solid, setOf}
 use Rattle.kmer.specs.Kmer.{kmerOf}
 use Rattle.scenario.specs.Scenario.{spelledOut, Small}
-use Rattle.exist.specs.Exist.{mendsOf}
+use Rattle.trials.specs.Trials.{mendsOf}
 use Rattle.exist.proofs.Chosen.{mends-length, mends-cons, mends-one, Asked, asked-none, asked-yes, asked-no, choose-one, choose-found, choose-refused}
 use Rattle.exist.proofs.choose.Statement.{statement}
 use Rattle.exist.proofs.choose.Tie as tie

@@ -12,11 +12,11 @@ use Rattle.kmer.specs.Kmer.{kmerOf, IsKmer}
 use Rattle.scan.specs.declared.Next.the-variants.{Kmer}
 use Rattle.scenario.specs.Scenario.{numberOf, scenarios, nth, spelledOut, Small}
 use Rattle.scenario.proofs.Trials.{asked-le, solid-one}
-use Rattle.exist.specs.Exist.{EligibleIs, blank}
-use Rattle.exist.proofs.Scores.{Run, run-none, run-on, run-bad, run-all, tried-bad, tried-all, Done, done-none, done-refused, done-kept, done-answer, done-lookups, scenarios-length, number-le}
-use Rattle.exist.proofs.Chosen.{mends-store, small-store}
-use Rattle.exist.proofs.get_scenarii.Statement.{statement}
-use Rattle.exist.proofs.get_scenarii.Tie as tie
+use Rattle.trials.specs.Trials.{EligibleIs, blank}
+use Rattle.trials.proofs.Scores.{Run, run-none, run-on, run-bad, run-all, tried-bad, tried-all, Done, done-none, done-refused, done-kept, done-answer, done-lookups, scenarios-length, number-le}
+use Rattle.trials.proofs.Group.{mends-store, small-store}
+use Rattle.trials.proofs.get_scenarii.Statement.{statement}
+use Rattle.trials.proofs.get_scenarii.Tie as tie
 
 abbrev Inv-loop : tie.InvT-loop
 Inv-loop set starts head two c x s kept count lookups₀ end number₀ first start last kmer₀ j₀ lookups number kmer j =

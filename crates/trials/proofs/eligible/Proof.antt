@@ -10,9 +10,9 @@ use Rattle.rules.specs.Exist.{Scenario}
 use Rattle.kmer.specs.Kmer.{kmerOf, IsKmer}
 use Rattle.scenario.specs.Scenario.{scenarios, nth, trialOf}
 use Rattle.scenario.proofs.Trials.{trial-refused, trial-given, asked-le}
-use Rattle.exist.proofs.Scores.{eligible-none, eligible-weak, eligible-short, eligible-on}
-use Rattle.exist.proofs.eligible.Statement.{statement}
-use Rattle.exist.proofs.eligible.Tie as tie
+use Rattle.trials.proofs.Scores.{eligible-none, eligible-weak, eligible-short, eligible-on}
+use Rattle.trials.proofs.eligible.Statement.{statement}
+use Rattle.trials.proofs.eligible.Tie as tie
 
 abbrev sc : tie.After-apply → Scenario
 sc c =

@@ -18,7 +18,7 @@ use Rattle.set.specs.declared.Asked.{Asked}
 use Rattle.set.specs.Asked.{AskedIs}
 use Rattle.scenario.specs.Scenario.{numberOf, scenarios, nth, trialOf}
 use Rattle.scenario.proofs.Trials.{asked-is, solid-one, refused-bind, given-bind}
-use Rattle.exist.specs.Exist.{confirm}
+use Rattle.trials.specs.Trials.{confirm}
 
 module _ (k : ℕ) (sol : ℕ → Bool) (c : ℕ) (s : List ℕ) (pos : 1 ≤ c) (sc : Scenario) where
   -- ---- before any base is added
