@@ -1,4 +1,4 @@
 // The program of document 01, "Sample reads": solid.set and job from its folder, a batch on input.
 fn main() {
-    program::run(b"solid.set", b"job", libc::STDIN_FILENO);
+    run::run(b"solid.set", b"job", libc::STDIN_FILENO);
 }

@@ -7,7 +7,7 @@ fn case(name: &[u8], set: &[u8], job: &[u8], batch: &[u8]) {
     io::write_all(STDOUT_FILENO, name);
     io::write_all(STDOUT_FILENO, b"\n");
     let file = os::open_read(batch);
-    program::run(set, job, file);
+    run::run(set, job, file);
     libc::close(file);
 }
 

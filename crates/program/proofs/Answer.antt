@@ -21,7 +21,8 @@ use Rattle.report.specs.declared.Answer.{Answer}
 use Rattle.report.specs.declared.Answer.the-variants.{Report as Reported, Refused}
 use Rattle.report.specs.Answer.{reportOf, answerOf, given, Exact}
 use Rattle.page.specs.Page.{Page, Puts, pageLength}
-use Rattle.page.proofs.Text.{length-zeros, zeros-append, drop-zeros, take-zeros}
+use Rattle.page.proofs.Text.{length-zeros, zeros-append, drop-zeros, take-zeros, length-page}
+use Rattle.program.specs.Answered.{Answered}
 
 -- An output of n zeros is left as it was by a refusal; an accepted call leaves the bytes written and zeros behind them.
 pub record Leaves (n : ℕ) (after : After) : Type 0 where
@@ -111,7 +112,7 @@ module _ (set job batch page₀ work : List ℕ) (a : Answer) (o w : List ℕ) (
   zero-output : take 32768 page₀ ≡ zeros 32768
   zero-output = ap (take 32768) (empty .page) ∙ take-zeros 32768 32896 (omega arith)
 
-  pub lent : page ≡ o ++ zeros 128
+  lent : page ≡ o ++ zeros 128
   lent = ap (λ (x : List ℕ). o ++ drop 32768 x) (empty .page) ∙ ap (λ (x : List ℕ). o ++ x) (drop-zeros 32768 32896)
 
   exact : Exact (correctBatch g) a o w
@@ -124,9 +125,6 @@ module _ (set job batch page₀ work : List ℕ) (a : Answer) (o w : List ℕ) (
   length-output : length o ≡ 32768
   length-output = long ∙ ap length zero-output ∙ length-zeros 32768
 
-  pub length-lent : length page ≡ 32896
-  length-lent = rw (lent, length-append, length-zeros) (omega (arith, length-output))
-
   abbrev linesOf : Report → List ℕ
   linesOf r = take (r .written) (correctBatch g .output)
 
@@ -134,7 +132,7 @@ module _ (set job batch page₀ work : List ℕ) (a : Answer) (o w : List ℕ) (
     is-accepted : correctBatch g .answer ≡ accepted (reportOf r)
     is-accepted = sym (exact .answer) ∙ ap answerOf is
 
-    pub written-fits : r .written ≤ 32768
+    written-fits : r .written ≤ 32768
     written-fits = omega (arith, leaves .within (reportOf r) is-accepted, ap length (exact .output), length-output)
 
     lines-page : Page (linesOf r) (r .written) page
@@ -155,10 +153,9 @@ module _ (set job batch page₀ work : List ℕ) (a : Answer) (o w : List ℕ) (
               ∙ ap (λ (x : List ℕ). linesOf r ++ x) (zeros-append (32768 - r .written) 128 ∙ ap zeros total);
         }
 
-    -- The counts are put behind the lines.
-    pub report-printed : (n : ℕ) (page′ : List ℕ) → Puts page (r .written) (countsLine (reportOf r)) n page′ → Page (printedFor (correctBatch g)) n page′
+    prints-counts : printedFor (correctBatch g) ≡ linesOf r ++ countsLine (reportOf r)
     unfolding printedFor
-    report-printed n page′ put = rw (printedFor, is-accepted) (put (linesOf r) lines-page)
+    prints-counts = rw (printedFor, is-accepted)
 
   module _ (x : Refused·by) (is : a ≡ Refused x) where
     is-refused : correctBatch g .answer ≡ refused (refusalOf x)
@@ -173,6 +170,30 @@ module _ (set job batch page₀ work : List ℕ) (a : Answer) (o w : List ℕ) (
           page = lent ∙ ap (λ (y : List ℕ). y ++ zeros 128) (exact .output ∙ leaves .nothing (refusalOf x) is-refused) ∙ all;
         }
 
-    pub refusal-printed : (n : ℕ) (page′ : List ℕ) → Puts page 0 (refusalLine (refusalOf x)) n page′ → Page (printedFor (correctBatch g)) n page′
+    prints-refusal : printedFor (correctBatch g) ≡ refusalLine (refusalOf x)
     unfolding printedFor
-    refusal-printed n page′ put = rw (printedFor, is-refused) (put [] empty-page)
+    prints-refusal = rw (printedFor, is-refused)
+
+  pub answered : Answered (correctBatch g) a page
+  answered = go a refl
+    where
+      go : (b : Answer) → a ≡ b → Answered (correctBatch g) b page
+      go (Reported r) is = (lines-page r is, written-fits r is, prints-counts r is)
+      go (Refused x) is = (empty-page x is, prints-refusal x is)
+
+-- ---- the counts, or the refusal, put behind it
+
+module _ (after : After) (page : List ℕ) where
+  module _ (r : Report) (h : Answered after (Reported r) page) where
+    pub counts-fit : r .written + 128 ≤ length page
+    counts-fit = omega (arith, length-page _ (r .written) page (h .0), h .1)
+
+    pub report-printed : {n : ℕ} {page′ : List ℕ} → Puts page (r .written) (countsLine (reportOf r)) n page′ → Page (printedFor after) n page′
+    report-printed put = rw (h .2) (put _ (h .0))
+
+  module _ (x : Refused·by) (h : Answered after (Refused x) page) where
+    pub refusal-fits : 128 ≤ length page
+    refusal-fits = omega (arith, length-page [] 0 page (h .0))
+
+    pub refusal-printed : {n : ℕ} {page′ : List ℕ} → Puts page 0 (refusalLine (refusalOf x)) n page′ → Page (printedFor after) n page′
+    refusal-printed put = rw (h .1) (put [] (h .0))

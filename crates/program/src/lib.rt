@@ -1,7 +1,4 @@
-// The program of document 01, "Sample reads": what it prints for its files, as bytes on a page; and the reading and printing.
-mod read;
-
-pub use read::run;
+// The program of document 01, "Sample reads": what it prints for its files, as bytes on a page.
 use report::Answer;
 ghost use mathlib.Core.List.{[]};
 ghost use mathlib.Core.Path.{_≡_};
@@ -12,6 +9,7 @@ ghost use Rattle.rules.specs.Program.{printed as Program·printed};
 ghost use Rattle.report.specs.Answer.{given};
 ghost use Rattle.page.specs.Page.{Page};
 ghost use Rattle.program.specs.Files.{filesOf, taken, allTaken};
+ghost use Rattle.program.specs.Answered.{Answered};
 
 // The output, and 128 bytes more for a line of three numbers.
 pub const PAGE: usize = 32896;
@@ -55,15 +53,25 @@ fn all_taken(whole: Whole, set: usize, job: usize, batch: usize) -> bool
     job % 2 == 0
 }
 
-// The call's answer. The page is empty, and its first bytes are the call's output.
+// The call. The page is empty, and its first bytes are the call's output.
+fn call_on(set: &[u8], job: &[u8], batch: &[u8], page: &mut [u8]) -> Answer
+    requires { ⌜ Page [] 0 (now page) ⌝ }
+    ensures { λ r. ⌜
+        Answered (correctBatch (given (now (set .entry)) [] (now (job .entry)) (now (batch .entry)) (zeros 32768) (zeros 65536)))
+        r (now (page .exit)) ⌝ }
+{
+    let mut work = [0u8; WORK];
+    job::correct_batch(set, b"", job, batch, &mut page[..OUTPUT], &mut work)
+}
+
+// The call's answer, behind its output.
 fn put_answer(set: &[u8], job: &[u8], batch: &[u8], page: &mut [u8]) -> usize
     requires { ⌜ Page [] 0 (now page) ⌝ }
     ensures { λ r. ⌜
         Page (printedFor (correctBatch (given (now (set .entry)) [] (now (job .entry)) (now (batch .entry)) (zeros 32768) (zeros 65536))))
         r (now (page .exit)) ⌝ }
 {
-    let mut work = [0u8; WORK];
-    let answer = job::correct_batch(set, b"", job, batch, &mut page[..OUTPUT], &mut work);
+    let answer = call_on(set, job, batch, page);
     match answer {
         Answer::Report(report) => page::put_report(page, report),
         Answer::Refused(refusal) => page::put_refusal(page, refusal),

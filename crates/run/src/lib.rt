@@ -1,8 +1,7 @@
-// Reads the files and writes what is printed for them. No contract can say what is read or written, so all else is done by `printed`.
-use crate::PAGE;
-use crate::Whole;
-use crate::printed;
+// Reads the files and writes what is printed for them. No contract can say what is read or written, so all else is done by `program::printed`.
 use libc::STDOUT_FILENO;
+use program::PAGE;
+use program::Whole;
 ghost use Rattle.io.specs.Counts.{Counts};
 
 // How many bytes were read, and whether the file ends there.
@@ -33,7 +32,7 @@ fn read_file(name: &[u8], buffer: &mut [u8]) -> Got
     got
 }
 
-// The program over the files of these names and an open batch. Each buffer has a byte more than the file may have, so that `printed` sees a file that
+// The program over the files of these names and an open batch. Each buffer has a byte more than the file may have, so that `program::printed` sees a file that
 // is too long.
 pub fn run(set_name: &[u8], job_name: &[u8], batch_file: i32) {
     let mut set = [0u8; 65537];
@@ -51,7 +50,7 @@ pub fn run(set_name: &[u8], job_name: &[u8], batch_file: i32) {
         batch: got_batch.whole,
     };
     let mut page = [0u8; PAGE];
-    let length = printed(
+    let length = program::printed(
         whole,
         &set[..set_end],
         &job[..job_end],

@@ -3,8 +3,8 @@ use mathlib.Core.Path.{sym}
 use lib.Seq.{length-take-le}
 use Rattle.page.proofs.Text.{length-page}
 use borrow.Author.Needs.{needs}
-use Rattle.program.proofs.read.run.Statement.{statement}
-use Rattle.program.proofs.read.run.Tie as tie
+use Rattle.run.proofs.run.Statement.{statement}
+use Rattle.run.proofs.run.Tie as tie
 
 slice-aggregate-read-file : tie.Need-slice-aggregate-read-file
 slice-aggregate-read-file c = search needs
