@@ -49,8 +49,8 @@ module _ {skip : ℕ} {part : List ℕ} {first last : ℕ} (sorted : Sorted skip
     rising = λ i j f g k. sorted .rising i j (omega arith) g (omega arith);
   }
 
-  -- Three lines with a key behind them.
-  pub three-lines : (line : ℕ) → first ≤ firstKey line → firstKey (line + 3) < last → Lines skip part line (line + 3)
+  -- Three lines of these keys.
+  pub three-lines : (line : ℕ) → first ≤ firstKey line → firstKey (line + 3) ≤ last → Lines skip part line (line + 3)
   three-lines line l h = record {
     few = omega (arith, sorted .few);
     starts = omega (arith, sorted .room (omega arith));

@@ -1,12 +1,12 @@
 -- Laws of the window: three lines, one of them, a half of it and the half of that, two words.
-use Prim.Native.Nat.{ℕ, _+_, _%_, _≤_, _<_, min}
+use Prim.Native.Nat.{ℕ, _+_, _-_, _/_, _%_, _≤_, _<_, min}
 use native.Mathlib.Omega.{arith}
 use native.Mathlib.Nat.{add-zero}
 use native.Mathlib.Decide.{decLt}
 use mathlib.Core.Path.{_≡_, refl, sym, _∙_}
 use mathlib.Core.Bool.{Bool, true, false, _||_, _&&_, cond, false≢true}
 use mathlib.Core.List.{List}
-use borrow.Author.Tests.{eqb-true, eq-eqb, ltb-true, lt-ltb, le-leb, leb-true, leb-false}
+use borrow.Author.Tests.{eqb-true, eq-eqb, ltb-true, ltb-false, lt-ltb, le-leb, leb-true, leb-false}
 use lib.Dec.{eqb, ltb, leb}
 use Rattle.rules.proofs.Opened.{both}
 use Rattle.keys.specs.declared.Found.the-variants.{At, Nothing}
@@ -19,6 +19,41 @@ cond-le false w = omega arith
 
 pub if-le : (r : ℕ) (b : Bool) (w : ℕ) → r ≡ cond b w 0 → r ≤ w
 if-le r b w e = rw e (cond-le b w)
+
+-- What holds of both holds of the one that is picked.
+pub picked : (P : ℕ → Type 0) (r : ℕ) (b : Bool) (x y : ℕ) → r ≡ cond b x y → P x → P y → P r
+picked P r true x y e p q = rw e p
+picked P r false x y e p q = rw e q
+
+-- ---- eight keys
+
+module _ {skip : ℕ} {part : List ℕ} {from end : ℕ} (sorted : Sorted skip part from end) (x : ℕ) where
+  -- Of up to eight keys, the key in the middle says in which half x can stand.
+  pub half-of-eight : (middle start : ℕ) → from < end → end ≤ from + 8 → middle ≡ from + (end - from) / 2
+      → start ≡ cond (leb (keyIn skip part middle) x) middle from
+      → (from ≤ start) × (start < end) × Bracket skip part from end x start (min (start + 4) end)
+  half-of-eight middle start some eight is start-is = rw start-is (go (leb (keyIn skip part middle) x) refl)
+    where
+      go : (b : Bool) → leb (keyIn skip part middle) x ≡ b
+          → (from ≤ cond b middle from) × (cond b middle from < end) × Bracket skip part from end x (cond b middle from) (min (cond b middle from + 4) end)
+      go true e = (
+        omega arith,
+        omega arith,
+        record {
+          within = (omega arith, omega arith);
+          below = lower-before sorted x middle (omega arith) (leb-true _ _ e);
+          above = λ j f g k. absurd (omega arith);
+        },
+      )
+      go false e = (
+        omega arith,
+        omega arith,
+        record {
+          within = (omega arith, omega arith);
+          below = λ j f g k. absurd (omega arith);
+          above = λ j f g k. higher-from sorted x middle (omega arith) (leb-false _ _ e) j f g (omega arith);
+        },
+      )
 
 -- ---- two words
 
@@ -108,7 +143,7 @@ module _ {skip : ℕ} {part : List ℕ} {first last : ℕ} (sorted : Sorted skip
 
   -- ---- three lines
 
-  pub window : (line : ℕ) → first ≤ firstKey line → firstKey (line + 3) < last
+  pub window : (line : ℕ) → first ≤ firstKey line → firstKey (line + 3) ≤ last
       → (leb (keyIn skip part (firstKey line)) x && leb x (keyIn skip part (firstKey (line + 2) + 6))) ≡ true
       → Bracket skip part first last x (firstKey line) (firstKey (line + 3))
   window line start room e =
@@ -121,7 +156,7 @@ module _ {skip : ℕ} {part : List ℕ} {first last : ℕ} (sorted : Sorted skip
       }
 
   -- x is not below the window's first key: it is above its last.
-  pub behind-window : (line : ℕ) → firstKey (line + 3) < last
+  pub behind-window : (line : ℕ) → firstKey (line + 3) ≤ last
       → (leb (keyIn skip part (firstKey line)) x && leb x (keyIn skip part (firstKey (line + 2) + 6))) ≡ false
       → keyIn skip part (firstKey line) ≤ x → LowerBefore skip part first last x (firstKey (line + 2) + 7)
   behind-window line room e l j f g k =
@@ -131,6 +166,34 @@ module _ {skip : ℕ} {part : List ℕ} {first last : ℕ} (sorted : Sorted skip
       go : (a b : Bool) → (a && b) ≡ false → a ≡ true → b ≡ false
       go true b d c = d
       go false b d c = absurd (false≢true c)
+
+  -- x belongs to none of three lines: it can stand only before them, or only behind them.
+  pub outside : (line lo hi low high : ℕ) → first ≤ firstKey line → firstKey (line + 3) ≤ last
+      → (leb (keyIn skip part (firstKey line)) x && leb x (keyIn skip part (firstKey (line + 2) + 6))) ≡ false
+      → lo < hi → Bracket skip part first last x lo hi
+      → low ≡ cond (ltb x (keyIn skip part (firstKey line))) lo (firstKey (line + 2) + 7)
+      → high ≡ cond (ltb x (keyIn skip part (firstKey line))) (firstKey line) hi
+      → (low ≤ last) × Bracket skip part first last x low high
+  outside line lo hi low high start room e some l low-is high-is = rw (low-is, high-is) (go (ltb x (keyIn skip part (firstKey line))) refl)
+    where
+      go : (b : Bool) → ltb x (keyIn skip part (firstKey line)) ≡ b
+          → (cond b lo (firstKey (line + 2) + 7) ≤ last) × Bracket skip part first last x (cond b lo (firstKey (line + 2) + 7)) (cond b (firstKey line) hi)
+      go true d = (
+        omega (arith, l .within),
+        record {
+          within = omega (arith, l .within);
+          below = l .below;
+          above = higher-from sorted x (firstKey line) start (ltb-true _ _ d);
+        },
+      )
+      go false d = (
+        omega (arith, l .within),
+        record {
+          within = omega (arith, l .within);
+          below = behind-window line room e (ltb-false _ _ d);
+          above = l .above;
+        },
+      )
 
   pub three : (line : ℕ) → Bracket skip part first last x (firstKey line) (firstKey (line + 3)) → (b c : Bool) → leb (keyIn skip part (firstKey (line + 1))) x ≡ b
       → leb (keyIn skip part (firstKey (line + 2))) x ≡ c

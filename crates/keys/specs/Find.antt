@@ -17,10 +17,10 @@ unfoldable pub keyIn : ℕ → List ℕ → ℕ → ℕ
 unfolding little
 keyIn skip part i = little 8 (drop (place i - skip) part)
 
--- The part holds the keys from `first` on and before `last`, and these rise strictly.
+-- The part holds the keys from `first` on and before `last`, with the check word behind them where one stands there, and these keys rise strictly.
 pub record Sorted (skip : ℕ) (part : List ℕ) (first last : ℕ) : Type 0 where
   pub few : last ≤ maxKeys
-  pub room : first < last → (skip ≤ place first) × (place (last - 1) + 8 ≤ skip + length part)
+  pub room : first < last → (skip ≤ place first) × (place last ≤ skip + length part)
   pub rising : (i j : ℕ) → first ≤ i → i < j → j < last → keyIn skip part i < keyIn skip part j
 
 -- Of the keys from `first` on and before `last`, every one before i is below x.

@@ -2,7 +2,7 @@
 // it holds the keys from `first` on and before `last`, and no other key is read.
 ghost use mathlib.Core.Path.{_≡_};
 ghost use mathlib.Core.Bool.{false, cond, _&&_};
-ghost use Prim.Native.Nat.{_+_, _-_, _*_, _≤_, _<_, min};
+ghost use Prim.Native.Nat.{_+_, _-_, _*_, _/_, _≤_, _<_, min};
 ghost use lib.Dec.{leb};
 ghost use lib.ListN.{length};
 ghost use Rattle.rules.specs.Set.{maxKeys};
@@ -21,16 +21,24 @@ fn pick(test: bool, yes: usize, no: usize) -> usize
     if test { yes } else { no }
 }
 
+// How many check words stand before key i, by fewer instructions than a division takes.
+fn checks_before(i: usize) -> usize
+    requires { ⌜ i ≤ maxKeys ⌝ }
+    ensures { λ r. ⌜ r ≡ i / 63 ⌝ }
+{
+    i * 17043522 / 1073741824
+}
+
 // Where key i stands in the set: one word in 64 is a check word.
 pub fn place(i: usize) -> usize
-    requires { ⌜ i < maxKeys ⌝ }
+    requires { ⌜ i ≤ maxKeys ⌝ }
     ensures { λ r. ⌜ r ≡ Find.place i ⌝ }
 {
-    512 + 8 * (i + i / 63)
+    512 + 8 * (i + checks_before(i))
 }
 
 // Key i of the set.
-fn key_at(part: &[u8], skip: usize, i: usize) -> u64
+pub fn key_at(part: &[u8], skip: usize, i: usize) -> u64
     requires { ⌜ (i < maxKeys) × (skip ≤ Find.place i) × (Find.place i + 8 ≤ skip + length (now part)) ⌝ }
     ensures { λ r. ⌜ r ≡ keyIn skip (now (part .entry)) i ⌝ }
 {
@@ -87,6 +95,19 @@ pub fn in_few(part: &[u8], skip: usize, key: u64, n: usize, from: usize, end: us
         }
     }
     in_four(part, skip, key, from, end)
+}
+
+// Up to eight keys, if any: one comparison says in which half the key can stand.
+fn in_eight(part: &[u8], skip: usize, key: u64, from: usize, end: usize) -> Found
+    requires { ⌜ Sorted skip (now part) from end × (end ≤ from + 8) ⌝ }
+    ensures { λ r. ⌜ Answers skip (now (part .entry)) key from end r ⌝ }
+{
+    if end <= from {
+        return Found::Nothing;
+    }
+    let middle = from + (end - from) / 2;
+    let start = pick(key_at(part, skip, middle) <= key, middle, from);
+    in_four(part, skip, key, start, number::lesser(start + 4, end))
 }
 
 // Keys lie in lines of 64 bytes, each one access to memory: 8 words, of which the last in each block is its check word.
@@ -177,12 +198,20 @@ fn bisect(
     Found::Nothing
 }
 
+// The line of key i.
+fn line_of(i: usize) -> usize
+    requires { ⌜ i ≤ maxKeys ⌝ }
+    ensures { λ r. ⌜ (firstKey r ≤ i) × (i < firstKey (r + 1)) ⌝ }
+{
+    (i + checks_before(i)) / 8
+}
+
 // The line before that of key i, where there is one.
 fn line_before(i: usize) -> usize
     requires { ⌜ i < maxKeys ⌝ }
     ensures { λ r. ⌜ (r + 3 ≤ maxKeys) × (firstKey r ≤ i) × (i < firstKey (r + 2)) ⌝ }
 {
-    let line = (i + i / 63) / 8;
+    let line = line_of(i);
     if line < 1 { 0 } else { line - 1 }
 }
 
@@ -205,18 +234,19 @@ fn back(low: usize, high: usize, step: usize) -> usize
     high - 1 - number::lesser(step, (high - low) / 2)
 }
 
-// Whether one of three lines is not wholly within the keys from `first` on and before `last`. Another key has to stand behind the lines: a
-// check word at their end, which is read too, then lies in the part.
+// Whether one of three lines is not wholly within the keys from `first` on and before `last`.
 fn beyond(line: usize, first: usize, last: usize) -> bool
     requires { ⌜ line + 3 ≤ maxKeys ⌝ }
-    ensures { λ r. ⌜ (r ≡ false → (first ≤ firstKey line) × (firstKey (line + 3) < last)) ⌝ }
+    ensures { λ r. ⌜ (r ≡ false → (first ≤ firstKey line) × (firstKey (line + 3) ≤ last)) ⌝ }
 {
-    (first_key(line) < first) | (last <= first_key(line + 3))
+    (first_key(line) < first) | (last < first_key(line + 3))
 }
 
-// The line of the first guess and the two beside it are read at once, and no branch depends on which of them the key belongs to: it would
-// often be guessed wrong, and all that follows would wait for memory. Where the key belongs elsewhere, the lines next to these are read,
-// for nearly always it is close; the steps double, so that a bad guess costs no more than a bisection.
+// From the end of three lines to the middle of the next three.
+const STEP: usize = 12;
+
+// Steps from a guess, each to the lines next to those read, for nearly always the key is close; the steps double, so that a bad guess costs
+// no more than a bisection.
 fn search(
     part: &[u8],
     skip: usize,
@@ -233,8 +263,7 @@ fn search(
     let mut low = from;
     let mut high = end;
     let mut i = guessed;
-    // Doubled once, from the end of three lines to the middle of the next three.
-    let mut step = 6;
+    let mut step = STEP;
     while low < high {
         let line = line_before(i);
         if beyond(line, first, last) {
@@ -256,17 +285,12 @@ fn search(
     Found::Nothing
 }
 
-// The 16 bits of the key below its prefix.
+// The 14 bits of the key below its prefix.
 fn fraction(key: u64, shift: u32) -> usize
     requires { ⌜ shift < 64 ⌝ }
-    ensures { λ r. ⌜ r < 65536 ⌝ }
+    ensures { λ r. ⌜ r < 16384 ⌝ }
 {
-    let bits = if shift < 16 {
-        key << (16 - shift)
-    } else {
-        key >> (shift - 16)
-    };
-    (bits % 65536) as usize
+    (((key << 14) >> shift) % 16384) as usize
 }
 
 // Where the key stands if the keys of its prefix are spread evenly: any index of the range is right.
@@ -274,7 +298,25 @@ fn guess(key: u64, shift: u32, from: usize, end: usize) -> usize
     requires { ⌜ (shift < 64) × (from < end) × (end ≤ maxKeys) ⌝ }
     ensures { λ r. ⌜ (from ≤ r) × (r < end) ⌝ }
 {
-    from + fraction(key, shift) * (end - from) / 65536
+    from + fraction(key, shift) * (end - from) / 16384
+}
+
+// The index nearest to i that is so far from both ends.
+fn inside(i: usize, first: usize, last: usize) -> usize
+    requires { ⌜ (first + 31 ≤ last) × (last ≤ maxKeys) ⌝ }
+    ensures { λ r. ⌜ (first + 15 ≤ r) × (r + 16 ≤ last) ⌝ }
+{
+    let least = first + 15;
+    number::lesser(pick(i < least, least, i), last - 16)
+}
+
+// The first of the three lines about the guess, or of the nearest three that are within the keys from `first` on and before `last`. No branch
+// goes by that: at the ends of a short range it would often be guessed wrong.
+fn guessed_line(key: u64, shift: u32, first: usize, last: usize, from: usize, end: usize) -> usize
+    requires { ⌜ (shift < 64) × (from < end) × (end ≤ maxKeys) × (first + 31 ≤ last) × (last ≤ maxKeys) ⌝ }
+    ensures { λ r. ⌜ (first ≤ firstKey r) × (firstKey (r + 3) ≤ last) ⌝ }
+{
+    line_of(inside(guess(key, shift, from, end), first, last)) - 1
 }
 
 // No line: it lies behind every set.
@@ -282,17 +324,16 @@ pub const NO_LINE: usize = 16777216;
 
 // The first of the three lines that a search for the key reads first, all of them within the keys from `first` on and before `last`.
 pub fn first_line(key: u64, shift: u32, first: usize, last: usize, from: usize, end: usize) -> usize
-    requires { ⌜ (shift < 64) × (end ≤ maxKeys) ⌝ }
+    requires { ⌜ (shift < 64) × (end ≤ maxKeys) × (first ≤ maxKeys) × (last ≤ maxKeys) ⌝ }
     ensures { λ r. ⌜ (r ≤ maxKeys) × WithinKeys first last r ⌝ }
 {
     if end <= from {
         return NO_LINE;
     }
-    let line = line_before(guess(key, shift, from, end));
-    if beyond(line, first, last) {
+    if last < first + 32 {
         return NO_LINE;
     }
-    line
+    guessed_line(key, shift, first, last - 1, from, end)
 }
 
 // Reads what a search reads of three lines, if they are there, so that they are near when it comes.
@@ -307,7 +348,36 @@ pub fn touch(set: &[u8], line: u32) -> u64 {
         | blocks::word_at(set, at + 176)
 }
 
+// A key that belongs to none of three lines.
+fn beside(
+    part: &[u8],
+    skip: usize,
+    key: u64,
+    first: usize,
+    last: usize,
+    from: usize,
+    end: usize,
+    line: usize,
+) -> Found
+    requires { ⌜
+        Sorted skip (now part) first last × Bracket skip (now part) first last key from end × (from < end)
+        × (first ≤ firstKey line) × (firstKey (line + 3) ≤ last)
+        × ((leb (keyIn skip (now part) (firstKey line)) key && leb key (keyIn skip (now part) (firstKey (line + 2) + 6))) ≡ false) ⌝ }
+    ensures { λ r. ⌜ Answers skip (now (part .entry)) key first last r ⌝ }
+{
+    let below = key < line_key(part, skip, line, 0);
+    let low = pick(below, from, first_key(line + 2) + 7);
+    let high = pick(below, first_key(line), end);
+    if high <= low + 8 {
+        return in_eight(part, skip, key, low, high);
+    }
+    let guessed = pick(below, back(low, high, STEP), on(low, high, STEP));
+    search(part, skip, key, first, last, low, high, guessed)
+}
+
 // A key that can stand only from key `from` on and before key `end`. The keys there are guessed to be spread evenly by their bits below `shift`.
+// The line of the guess and the two beside it are read at once, and no branch depends on which of them the key belongs to: it would often be
+// guessed wrong, and all that follows would wait for memory.
 pub fn find(
     part: &[u8],
     skip: usize,
@@ -321,6 +391,13 @@ pub fn find(
     requires { ⌜ Sorted skip (now part) first last × (shift < 64) × Bracket skip (now part) first last key from end × (from < end) ⌝ }
     ensures { λ r. ⌜ Answers skip (now (part .entry)) key first last r ⌝ }
 {
-    let guessed = guess(key, shift, from, end);
-    search(part, skip, key, first, last, from, end, guessed)
+    if last < first + 31 {
+        return bisect(part, skip, key, first, last, from, end);
+    }
+    let line = guessed_line(key, shift, first, last, from, end);
+    if in_window(part, skip, key, line) {
+        let found = window_line(part, skip, key, first, last, line);
+        return in_line(part, skip, key, first, last, found);
+    }
+    beside(part, skip, key, first, last, from, end, line)
 }

@@ -78,10 +78,12 @@ fn span_of(set: &[u8], starts: &[u32], shift: u32, finer: u32, key: u64) -> Span
     requires { ⌜ Table (now set) (now starts) shift finer × (key < 4 ^ headerK (now set)) ⌝ }
     ensures { λ r. ⌜ InPrefix (now (set .entry)) (shift + finer) key (r .first) (r .last) ⌝ }
 {
-    let v = prefix_of(key, shift) >> finer;
+    let prefix = prefix_of(key, shift);
+    let width = 1 << finer;
+    let v = prefix - prefix % width;
     Span {
-        first: start(starts, v << finer),
-        last: start(starts, (v + 1) << finer),
+        first: start(starts, v),
+        last: start(starts, v + width),
     }
 }
 
@@ -91,7 +93,7 @@ fn in_few(set: &[u8], n: usize, range: Range) -> Found
     ensures { λ r. ⌜ Answers 0 (now (set .entry)) (range .key) (range .from) (range .end) r ⌝ }
 {
     let skip = keys::place(range.from);
-    let stop = keys::place(range.end - 1) + 8;
+    let stop = keys::place(range.end);
     keys::in_few(&set[skip..stop], skip, range.key, n, range.from, range.end)
 }
 
@@ -103,7 +105,7 @@ fn in_many(set: &[u8], shift: u32, range: Range, span: Span) -> Found
     ensures { λ r. ⌜ Answers 0 (now (set .entry)) (range .key) (span .first) (span .last) r ⌝ }
 {
     let skip = keys::place(span.first);
-    let stop = keys::place(span.last - 1) + 8;
+    let stop = keys::place(span.last);
     keys::find(
         &set[skip..stop],
         skip,
@@ -230,7 +232,7 @@ fn has_prefix(set: &[u8], shift: u32, prefix: usize, i: usize) -> bool
     requires { ⌜ (shift < 64) × (i < 63 * (blocks (now set) - 1)) ⌝ }
     ensures { λ r. ⌜ r ≡ eqb (table.prefix shift (keyWord (now (set .entry)) i)) prefix ⌝ }
 {
-    prefix_of(blocks::key_at(set, i), shift) == prefix
+    prefix_of(keys::key_at(set, 0, i), shift) == prefix
 }
 
 // A few keys from key i on that have its prefix: any number is right. In a small set few keys have one prefix.
@@ -238,7 +240,7 @@ fn run(set: &[u8], n: usize, shift: u32, prefix: usize, i: usize) -> usize
     requires { ⌜ (setCheck (now set) ≡ none) × (n ≡ headerN (now set)) × (shift < 64) × (i < n) × (prefix ≡ table.prefix shift (keyWord (now set) i)) ⌝ }
     ensures { λ r. ⌜ (1 ≤ r) × (i + r ≤ n) × Run (now (set .entry)) shift prefix i (i + r) ⌝ }
 {
-    if n < 1000000 {
+    if n < 3000000 {
         return 1;
     }
     if i + 48 <= n {
@@ -262,7 +264,7 @@ fn mark_ends(set: &[u8], n: usize, shift: u32, prefixes: usize, starts: &mut [u3
 {
     let mut i = 0;
     while i < n {
-        let prefix = prefix_of(blocks::key_at(set, i), shift);
+        let prefix = prefix_of(keys::key_at(set, 0, i), shift);
         let step = run(set, n, shift, prefix, i);
         starts[prefix + 1] = (i + step) as u32;
         i += step;

@@ -13,7 +13,7 @@ sub-result c = search needs
 
 -- A fraction of the keys is not all of them.
 part : (c : tie.After-fraction) → let a = c .before .args in
-    c .fraction .result * (a .end - a .from) ≤ 65535 * (a .end - a .from)
+    c .fraction .result * (a .end - a .from) ≤ 16383 * (a .end - a .from)
 part c = mul-le-mul-right _ (search needs)
 
 mul-result : tie.Need-mul-result

@@ -35,11 +35,11 @@ bisect-requires c κs = search needs
 returns : tie.Need-returns Inv-loop μ-loop
 returns c = search needs
 
--- The three lines hold none but the part's keys, and another key stands behind them.
+-- The three lines hold none but the part's keys.
 full : (c : tie.Else1 Inv-loop μ-loop) →
     let b = c .before .before in
     let a = b .before .before .before .before .args in
-    (a .first ≤ firstKey (b .line-before .result)) × (firstKey (b .line-before .result + 3) < a .last)
+    (a .first ≤ firstKey (b .line-before .result)) × (firstKey (b .line-before .result + 3) ≤ a .last)
 full c = c .before .beyond .ensures (c .if1 .left)
 
 lines : (c : tie.Else1 Inv-loop μ-loop) →
