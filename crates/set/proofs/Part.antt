@@ -18,7 +18,7 @@ module _ (bytes : List ℕ) (opens : setCheck bytes ≡ none) (first last : ℕ)
   skip = place first
 
   abbrev stop : ℕ
-  stop = place (last - 1) + 8
+  stop = place last
 
   abbrev part : List ℕ
   part = take (stop - skip) (drop skip bytes)

@@ -6,7 +6,7 @@ ghost use mathlib.Core.Path.{_≡_};
 ghost use mathlib.Core.Option.{none};
 ghost use Prim.Native.Nat.{ℕ, _+_, _-_, _*_, _/_, _^_, _≤_, _<_, max};
 ghost use lib.ListN.{length, getD};
-ghost use Rattle.rules.specs.Set.{maxK, maxKeys, blocks, headerK, headerN, keyWord, setCheck, setOf, firstLetters, entryIn, solid};
+ghost use Rattle.rules.specs.Set.{maxK, maxKeys, headerK, headerN, keyWord, setCheck, setOf, firstLetters, entryIn, solid};
 ghost use Rattle.rules.specs.Index.{indexBlocks, indexCheck};
 ghost use Rattle.rules.specs.Letters.{canonical};
 ghost use Rattle.rules.specs.Scan as rules;
@@ -78,12 +78,12 @@ fn span_of(set: &[u8], starts: &[u32], shift: u32, finer: u32, key: u64) -> Span
     requires { ⌜ Table (now set) (now starts) shift finer × (key < 4 ^ headerK (now set)) ⌝ }
     ensures { λ r. ⌜ InPrefix (now (set .entry)) (shift + finer) key (r .first) (r .last) ⌝ }
 {
-    let prefix = prefix_of(key, shift);
+    let finest = prefix_of(key, shift);
     let width = 1 << finer;
-    let v = prefix - prefix % width;
+    let entry = finest - finest % width;
     Span {
-        first: start(starts, v),
-        last: start(starts, v + width),
+        first: start(starts, entry),
+        last: start(starts, entry + width),
     }
 }
 
@@ -229,7 +229,7 @@ fn clear(starts: &mut [u32], entries: usize)
 }
 
 fn has_prefix(set: &[u8], shift: u32, prefix: usize, i: usize) -> bool
-    requires { ⌜ (shift < 64) × (i < 63 * (blocks (now set) - 1)) ⌝ }
+    requires { ⌜ (setCheck (now set) ≡ none) × (shift < 64) × (i < headerN (now set)) ⌝ }
     ensures { λ r. ⌜ r ≡ eqb (table.prefix shift (keyWord (now (set .entry)) i)) prefix ⌝ }
 {
     prefix_of(keys::key_at(set, 0, i), shift) == prefix

@@ -22,7 +22,13 @@ span-of-requires c κs =
 first-line-requires : tie.Need-first-line-requires
 first-line-requires c κs =
     let table = c .before .before .before .before .pre .0 .table in
-    (omega (arith, shift-lt table), omega (arith, opened-n-le _ (table .opens), c .before .range-of .ensures .1 .ends .within))
+    let n = opened-n-le _ (table .opens) in
+    let span = c .span-of .ensures in (
+      omega (arith, shift-lt table),
+      omega (arith, n, c .before .range-of .ensures .1 .ends .within),
+      omega (arith, n, span .starts .within),
+      omega (arith, n, span .ends .within),
+    )
 
 returns : tie.Need-returns
 returns c = (

@@ -14,23 +14,17 @@ some c = omega (arith, c .pre .3, c .pre .4, c .pre .5)
 place-requires : tie.Need-place-requires
 place-requires c κs = let s = c .before in omega (arith, some s, s .pre .6, opened-n-le _ (s .pre .0))
 
-sub-place : tie.Need-sub-place
-sub-place c = omega (arith, some (c .before .before .before))
-
 place-requires-2 : tie.Need-place-requires-2
-place-requires-2 c κs = let s = c .before .before .before in omega (arith, some s, s .pre .6, opened-n-le _ (s .pre .0))
+place-requires-2 c κs = let s = c .before .before in omega (arith, some s, s .pre .6, opened-n-le _ (s .pre .0))
 
 -- The part lies in the set.
-room : (c : tie.After-place2) → let s = c .before .before .before .before in
-    (c .before .before .place .result ≤ c .place2 .result + 8) × (c .place2 .result + 8 ≤ length (s .args .set .now))
+room : (c : tie.After-place2) → let s = c .before .before .before in
+    (c .before .place .result ≤ c .place2 .result) × (c .place2 .result ≤ length (s .args .set .now))
 room c =
-    let f = c .before .before in
+    let f = c .before in
     let s = f .before .before in
     let a = s .args in
     omega (arith, part-room (a .set .now) (s .pre .0) (a .span .first) (a .span .last) (some s) (s .pre .6), f .place .ensures, c .place2 .ensures)
-
-add-stop : tie.Need-add-stop
-add-stop c = omega (arith, room c)
 
 sub-find : tie.Need-sub-find
 sub-find c = omega (arith, room c)
@@ -44,7 +38,7 @@ part-find-end c = omega (arith, room c)
 find-requires : tie.Need-find-requires
 find-requires c κs =
     let q = c .before in
-    let f = q .before .before in
+    let f = q .before in
     let s = f .before .before in
     let a = s .args in
     let sorted = part-sorted (a .set .now) (s .pre .0) (a .span .first) (a .span .last) (some s) (s .pre .6) in
@@ -54,7 +48,7 @@ find-requires c κs =
 returns : tie.Need-returns
 returns c =
     let q = c .before .before in
-    let f = q .before .before in
+    let f = q .before in
     let s = f .before .before in
     let a = s .args in
     part-answers (a .set .now) (s .pre .0) (a .span .first) (a .span .last) (some s) (s .pre .6) (a .range .key) (c .find .result)
@@ -65,9 +59,7 @@ in-many-spec =
     tie.close
     (tie.spec
     place-requires
-    sub-place
     place-requires-2
-    add-stop
     sub-find
     part-find-start
     part-find-end
