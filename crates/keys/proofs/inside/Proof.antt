@@ -1,4 +1,4 @@
-use Prim.Native.Nat.{ℕ, _+_, _≤_}
+use Prim.Native.Nat.{ℕ, _≤_}
 use native.Mathlib.Omega.{arith}
 use mathlib.Core.Path.{_≡_, refl}
 use mathlib.Core.Bool.{Bool, true, false, cond}
@@ -31,7 +31,7 @@ returns : tie.Need-returns
 returns c =
     let p = c .before in
     let a = p .before .args in
-    omega (arith, at-least (a .i) (a .first + 15) (p .pick .result) (p .pick .ensures), c .lesser .ensures)
+    omega (arith, at-least (a .i) _ (p .pick .result) (p .pick .ensures), c .lesser .ensures)
 
 pub inside-spec : {M : Type 1} → statement M
 inside-spec = tie.close (tie.spec add-least pick-requires sub-lesser lesser-requires returns)
