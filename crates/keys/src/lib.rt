@@ -285,7 +285,7 @@ fn search(
     Found::Nothing
 }
 
-// The 14 bits of the key below its prefix.
+// The 14 bits of the key below its prefix. Of a prefix shorter than an index's the highest may be lost: a worse guess.
 fn fraction(key: u64, shift: u32) -> usize
     requires { ⌜ shift < 64 ⌝ }
     ensures { λ r. ⌜ r < 16384 ⌝ }
@@ -301,7 +301,7 @@ fn guess(key: u64, shift: u32, from: usize, end: usize) -> usize
     from + fraction(key, shift) * (end - from) / 16384
 }
 
-// The index nearest to i that is so far from both ends.
+// The index nearest to i with its line and the two beside it within the keys from `first` on and before `last`, wherever lines begin.
 fn inside(i: usize, first: usize, last: usize) -> usize
     requires { ⌜ (first + 31 ≤ last) × (last ≤ maxKeys) ⌝ }
     ensures { λ r. ⌜ (first + 15 ≤ r) × (r + 16 ≤ last) ⌝ }
@@ -310,8 +310,8 @@ fn inside(i: usize, first: usize, last: usize) -> usize
     number::lesser(pick(i < least, least, i), last - 16)
 }
 
-// The first of the three lines about the guess, or of the nearest three that are within the keys from `first` on and before `last`. No branch
-// goes by that: at the ends of a short range it would often be guessed wrong.
+// The first of the three lines about the guess, or of the nearest three within the range. No branch goes by that: at the ends of a short range
+// it would often be guessed wrong.
 fn guessed_line(key: u64, shift: u32, first: usize, last: usize, from: usize, end: usize) -> usize
     requires { ⌜ (shift < 64) × (from < end) × (end ≤ maxKeys) × (first + 31 ≤ last) × (last ≤ maxKeys) ⌝ }
     ensures { λ r. ⌜ (first ≤ firstKey r) × (firstKey (r + 3) ≤ last) ⌝ }
@@ -348,7 +348,7 @@ pub fn touch(set: &[u8], line: u32) -> u64 {
         | blocks::word_at(set, at + 176)
 }
 
-// A key that belongs to none of three lines.
+// A key that belongs to none of three lines. At an end of the range only a few keys are left.
 fn beside(
     part: &[u8],
     skip: usize,

@@ -97,7 +97,8 @@ fn in_few(set: &[u8], n: usize, range: Range) -> Found
     keys::in_few(&set[skip..stop], skip, range.key, n, range.from, range.end)
 }
 
-// Many keys of one prefix: the search gets the bytes of the span's keys, so that it can read no other word.
+// Many keys of one prefix: the search gets the bytes from the span's first key up to the place of the key behind its last, so that it can read
+// no other key.
 fn in_many(set: &[u8], shift: u32, range: Range, span: Span) -> Found
     requires { ⌜
         (setCheck (now set) ≡ none) × (shift < 64) × Bracket 0 (now set) 0 (headerN (now set)) (range .key) (range .from) (range .end)
