@@ -155,7 +155,8 @@ fn ins_sub_correction(
         return Attempt::Full;
     }
     let Alt::Kmer(x, place) = scan::sole_alt(set, starts, head, kmer) else {
-        return Attempt::Refused(scan.lookups + scan::alt_cost(kmer, head));
+        let lookups = scan.lookups + scan::alt_cost(kmer, head);
+        return Attempt::Refused(lookups);
     };
     fill_by_length(
         set,

@@ -109,7 +109,8 @@ pub fn from_scan(
         r ⌝ }
 {
     let Alt::Kmer(x, place) = scan::sole_alt(set, starts, head, kmer) else {
-        return Attempt::Refused(scan.lookups + scan::alt_cost(kmer, head));
+        let lookups = scan.lookups + scan::alt_cost(kmer, head);
+        return Attempt::Refused(lookups);
     };
     walk(
         set,

@@ -1,7 +1,8 @@
-use Prim.Native.Nat.{_-_, _<_}
+use Prim.Native.Nat.{_-_, _≤_, _<_}
 use native.Mathlib.Omega.{arith}
 use mathlib.Core.Path.{_≡_, refl, sym, _∙_, subst}
 use mathlib.Core.Option.{some}
+use lib.ListN.{length}
 use borrow.Author.Needs.{needs}
 use Rattle.rules.specs.Set.{solid, setOf, lookup}
 use Rattle.rules.specs.Scan.{alternative}
@@ -33,7 +34,8 @@ returns : tie.Need-returns
 returns c =
     let b = c .before .before .before .before .before .before .before in
     let shorter : b .args .scan .index - b .args .head .k < b .args .scan .index = omega (arith, b .pre .2, b .pre .0 .shifts .k-low) in
-    record { is = gap-full _ _ _ _ _ _ _ (c .if1 .taken) shorter; room = refl }
+    let full : length (b .args .out .now) ≤ b .args .scan .index - b .args .head .k = omega (arith, c .if1 .taken) in
+    record { is = gap-full _ _ _ _ _ _ _ full shorter; room = refl }
 
 sole-alt-requires : tie.Need-sole-alt-requires
 sole-alt-requires c κs = search needs
@@ -47,8 +49,8 @@ enum-told c = search needs
 alt-cost-requires : tie.Need-alt-cost-requires
 alt-cost-requires c κs = search needs
 
-add-t15 : tie.Need-add-t15
-add-t15 c =
+add-lookups : tie.Need-add-lookups
+add-lookups c =
     let b = c .before .before .before .before .before .before .before .before .before .before .before .before in
     let sol = solid (setOf (b .args .set .now)) in
     omega (arith, b .pre .3, c .before .alt-cost .ensures sol, alternative-at-most (b .args .head .k) sol (kmerOf (b .args .kmer)))
@@ -96,7 +98,7 @@ ins-sub-correction-spec =
     enum-known-x
     enum-told
     alt-cost-requires
-    add-t15
+    add-lookups
     returns-2
     count-at-requires
     fill-by-length-requires

@@ -32,8 +32,8 @@ enum-told c = search needs
 alt-cost-requires : tie.Need-alt-cost-requires
 alt-cost-requires c κs = search needs
 
-add-t12 : tie.Need-add-t12
-add-t12 c =
+add-lookups : tie.Need-add-lookups
+add-lookups c =
     let b = c .before .before .before .before .before .before .before .before .before in
     let sol = solid (setOf (b .args .set .now)) in
     omega (arith, b .pre .3, c .before .alt-cost .ensures sol, alternative-at-most (b .args .head .k) sol (kmerOf (b .args .kmer)))
@@ -74,7 +74,7 @@ from-scan-spec =
     enum-known-x
     enum-told
     alt-cost-requires
-    add-t12
+    add-lookups
     returns
     count-at-requires
     walk-requires

@@ -217,7 +217,7 @@ returns-3 c =
     let w = c .before .before .before .before .before in
     let l = turn (move w) in
     record {
-      is = walk-mends _ _ _ (scanOf (entry l .args .scan)) _ _ (came (c .before)) _ (omega (arith, l .loop .inv .3)) (c .if3 .taken);
+      is = walk-mends _ _ _ (scanOf (entry l .args .scan)) _ _ (came (c .before)) _ (omega (arith, l .loop .inv .3)) (omega (arith, c .if3 .taken));
       room = room-after w;
     }
 
