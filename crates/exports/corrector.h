@@ -5,7 +5,8 @@
  * The formats of a set, a job, a batch and k-mer counts are in README.md, "Formats".
  *
  * Threads. A call keeps no state and allocates nothing: it reads and writes what it is lent, and nothing else. Any number of threads
- * may call at once. They may share a set, a job and input; output, work, blocks and answer must be each call's own.
+ * may call at once. They may share a set, an index, offered counts, a job and input; output, work, blocks, a maker's counts and answer must be
+ * each call's own.
  *
  * Stack. A call keeps its tables on the stack: a thread that calls needs CORRECTOR_STACK bytes of it.
  *
@@ -15,9 +16,9 @@
  * with 4 and 16 million keys (docs/BENCHMARK.md).
  *
  * Slices. A slice is a pointer and a count of elements. As for Rust's slices, the pointer must not be null and must be aligned for its
- * elements, also where the count is 0, and every element must be initialised, those of output, work and blocks too. `output`, `work`, `blocks`
- * and `answer` may overlap neither each other nor anything that is lent as const, and until the call returns nothing else may write to what is lent:
- * a file that is mapped must not be changed or cut meanwhile. Nothing checks this.
+ * elements, also where the count is 0, and every element must be initialised, those of output, work, blocks and a maker's counts too. `output`,
+ * `work`, `blocks`, a maker's `counts` and `answer` may overlap neither each other nor anything that is lent as const, and until the call returns
+ * nothing else may write to what is lent: a file that is mapped must not be changed or cut meanwhile. Nothing checks this.
  */
 #ifndef CORRECTOR_H
 #define CORRECTOR_H
@@ -80,8 +81,9 @@ enum corrector_refusal {
     CORRECTOR_NO_ROOM = 11,       /* a result does not fit the output; place: the line, 0 for a single read */
     CORRECTOR_LINE = 12,          /* a line of counts breaks the form; place: the line */
     CORRECTOR_NOT_RISING = 13,    /* the canonical code of a kept line doesn't rise; place: the line */
-    CORRECTOR_TOO_SHORT = 14,     /* the buffer is too short for the blocks */
-    CORRECTOR_INDEX = 15          /* an offered index isn't the set's; checked behind 10 and before 11 */
+    CORRECTOR_TOO_SHORT = 14,     /* the buffer is too short for the blocks, or the list for the counts */
+    CORRECTOR_INDEX = 15,         /* an offered index isn't the set's; checked behind 10 and before 11 */
+    CORRECTOR_COUNTS = 16         /* an offered list of counts has not one for each key; checked behind 15 and before 11 */
 };
 
 /*
@@ -109,7 +111,9 @@ enum {
     CORRECTOR_ATTEMPTS = 5,
     CORRECTOR_ACCEPTED = 6,
     CORRECTOR_YIELD = 7, /* accepted * 1000 / attempts to the nearest whole, an exact half to the even neighbour; 0 if there were none */
-    CORRECTOR_CALL_NUMBERS = 8 /* how many there are */
+    CORRECTOR_SUPPORTED = 8, /* 1 if a support is told; 0 if nothing was accepted or no counts were offered */
+    CORRECTOR_SUPPORT = 9, /* the smallest count behind the accepted corrections, which may be 0; below 2^32 */
+    CORRECTOR_CALL_NUMBERS = 10 /* how many there are */
 };
 
 /* The least work buffer for an output and an input of these lengths, if both are within the limits. */
@@ -144,20 +148,29 @@ uint64_t corrector_open(
  * The set is opened at each call: many reads against one set are better sent as a batch. An index of the set, made by corrector_make_index,
  * saves a call the walk over all keys by which it would fill its own table; it changes no result and no number. An index of length 0 counts
  * as not offered.
+ *
+ * Counts, one for each key in the order of the keys, as corrector_make_set gives them, make a call tell how well the corrections are supported:
+ * of each one the count of the k-mer that the used scenario tried (One, Two), or of every k-mer that the walk went through, its last one too (Graph,
+ * GapSize), and of all these the smallest. They change no other number and no byte. The length is the number of counts; with 0 none are offered.
  */
 uint64_t corrector_read(
     const uint8_t *set, size_t set_length,
     const uint8_t *index, size_t index_length,
+    const uint32_t *counts, size_t counts_length,
     const uint8_t *job, size_t job_length,
     const uint8_t *read, size_t read_length,
     uint8_t *output, size_t output_length,
     uint8_t *work, size_t work_length,
     uint64_t *answer, size_t answer_length);
 
-/* The same for a batch: lines each ended by byte 10, corrected in turn; so is the output. The numbers are sums over the lines. */
+/*
+ * The same for a batch: lines each ended by byte 10, corrected in turn; so is the output. The numbers are sums over the lines, the support is the
+ * smallest of theirs.
+ */
 uint64_t corrector_batch(
     const uint8_t *set, size_t set_length,
     const uint8_t *index, size_t index_length,
+    const uint32_t *counts, size_t counts_length,
     const uint8_t *job, size_t job_length,
     const uint8_t *batch, size_t batch_length,
     uint8_t *output, size_t output_length,
@@ -174,18 +187,21 @@ uint64_t corrector_count_solid(
     uint64_t *answer, size_t answer_length);
 
 /*
- * Makes a set from k-mer counts as text: lines of k letters A, C, G, T, a comma, a count of 1 to 10 digits, and byte 10. Lines whose count is
- * below `least` are passed over; the canonical codes of the others must rise strictly, in the order of the lines. A text of any length is
- * taken; nothing else limits it.
+ * Makes a set, and the list of its keys' counts, from k-mer counts as text: lines of k letters A, C, G, T, a comma, a count of 1 to 10 digits, and
+ * byte 10. Lines whose count is below `least` are passed over; the canonical codes of the others must rise strictly, in the order of the lines. A
+ * text of any length is taken; nothing else limits it.
  *
  * Returns 0, or a refusal: 9 for a k that is not odd from 1 to 31; then line by line 12, and 13 for a line that is kept; then 9 for over
- * CORRECTOR_MAX_KEYS kept lines; then 14. Accepted, the set stands in the first CORRECTOR_LENGTH bytes of `blocks`, with zeros behind it;
- * refused, `blocks` has not changed. corrector_set_length says how many bytes n kept lines take.
+ * CORRECTOR_MAX_KEYS kept lines; then 14, for `blocks` or `counts`. Accepted, the set stands in the first CORRECTOR_LENGTH bytes of `blocks`, and
+ * the counts of its n keys, in their order, in the first n numbers of `counts`, larger ones held at 4294967295; behind both are zeros. Refused,
+ * neither has changed. corrector_set_length says how many bytes n kept lines take. The list is always made: it must have room for n counts, and
+ * none for none.
  */
 uint64_t corrector_make_set(
     const uint8_t *text, size_t text_length,
     uint64_t k, uint64_t least,
     uint8_t *blocks, size_t blocks_length,
+    uint32_t *counts, size_t counts_length,
     uint64_t *answer, size_t answer_length);
 
 /*

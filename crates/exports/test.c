@@ -1,4 +1,4 @@
-/* The library through corrector.h: document 01's samples, jobs of several confirms, every refusal, answers of every length, and many threads. */
+/* The library through corrector.h: document 01's samples, jobs of several confirms, every refusal, answers of every length, indexes, counts, threads. */
 #include "corrector.h"
 
 #include <pthread.h>
@@ -9,6 +9,9 @@
 enum { BLOCK = 512, SET = 2 * BLOCK, OUTPUT = 64, WORK = 128, FILL = 170, THREADS = 8, CALLS = 500 };
 
 static const uint64_t KEPT = 0xabababababababab;
+
+/* Of the sample set's keys. */
+static const uint32_t rising_counts[] = {10, 20, 30, 40, 50};
 
 static int passed, failed;
 
@@ -45,11 +48,12 @@ static void sample_set(uint8_t *set)
 /* ---- one call on buffers of its own, filled before it */
 
 typedef uint64_t call(
-    const uint8_t *, size_t, const uint8_t *, size_t, const uint8_t *, size_t, const uint8_t *, size_t, uint8_t *, size_t, uint8_t *, size_t,
-    uint64_t *, size_t);
+    const uint8_t *, size_t, const uint8_t *, size_t, const uint32_t *, size_t, const uint8_t *, size_t, const uint8_t *, size_t, uint8_t *, size_t,
+    uint8_t *, size_t, uint64_t *, size_t);
 
-/* No index is offered: its length is 0, and the pointer may be any. */
+/* No index, no counts are offered: their length is 0, and the pointer may be any that is aligned. */
 #define NO_INDEX (const uint8_t *)"", 0
+#define NO_COUNTS (const uint32_t[]){0}, 0
 
 /* A job and its length in bytes: of one entry, of a text, of an array. */
 #define ENTRY(method, confirm) (const uint8_t[]){method, confirm}, 2
@@ -63,15 +67,28 @@ struct done {
     uint8_t work[WORK];
 };
 
-static struct done run_indexed(
-    call *entry, const uint8_t *set, const uint8_t *index, size_t index_length, const uint8_t *job, size_t job_length, const char *input, size_t room)
+struct offered {
+    const uint8_t *index;
+    size_t index_length;
+    const uint32_t *counts;
+    size_t counts_length;
+};
+
+static struct done run_offered(
+    call *entry, const uint8_t *set, struct offered offered, const uint8_t *job, size_t job_length, const char *input, size_t room)
 {
     struct done done;
     memset(&done, FILL, sizeof done);
     done.number = entry(
-        set, SET, index, index_length, job, job_length, (const uint8_t *)input, strlen(input), done.output, room, done.work, WORK, done.answer,
-        CORRECTOR_CALL_NUMBERS);
+        set, SET, offered.index, offered.index_length, offered.counts, offered.counts_length, job, job_length, (const uint8_t *)input, strlen(input),
+        done.output, room, done.work, WORK, done.answer, CORRECTOR_CALL_NUMBERS);
     return done;
+}
+
+static struct done run_indexed(
+    call *entry, const uint8_t *set, const uint8_t *index, size_t index_length, const uint8_t *job, size_t job_length, const char *input, size_t room)
+{
+    return run_offered(entry, set, (struct offered){index, index_length, NO_COUNTS}, job, job_length, input, room);
 }
 
 static struct done run(call *entry, const uint8_t *set, const uint8_t *job, size_t job_length, const char *input, size_t room)
@@ -167,7 +184,7 @@ static int yields(const uint8_t *set, size_t mended, size_t attempts, uint64_t y
         memcpy(batch + length, line, strlen(line));
         length += strlen(line);
     }
-    return corrector_batch(set, SET, NO_INDEX, JOB("\1\1"), batch, length, output, sizeof output, work, sizeof work, answer, 8) == 0
+    return corrector_batch(set, SET, NO_INDEX, NO_COUNTS, JOB("\1\1"), batch, length, output, sizeof output, work, sizeof work, answer, 8) == 0
         && answer[CORRECTOR_ATTEMPTS] == attempts && answer[CORRECTOR_ACCEPTED] == mended && answer[CORRECTOR_YIELD] == yield;
 }
 
@@ -249,7 +266,8 @@ static uint64_t lines(const uint8_t *set, size_t count)
 {
     uint8_t batch[CORRECTOR_MAX_LINES + 1], output[sizeof batch], work[2 * sizeof batch];
     memset(batch, '\n', sizeof batch);
-    return corrector_batch(set, SET, NO_INDEX, ENTRY(CORRECTOR_ONE, 1), batch, count, output, sizeof output, work, sizeof work, (uint64_t[]){0}, 0);
+    return corrector_batch(
+        set, SET, NO_INDEX, NO_COUNTS, ENTRY(CORRECTOR_ONE, 1), batch, count, output, sizeof output, work, sizeof work, (uint64_t[]){0}, 0);
 }
 
 static void test_lines(const uint8_t *set)
@@ -272,7 +290,8 @@ static int set_refused(const uint8_t *set, size_t length, uint64_t number, uint6
     uint64_t opened[CORRECTOR_OPEN_NUMBERS] = {KEPT, KEPT, KEPT, KEPT};
     memset(&done, FILL, sizeof done);
     done.number = corrector_read(
-        set, length, NO_INDEX, ENTRY(CORRECTOR_ONE, 1), (const uint8_t *)"AAC", 3, done.output, OUTPUT, done.work, WORK, done.answer, CORRECTOR_CALL_NUMBERS);
+        set, length, NO_INDEX, NO_COUNTS, ENTRY(CORRECTOR_ONE, 1), (const uint8_t *)"AAC", 3, done.output, OUTPUT, done.work, WORK, done.answer,
+        CORRECTOR_CALL_NUMBERS);
     return refuses(&done, OUTPUT, number, place) && corrector_open(set, length, opened, CORRECTOR_OPEN_NUMBERS) == number
         && opened[CORRECTOR_NUMBER] == number && opened[CORRECTOR_PLACE] == place && opened[CORRECTOR_K] == 0 && opened[CORRECTOR_N] == 0
         && not_counted(set, length, (const uint8_t *)"AAC", 3, number, place);
@@ -317,19 +336,20 @@ static int starts_alike(const uint64_t *answer, size_t length, const uint64_t *w
     return 1;
 }
 
-static int short_answers(call *entry, const uint8_t *set, uint8_t confirm, const char *input)
+static int short_answers(call *entry, const uint8_t *set, size_t counted, uint8_t confirm, const char *input)
 {
-    struct done whole = run(entry, set, ENTRY(CORRECTOR_ONE, confirm), input, OUTPUT);
-    for (size_t length = 0; length <= 10; length++) {
-        uint64_t answer[12];
+    struct done whole = run_offered(entry, set, (struct offered){NO_INDEX, rising_counts, counted}, ENTRY(CORRECTOR_ONE, confirm), input, OUTPUT);
+    for (size_t length = 0; length <= 12; length++) {
+        uint64_t answer[14];
         uint8_t output[OUTPUT], work[WORK];
-        for (size_t i = 0; i < 12; i++)
+        for (size_t i = 0; i < 14; i++)
             answer[i] = KEPT;
         memset(output, FILL, OUTPUT);
         memset(work, FILL, WORK);
         uint64_t number = entry(
-            set, SET, NO_INDEX, ENTRY(CORRECTOR_ONE, confirm), (const uint8_t *)input, strlen(input), output, OUTPUT, work, WORK, answer, length);
-        if (number != whole.number || !starts_alike(answer, length, whole.answer, CORRECTOR_CALL_NUMBERS, 12)
+            set, SET, NO_INDEX, rising_counts, counted, ENTRY(CORRECTOR_ONE, confirm), (const uint8_t *)input, strlen(input), output, OUTPUT, work, WORK,
+            answer, length);
+        if (number != whole.number || !starts_alike(answer, length, whole.answer, CORRECTOR_CALL_NUMBERS, 14)
             || memcmp(output, whole.output, OUTPUT) != 0 || memcmp(work, whole.work, WORK) != 0)
             return 0;
     }
@@ -356,10 +376,10 @@ static void test_answers(const uint8_t *set)
     wrong[SET - 1]++;
     static const uint64_t damaged[] = {8, 1, 0, 0};
     check("answers of open", short_openings(set, SET, opened) && short_openings(set, SET - 1, cut) && short_openings(wrong, SET, damaged));
-    check("answers of read", short_answers(corrector_read, set, 1, "AACGC"));
-    check("answers of a refused read", short_answers(corrector_read, set, 0, "AACGC"));
-    check("answers of batch", short_answers(corrector_batch, set, 1, "AACGC\nAACGCCG\n"));
-    check("answers of a refused batch", short_answers(corrector_batch, set, 1, "AACGC"));
+    check("answers of read", short_answers(corrector_read, set, 0, 1, "AACGC") && short_answers(corrector_read, set, 5, 1, "AACGC"));
+    check("answers of a refused read", short_answers(corrector_read, set, 0, 0, "AACGC") && short_answers(corrector_read, set, 4, 1, "AACGC"));
+    check("answers of batch", short_answers(corrector_batch, set, 0, 1, "AACGC\nAACGCCG\n") && short_answers(corrector_batch, set, 5, 1, "AACGC\nAACGCCG\n"));
+    check("answers of a refused batch", short_answers(corrector_batch, set, 5, 1, "AACGC"));
 }
 
 static int counts_solid(const uint8_t *set, size_t length, const char *read, uint64_t kmers, uint64_t solid)
@@ -383,41 +403,72 @@ static void test_count(const uint8_t *set)
         && not_counted(set, SET - 1, long_read, 3, CORRECTOR_SET_LENGTH, 0) && not_counted(wrong, SET, long_read, 3, CORRECTOR_SET_CHECK, 1));
 }
 
-/* ---- a set made from text: the sample set's keys, in the order of their codes */
+/* ---- a set made from text: the sample set's keys, in the order of their codes, and their counts */
 
 static const char counts_text[] = "ACT,9\nCCG,4\nCTC,7\nAAC,5\nTCC,0000000008\n";
 
-enum { ROOM = SET + 8 };
+static const uint32_t sample_counts[] = {9, 4, 7, 5, 8};
 
-static int makes(const char *text, uint64_t k, uint64_t least, const uint8_t *set, size_t length)
+enum { ROOM = SET + 8, COUNTS = 7 };
+
+static const uint32_t COUNT_KEPT = 0xabababab;
+
+static void keep_counts(uint32_t *counts)
+{
+    for (size_t i = 0; i < COUNTS; i++)
+        counts[i] = COUNT_KEPT;
+}
+
+static int all_counts(const uint32_t *counts, size_t length, uint32_t count)
+{
+    for (size_t i = 0; i < length; i++)
+        if (counts[i] != count)
+            return 0;
+    return 1;
+}
+
+static int makes(const char *text, uint64_t k, uint64_t least, const uint8_t *set, size_t length, const uint32_t *list, size_t n, size_t room)
 {
     uint8_t blocks[ROOM];
+    uint32_t counts[COUNTS];
     uint64_t answer[CORRECTOR_MADE_NUMBERS];
     memset(blocks, FILL, ROOM);
-    uint64_t number = corrector_make_set((const uint8_t *)text, strlen(text), k, least, blocks, ROOM, answer, CORRECTOR_MADE_NUMBERS);
+    keep_counts(counts);
+    uint64_t number = corrector_make_set((const uint8_t *)text, strlen(text), k, least, blocks, ROOM, counts, room, answer, CORRECTOR_MADE_NUMBERS);
     return number == 0 && answer[CORRECTOR_NUMBER] == 0 && answer[CORRECTOR_PLACE] == 0 && answer[CORRECTOR_LENGTH] == length
-        && memcmp(blocks, set, length) == 0 && all(blocks + length, ROOM - length, 0);
+        && memcmp(blocks, set, length) == 0 && all(blocks + length, ROOM - length, 0) && memcmp(counts, list, n * sizeof *list) == 0
+        && all_counts(counts + n, room - n, 0) && all_counts(counts + room, COUNTS - room, COUNT_KEPT);
+}
+
+/* Refused for want of room for the blocks, or for the counts, or otherwise: neither changes. */
+static int not_made_in(const char *text, uint64_t k, uint64_t least, size_t room, size_t count_room, uint64_t refusal, uint64_t place)
+{
+    uint8_t blocks[ROOM];
+    uint32_t counts[COUNTS];
+    uint64_t answer[CORRECTOR_MADE_NUMBERS];
+    memset(blocks, FILL, ROOM);
+    keep_counts(counts);
+    uint64_t number = corrector_make_set((const uint8_t *)text, strlen(text), k, least, blocks, room, counts, count_room, answer, CORRECTOR_MADE_NUMBERS);
+    return number == refusal && answer[CORRECTOR_NUMBER] == refusal && answer[CORRECTOR_PLACE] == place && answer[CORRECTOR_LENGTH] == 0
+        && all(blocks, ROOM, FILL) && all_counts(counts, COUNTS, COUNT_KEPT);
 }
 
 static int not_made(const char *text, uint64_t k, uint64_t least, size_t room, uint64_t refusal, uint64_t place)
 {
-    uint8_t blocks[ROOM];
-    uint64_t answer[CORRECTOR_MADE_NUMBERS];
-    memset(blocks, FILL, ROOM);
-    uint64_t number = corrector_make_set((const uint8_t *)text, strlen(text), k, least, blocks, room, answer, CORRECTOR_MADE_NUMBERS);
-    return number == refusal && answer[CORRECTOR_NUMBER] == refusal && answer[CORRECTOR_PLACE] == place && answer[CORRECTOR_LENGTH] == 0
-        && all(blocks, ROOM, FILL);
+    return not_made_in(text, k, least, room, COUNTS, refusal, place) && not_made_in(text, k, least, room, 0, refusal, place);
 }
 
 static int short_made(const char *text, const uint64_t *whole)
 {
     for (size_t length = 0; length <= 5; length++) {
         uint8_t blocks[SET];
+        uint32_t counts[COUNTS];
         uint64_t answer[8];
         for (size_t i = 0; i < 8; i++)
             answer[i] = KEPT;
         memset(blocks, FILL, SET);
-        if (corrector_make_set((const uint8_t *)text, strlen(text), 3, 1, blocks, SET, answer, length) != whole[0]
+        keep_counts(counts);
+        if (corrector_make_set((const uint8_t *)text, strlen(text), 3, 1, blocks, SET, counts, COUNTS, answer, length) != whole[0]
             || !starts_alike(answer, length, whole, CORRECTOR_MADE_NUMBERS, 8))
             return 0;
     }
@@ -429,15 +480,30 @@ static void test_make(const uint8_t *set)
     static const uint64_t made[] = {0, 0, SET}, falls[] = {13, 1, 0};
     uint8_t none[BLOCK] = {3};
     put_word(none, 63, 4);
-    check("a set from text", makes(counts_text, 3, 1, set, SET) && corrector_set_length(5) == SET);
-    check("no keys", makes("", 3, 0, none, BLOCK) && makes(counts_text, 3, 10, none, BLOCK) && makes(counts_text, 3, UINT64_MAX, none, BLOCK));
+    check("a set from text", makes(counts_text, 3, 1, set, SET, sample_counts, 5, COUNTS) && corrector_set_length(5) == SET);
+    check("a list that just fits", makes(counts_text, 3, 1, set, SET, sample_counts, 5, 5));
+    check("no keys", makes("", 3, 0, none, BLOCK, sample_counts, 0, 0) && makes(counts_text, 3, 10, none, BLOCK, sample_counts, 0, COUNTS)
+        && makes(counts_text, 3, UINT64_MAX, none, BLOCK, sample_counts, 0, 1));
     check("9 for k", not_made("A", 2, 1, 0, CORRECTOR_SET_HEADER, 0) && not_made("A", 33, 1, 0, CORRECTOR_SET_HEADER, 0)
         && not_made("A", 4294967299, 1, 0, CORRECTOR_SET_HEADER, 0));
     check("12", not_made("A", 3, 1, 0, CORRECTOR_LINE, 0) && not_made("ACT,9\nACT,99", 3, 1, 0, CORRECTOR_LINE, 1)
         && not_made("ACT,9\nCCg,1\n", 3, 5, 0, CORRECTOR_LINE, 1) && not_made("ACT,00000000009\n", 3, 1, 0, CORRECTOR_LINE, 0));
     check("13", not_made("CCG,4\nACT,9\nA\n", 3, 1, 0, CORRECTOR_NOT_RISING, 1) && not_made("ACT,4\nAGT,9\n", 3, 1, 0, CORRECTOR_NOT_RISING, 1));
     check("14", not_made(counts_text, 3, 1, SET - 1, CORRECTOR_TOO_SHORT, 0) && not_made("", 3, 1, 0, CORRECTOR_TOO_SHORT, 0));
+    check("14 for the list", not_made_in(counts_text, 3, 1, ROOM, 4, CORRECTOR_TOO_SHORT, 0) && not_made_in(counts_text, 3, 1, SET, 0, CORRECTOR_TOO_SHORT, 0)
+        && not_made_in("ACT,0\n", 3, 0, SET, 0, CORRECTOR_TOO_SHORT, 0));
     check("answers of make_set", short_made(counts_text, made) && short_made("CCG,4\nACT,9\n", falls));
+}
+
+/* Counts of a text whose keys are the sample set's; the passed-over line has none. */
+static void test_counts(const uint8_t *set)
+{
+    static const char held[] = "AAA,6\nACT,4294967294\nCCG,4294967295\nCTC,4294967296\nAAC,9999999999\nTCC,7\n";
+    static const uint32_t list[] = {4294967294, 4294967295, 4294967295, 4294967295, 7};
+    check("counts are held", makes(held, 3, 7, set, SET, list, 5, COUNTS));
+    static const char zero[] = "ACT,0\nCCG,00\nCTC,0\nAAC,0\nTCC,1\n";
+    static const uint32_t zeros[] = {0, 0, 0, 0, 1};
+    check("0 is a count", makes(zero, 3, 0, set, SET, zeros, 5, 5));
 }
 
 /* ---- the sample set's index: m is 3, so that entry v is the number of keys below v */
@@ -533,6 +599,107 @@ static void test_offered(const uint8_t *set)
     check("10 before 15", index_wrong(wrong, set, SET, OUTPUT, CORRECTOR_SET_KEY, 1));
 }
 
+/* ---- counts of the sample set's keys */
+
+static const uint32_t falling_counts[] = {50, 40, 30, 20, 10};
+
+/* The supports with the counts as they rise and as they fall. */
+static const struct supported {
+    uint8_t method, confirm;
+    const char *read;
+    uint64_t rising, falling;
+} supported[] = {
+    {CORRECTOR_ONE, 1, "AACGC", 10, 50},
+    {CORRECTOR_ONE, 1, "AACC", 10, 50},
+    {CORRECTOR_ONE, 1, "AACGTC", 10, 50},
+    {CORRECTOR_ONE, 1, "AACGCCG", 10, 50},
+    {CORRECTOR_TWO, 2, "AACCG", 30, 30},
+    {CORRECTOR_GRAPH, 1, "AACGCCG", 10, 10},
+    {CORRECTOR_GAP_SIZE, 1, "AACGCCG", 10, 50},
+};
+
+static struct done run_counted(
+    call *entry, const uint8_t *set, const uint32_t *counts, size_t length, uint8_t method, uint8_t confirm, const char *input)
+{
+    return run_offered(entry, set, (struct offered){NO_INDEX, counts, length}, ENTRY(method, confirm), input, OUTPUT);
+}
+
+static int tells(const struct done *done, uint64_t is_supported, uint64_t support)
+{
+    return done->number == 0 && done->answer[CORRECTOR_SUPPORTED] == is_supported && done->answer[CORRECTOR_SUPPORT] == support;
+}
+
+/* But for the two numbers a call answers, reports and leaves what it does without counts. */
+static int supports(call *entry, const uint8_t *set, const uint32_t *counts, const struct supported *sample, const char *input, uint64_t support)
+{
+    struct done with = run_counted(entry, set, counts, 5, sample->method, sample->confirm, input);
+    struct done without = run(entry, set, ENTRY(sample->method, sample->confirm), input, OUTPUT);
+    int right = tells(&with, 1, support) && tells(&without, 0, 0);
+    with.answer[CORRECTOR_SUPPORTED] = with.answer[CORRECTOR_SUPPORT] = 0;
+    return right && memcmp(&with, &without, sizeof with) == 0;
+}
+
+static int supported_right(const uint8_t *set, const struct supported *sample)
+{
+    char line[16];
+    snprintf(line, sizeof line, "%s\n", sample->read);
+    return supports(corrector_read, set, rising_counts, sample, sample->read, sample->rising)
+        && supports(corrector_read, set, falling_counts, sample, sample->read, sample->falling)
+        && supports(corrector_batch, set, rising_counts, sample, line, sample->rising)
+        && supports(corrector_batch, set, falling_counts, sample, line, sample->falling);
+}
+
+static void test_supports(const uint8_t *set)
+{
+    static const uint32_t zeros[5], first[] = {20, 30, 5, 5, 5}, second[] = {30, 20, 5, 5, 5};
+    static const uint32_t largest[] = {UINT32_MAX, UINT32_MAX, UINT32_MAX, UINT32_MAX, UINT32_MAX};
+    int right = 1;
+    for (size_t i = 0; i < sizeof supported / sizeof supported[0]; i++)
+        right = right && supported_right(set, &supported[i]);
+    check("supports", right);
+    struct done none = run_counted(corrector_read, set, rising_counts, 5, CORRECTOR_ONE, 1, "AACG");
+    struct done short_read = run_counted(corrector_read, set, rising_counts, 5, CORRECTOR_ONE, 1, "AA");
+    check("nothing accepted, no support", tells(&none, 0, 0) && tells(&short_read, 0, 0));
+    struct done zero = run_counted(corrector_read, set, zeros, 5, CORRECTOR_ONE, 1, "AACGC");
+    struct done most = run_counted(corrector_read, set, largest, 5, CORRECTOR_GRAPH, 1, "AACGCCG");
+    check("0 and the largest count", tells(&zero, 1, 0) && tells(&most, 1, UINT32_MAX));
+    struct done one = run_counted(corrector_batch, set, first, 5, CORRECTOR_ONE, 1, "AACGC\nCCGA\n");
+    struct done other = run_counted(corrector_batch, set, second, 5, CORRECTOR_ONE, 1, "AACGC\nCCGA\n");
+    check("the smallest of all lines", gives(&one, "AACTC\nCCGGA\n") && tells(&one, 1, 20) && tells(&other, 1, 20));
+}
+
+static int counts_refused(const uint8_t *set, struct offered offered, size_t room, uint64_t number, uint64_t place)
+{
+    struct done read = run_offered(corrector_read, set, offered, ENTRY(CORRECTOR_ONE, 1), "AACC", room);
+    struct done batch = run_offered(corrector_batch, set, offered, ENTRY(CORRECTOR_ONE, 1), "AACC\n", room);
+    return refuses(&read, room, number, place) && refuses(&batch, room, number, place);
+}
+
+static void test_counts_refused(const uint8_t *set)
+{
+    uint8_t index[SET], wrong[SET], none[SET] = {3};
+    uint32_t counts[6] = {0};
+    sample_index(index);
+    int right = 1;
+    for (size_t length = 1; length <= 6; length++)
+        right = right && (length == 5 || counts_refused(set, (struct offered){NO_INDEX, counts, length}, OUTPUT, CORRECTOR_COUNTS, 0));
+    check("16", right && counts_refused(set, (struct offered){index, SET, counts, 4}, OUTPUT, CORRECTOR_COUNTS, 0));
+    put_word(none, 63, 4);
+    struct done no_keys;
+    memset(&no_keys, FILL, sizeof no_keys);
+    no_keys.number = corrector_read(
+        none, BLOCK, NO_INDEX, counts, 1, ENTRY(CORRECTOR_ONE, 1), (const uint8_t *)"AACC", 4, no_keys.output, OUTPUT, no_keys.work, WORK, no_keys.answer,
+        CORRECTOR_CALL_NUMBERS);
+    check("16, no keys", refuses(&no_keys, OUTPUT, CORRECTOR_COUNTS, 0));
+    check("15 before 16", counts_refused(set, (struct offered){index, SET - 1, counts, 4}, OUTPUT, CORRECTOR_INDEX, 0));
+    check("16 before 11", counts_refused(set, (struct offered){NO_INDEX, counts, 6}, 4, CORRECTOR_COUNTS, 0));
+    check("11 with counts", counts_refused(set, (struct offered){index, SET, counts, 5}, 4, CORRECTOR_NO_ROOM, 0));
+    memcpy(wrong, set, SET);
+    put_word(wrong, 65, 6);
+    put_word(wrong, 127, 183);
+    check("10 before 16", counts_refused(wrong, (struct offered){NO_INDEX, counts, 4}, OUTPUT, CORRECTOR_SET_KEY, 1));
+}
+
 /* ---- threads: the set is shared, the buffers are each thread's own, and its stack is what the header asks for */
 
 static struct done alone[SAMPLES];
@@ -583,8 +750,11 @@ int main(void)
     test_answers(set);
     test_count(set);
     test_make(set);
+    test_counts(set);
     test_index(set);
     test_offered(set);
+    test_supports(set);
+    test_counts_refused(set);
     test_threads(set);
     printf("%d passed, %d failed\n", passed, failed);
     return failed != 0;

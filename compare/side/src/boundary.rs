@@ -20,11 +20,12 @@ impl Library for Linked {
             Call::Batch => corrector::correct_batch,
         };
         let index = (!job.index.is_empty()).then_some(&job.index[..]);
-        call(set, index, corrector::Job::from_bytes(&job.entries), &job.input, output, work).map(report).map_err(refusal)
+        let counts = (!job.counts.is_empty()).then_some(&job.counts[..]);
+        call(set, index, counts, corrector::Job::from_bytes(&job.entries), &job.input, output, work).map(report).map_err(refusal)
     }
 
-    fn make_set(&self, text: &[u8], k: u64, least: u64, blocks: &mut [u8]) -> Result<u64, Refusal> {
-        corrector::make_set(text, k, least, blocks).map(|length| length as u64).map_err(refusal)
+    fn make_set(&self, text: &[u8], k: u64, least: u64, blocks: &mut [u8], counts: &mut [u32]) -> Result<u64, Refusal> {
+        corrector::make_set(text, k, least, blocks, counts).map(|length| length as u64).map_err(refusal)
     }
 
     fn make_index(&self, set: &[u8], blocks: &mut [u8]) -> Result<u64, Refusal> {
@@ -37,8 +38,8 @@ impl Library for Linked {
 }
 
 fn report(report: corrector::Report) -> Report {
-    let corrector::Report { written, turns, lookups, attempts, accepted, yield_ } = report;
-    Report { written: written as u64, turns, lookups, attempts, accepted, yields: yield_ }
+    let corrector::Report { written, turns, lookups, attempts, accepted, yield_, support } = report;
+    Report { written: written as u64, turns, lookups, attempts, accepted, yields: yield_, support }
 }
 
 fn refusal(refusal: corrector::Refusal) -> Refusal {

@@ -5,6 +5,7 @@ use crate::referee::correctors::METHODS;
 use crate::rng::Rng;
 use crate::set_file;
 
+pub mod counts;
 pub mod damage;
 pub mod index;
 pub mod make;
@@ -48,12 +49,14 @@ pub enum Kind {
     Index,
     /// Bits of an index turned, with the check words as they were and with right ones; a unit for each odd k.
     IndexBits,
+    /// Counts that are offered: of each kind, and other numbers of them than there are keys; refusal 16 among the others.
+    Counts,
     /// A set of a few hundred thousand keys.
     Large,
 }
 
 /// The kinds and how many units of each a run has. The exhaustive ones have as many as there are sets; the others are repeated by --rounds.
-const SCHEDULE: [(Kind, u64, bool); 17] = [
+const SCHEDULE: [(Kind, u64, bool); 18] = [
     (Kind::AllOfOne, 4, false),
     (Kind::AllOfThree, 529, false),
     (Kind::AllReads, 400, true),
@@ -70,6 +73,7 @@ const SCHEDULE: [(Kind, u64, bool); 17] = [
     (Kind::EveryBit, 16, false),
     (Kind::Index, 1600, true),
     (Kind::IndexBits, 16, false),
+    (Kind::Counts, 2400, true),
     (Kind::Large, 2, true),
 ];
 
@@ -140,6 +144,7 @@ pub fn run(unit: &Unit, seed: u64, visit: &mut Visit) {
         Kind::EveryBit => damage::every_bit(rng, 2 * unit.number as u8 + 1, &mut |set| visit(&Site::new(set), None)),
         Kind::Index => index::offered(rng, visit),
         Kind::IndexBits => index::bits(rng, 2 * unit.number as u8 + 1, visit),
+        Kind::Counts => counts::offered(rng, visit),
         Kind::Large => large(rng, visit),
     }
 }
@@ -151,7 +156,8 @@ pub fn job(call: Call, entries: &[u8], input: &[u8]) -> Job {
 }
 
 fn job_with_room(call: Call, entries: &[u8], input: &[u8], output: usize) -> Job {
-    Job { call, index: Vec::new(), entries: entries.to_vec(), input: input.to_vec(), output, work: 2 * output.max(input.len()) }
+    let (index, counts) = (Vec::new(), Vec::new());
+    Job { call, index, counts, entries: entries.to_vec(), input: input.to_vec(), output, work: 2 * output.max(input.len()) }
 }
 
 /// As many entries, each with a method and a confirm of its own, mostly up to `confirm`.

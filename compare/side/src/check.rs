@@ -1,13 +1,16 @@
 //! One case on all sides.
 use crate::library::Library;
 use crate::oracle::{self, Keys};
-use crate::referee::calls::{self, Call, Entry, Job, Outcome};
+use crate::referee::calls::{self, Answer, Call, Entry, Job, Outcome, Report};
 use crate::referee::ceilings::ceilings;
 use crate::referee::correctors::{Method, ALL_BY, ALL_EVENTS, BY, METHODS};
 use crate::referee::driver::Pass;
 use crate::referee::letters::code;
 use crate::referee::set::{open, Refusal, Set};
+use crate::rng::Rng;
 use crate::set_file::BLOCK;
+use crate::support::{parts_that_tell, PARTS};
+use std::cell::OnceCell;
 use std::fmt::Debug;
 
 /// What every lent byte holds before a call.
@@ -18,19 +21,44 @@ pub struct Site {
     pub bytes: Vec<u8>,
     pub opened: Result<Set, Refusal>,
     keys: Option<Keys>,
+    counts: OnceCell<Vec<u32>>,
 }
 
 impl Site {
     pub fn new(bytes: Vec<u8>) -> Self {
         let opened = open(&bytes);
         let keys = opened.as_ref().ok().map(|set| Keys::new(set.k as u8, &set.keys));
-        Site { bytes, opened, keys }
+        Site { bytes, opened, keys, counts: OnceCell::new() }
     }
 
     /// Its index; of a set that is refused, which is told before 15, a block that is none.
     pub fn index(&self) -> &[u8] {
         self.opened.as_ref().map_or(&[LENT; BLOCK], |set| set.index())
     }
+
+    /// Counts of its keys, the same each time; of a set that is refused, which is told before 16, one count.
+    pub fn counts(&self) -> &[u32] {
+        self.counts.get_or_init(|| {
+            let n = self.opened.as_ref().map_or(1, |set| set.keys.len());
+            any_counts(&mut Rng::of_unit(n as u64, COUNTS), n)
+        })
+    }
+}
+
+/// A unit number that no other kind has.
+const COUNTS: u64 = 1 << 42;
+
+/// So many counts: any, which mostly differ from each other; small ones; large ones; 0 and 4,294,967,295 alone; or all of them equal.
+pub fn any_counts(rng: &mut Rng, n: usize) -> Vec<u32> {
+    let (style, equal) = (rng.below(10), rng.word() as u32);
+    let mut next = || match style {
+        0 => equal,
+        1 => *rng.pick(&[0, u32::MAX]),
+        2 => rng.below(100) as u32,
+        3 => u32::MAX - rng.below(100) as u32,
+        _ => rng.word() as u32,
+    };
+    (0..n).map(|_| next()).collect()
 }
 
 /// What agreed.
@@ -44,7 +72,12 @@ pub struct Tally {
     pub calls: u64,
     /// Calls that were made once more with an index.
     pub indexed: u64,
-    pub refusals: [u64; 16],
+    /// Calls that were made once more with counts.
+    pub counted: u64,
+    /// Calls with counts that told a support, and how many would tell another if a part of the evidence were left out, in the order of `PARTS`.
+    pub supported: u64,
+    pub parts: [u64; PARTS.len()],
+    pub refusals: [u64; 17],
     pub attempts: u64,
     pub accepted: u64,
     pub lookups: u64,
@@ -66,7 +99,10 @@ impl Default for Tally {
             other_accepted: 0,
             calls: 0,
             indexed: 0,
-            refusals: [0; 16],
+            counted: 0,
+            supported: 0,
+            parts: [0; PARTS.len()],
+            refusals: [0; 17],
             attempts: 0,
             accepted: 0,
             lookups: 0,
@@ -93,6 +129,9 @@ impl Tally {
         self.other_accepted += other.other_accepted;
         self.calls += other.calls;
         self.indexed += other.indexed;
+        self.counted += other.counted;
+        self.supported += other.supported;
+        add_each(&mut self.parts, &other.parts);
         self.attempts += other.attempts;
         self.accepted += other.accepted;
         self.lookups += other.lookups;
@@ -111,7 +150,12 @@ impl Tally {
             "{} passes in {} calls: {} attempts, {} corrections, {} lookups",
             self.passes, self.calls, self.attempts, self.accepted, self.lookups
         );
-        println!("{} of the calls made once more with an index, alike", self.indexed);
+        println!("{} of the calls made once more with an index, alike; {} with counts, alike but for the support", self.indexed, self.counted);
+        println!(
+            "calls that told a support: {}, which would be another without {}",
+            self.supported,
+            counts(PARTS.iter().map(|part| format!("{part:?}")), &self.parts)
+        );
         println!("besides, of reads with other bytes and without natir/br: {} passes, {} corrections", self.other, self.other_accepted);
         for (method, by) in METHODS.iter().zip(self.by) {
             println!("corrections by {method:?}: {}", counts(ALL_BY.iter().map(|by| format!("{by:?}")), &by));
@@ -142,6 +186,15 @@ impl Tally {
             self.other_accepted += pass.accepted;
             add_each(&mut self.events, &pass.events.map(u64::from));
         }
+    }
+
+    /// The support that a call tells with these counts, if it tells one.
+    fn add_support(&mut self, outcome: &Outcome, counts: &[u32]) {
+        if outcome.answer.is_err() || calls::support(&outcome.passes, counts).is_none() {
+            return;
+        }
+        self.supported += 1;
+        add_each(&mut self.parts, &parts_that_tell(&outcome.passes, counts).map(u64::from));
     }
 
     /// What agreed, as the last line counts it.
@@ -181,6 +234,12 @@ pub struct Disagreement {
     pub of: String,
     pub expected: String,
     pub found: String,
+}
+
+impl Disagreement {
+    fn with(self, offered: &str) -> Self {
+        Disagreement { of: format!("{}, with {offered}", self.of), ..self }
+    }
 }
 
 fn same<T: PartialEq + Debug>(of: &str, expected: T, found: T) -> Result<(), Disagreement> {
@@ -245,12 +304,20 @@ pub fn check_call(library: &dyn Library, site: &Site, job: &Job, buffers: &mut B
     if job.call == Call::Read && job.entries.first() == Some(&Method::One.byte()) {
         same("the count of solid k-mers", calls::count_solid(&site.opened, &job.input), library.count_solid(&site.bytes, &job.input))?;
     }
-    check_answer(library, site, job, &outcome, buffers)?;
+    check_answer(library, site, job, outcome.answer, &outcome.bytes, buffers)?;
+    tally.add_support(&outcome, &job.counts);
     if job.index.is_empty() {
         let indexed = Job { index: site.index().to_vec(), ..job.clone() };
-        check_answer(library, site, &indexed, &outcome, buffers)
-            .map_err(|found| Disagreement { of: format!("{}, with an index", found.of), ..found })?;
+        check_answer(library, site, &indexed, outcome.answer, &outcome.bytes, buffers).map_err(|found| found.with("an index"))?;
         tally.indexed += 1;
+    }
+    if job.counts.is_empty() {
+        let counted = Job { counts: site.counts().to_vec(), ..job.clone() };
+        let support = calls::support(&outcome.passes, site.counts());
+        let answer = outcome.answer.map(|report| Report { support, ..report });
+        check_answer(library, site, &counted, answer, &outcome.bytes, buffers).map_err(|found| found.with("counts"))?;
+        tally.counted += 1;
+        tally.add_support(&outcome, site.counts());
     }
     tally.calls += 1;
     match outcome.answer {
@@ -264,19 +331,19 @@ pub fn check_call(library: &dyn Library, site: &Site, job: &Job, buffers: &mut B
 }
 
 /// The library's call: its answer, and every lent byte afterwards.
-fn check_answer(library: &dyn Library, site: &Site, job: &Job, expected: &Outcome, buffers: &mut Buffers) -> Result<(), Disagreement> {
+fn check_answer(library: &dyn Library, site: &Site, job: &Job, expected: Answer, bytes: &[u8], buffers: &mut Buffers) -> Result<(), Disagreement> {
     buffers.output.clear();
     buffers.output.resize(job.output, LENT);
     buffers.work.clear();
     buffers.work.resize(job.work, LENT);
     let answer = library.correct(&site.bytes, job, &mut buffers.output, &mut buffers.work);
-    same("the answer", expected.answer, answer)?;
+    same("the answer", expected, answer)?;
     let rest = match answer {
         Err(refusal) if refusal.number != 11 => LENT,
         _ => 0,
     };
-    let (written, spare) = buffers.output.split_at(expected.bytes.len());
-    same_bytes("the output", &expected.bytes, written)?;
+    let (written, spare) = buffers.output.split_at(bytes.len());
+    same_bytes("the output", bytes, written)?;
     same_everywhere("the rest of the output", rest, spare)?;
     same_everywhere("the work buffer", rest, &buffers.work)
 }

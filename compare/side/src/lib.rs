@@ -26,3 +26,4 @@ pub mod rng;
 pub mod samples;
 pub mod set_file;
 pub mod shrink;
+pub mod support;

@@ -1,7 +1,7 @@
 //! The corrector as the comparison sees it: the linked library, or the referee in its place.
 use crate::referee::calls::{call, count_solid, Answer, Call, Job};
 use crate::referee::index::make_index;
-use crate::referee::make::make_set;
+use crate::referee::make::{make_set, Room};
 use crate::referee::set::{open, Refusal};
 
 pub trait Library: Sync {
@@ -10,11 +10,11 @@ pub trait Library: Sync {
     /// k and n, or refusal 7 to 10.
     fn open(&self, set: &[u8]) -> Result<(u64, u64), Refusal>;
 
-    /// The call that the job names, with the index that it offers, over lent buffers of the lengths that it gives.
+    /// The call that the job names, with the index and the counts that it offers, over lent buffers of the lengths that it gives.
     fn correct(&self, set: &[u8], job: &Job, output: &mut [u8], work: &mut [u8]) -> Answer;
 
-    /// The set file made from k-mer counts as text: the length of the blocks in bytes, or a refusal.
-    fn make_set(&self, text: &[u8], k: u64, least: u64, blocks: &mut [u8]) -> Result<u64, Refusal>;
+    /// The set file made from k-mer counts as text, and the counts of its keys: the length of the blocks in bytes, or a refusal.
+    fn make_set(&self, text: &[u8], k: u64, least: u64, blocks: &mut [u8], counts: &mut [u32]) -> Result<u64, Refusal>;
 
     /// The index of a set: the length of its blocks in bytes, or refusal 7 to 10 or 14.
     fn make_index(&self, set: &[u8], blocks: &mut [u8]) -> Result<u64, Refusal>;
@@ -48,8 +48,10 @@ impl Library for StandIn {
         outcome.answer
     }
 
-    fn make_set(&self, text: &[u8], k: u64, least: u64, blocks: &mut [u8]) -> Result<u64, Refusal> {
-        Ok(lay(&make_set(text, k, least, blocks.len())?, blocks))
+    fn make_set(&self, text: &[u8], k: u64, least: u64, blocks: &mut [u8], counts: &mut [u32]) -> Result<u64, Refusal> {
+        let made = make_set(text, k, least, Room { blocks: blocks.len(), counts: counts.len() })?;
+        lay(&made.counts, counts);
+        Ok(lay(&made.blocks, blocks))
     }
 
     fn make_index(&self, set: &[u8], blocks: &mut [u8]) -> Result<u64, Refusal> {
@@ -61,10 +63,10 @@ impl Library for StandIn {
     }
 }
 
-/// Made blocks, and zeros behind them.
-fn lay(made: &[u8], blocks: &mut [u8]) -> u64 {
-    blocks.fill(0);
-    blocks[..made.len()].copy_from_slice(made);
+/// What was made, and zeros behind it.
+fn lay<T: Copy + Default>(made: &[T], buffer: &mut [T]) -> u64 {
+    buffer.fill(T::default());
+    buffer[..made.len()].copy_from_slice(made);
     made.len() as u64
 }
 

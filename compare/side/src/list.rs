@@ -1,14 +1,15 @@
 //! The fixed list of cases, for a replay with no Rust at hand. Its format is in compare/README.md.
-use crate::cases::{any_entries, batch_of, damage, index, job, reads, sets};
-use crate::check::{check_call, tells_confirms_apart, Buffers, Site, Tally, LENT};
+use crate::cases::{any_entries, batch_of, counts, damage, index, job, reads, sets};
+use crate::check::{any_counts, check_call, tells_confirms_apart, Buffers, Site, Tally, LENT};
 use crate::library::{Library, StandIn};
 use crate::referee::calls::{call, entries, Answer, Call, Job, Report};
-use crate::referee::correctors::{Event, Method, METHODS};
+use crate::referee::correctors::{Event, Method, BY, METHODS};
 use crate::referee::driver::Pass;
 use crate::referee::set::Refusal;
 use crate::rng::Rng;
-use crate::samples::SAMPLES;
-use crate::set_file::BLOCK;
+use crate::samples::{SAMPLES, SUPPORTED};
+use crate::set_file::{self, BLOCK};
+use crate::support::{parts_that_tell, PARTS};
 
 /// The seed of the list that is kept.
 pub const SEED: u64 = 1;
@@ -19,15 +20,18 @@ const OPEN: u32 = 2;
 const READ: u32 = 3;
 const BATCH: u32 = 4;
 const INDEX: u32 = 5;
+const COUNTS: u32 = 6;
 
 /// Words of a record, and of the list's head.
 const RECORD: usize = 16;
-const HEAD: usize = 8;
+const HEAD: usize = 9;
 
 /// What a replay has room for.
 const MOST_SET: usize = 8192;
 /// The blocks of 4^6 + 1 entries, and one more.
 const MOST_INDEX: usize = 67 * BLOCK;
+/// As many as the longest set has keys, and one block more.
+const MOST_COUNTS: usize = 1024;
 const MOST_ENTRIES: usize = 20;
 const MOST_INPUT: usize = 2048;
 const MOST_OUTPUT: usize = 4096;
@@ -44,11 +48,15 @@ const UNKNOWN_K: [u8; 4] = [1, 3, 21, 31];
 const UNKNOWN_AT: [Event; 4] = [Event::UnknownFirst, Event::UnknownBase, Event::UnknownConfirm, Event::UnknownEnd];
 const UNKNOWN: u32 = 10;
 
+/// Each part of what supports a call, and each scenario, is seen so often by each method in a call whose support it tells.
+const SUPPORTS: u32 = 8;
+
 #[derive(Default)]
 struct List {
     bytes: Vec<u8>,
     set: Vec<u8>,
     index: Vec<u8>,
+    counts: Vec<u32>,
     cases: u32,
     tally: Tally,
     buffers: Buffers,
@@ -77,6 +85,7 @@ impl List {
         self.lend(SET, &site.bytes);
         self.set = site.bytes.clone();
         self.index.clear();
+        self.counts.clear();
     }
 
     /// The index that the cases that follow offer, until the next set.
@@ -84,6 +93,15 @@ impl List {
         if self.index != index {
             self.lend(INDEX, index);
             self.index = index.to_vec();
+        }
+    }
+
+    /// The counts that they offer, until the next set.
+    fn use_counts(&mut self, counts: &[u32]) {
+        if self.counts != counts {
+            let bytes: Vec<u8> = counts.iter().flat_map(|count| count.to_le_bytes()).collect();
+            self.lend(COUNTS, &bytes);
+            self.counts = counts.to_vec();
         }
     }
 
@@ -110,10 +128,11 @@ impl List {
     /// A call, after natir/br and the referee have agreed on it; on reads with other bytes than the ten letters it is the referee's alone.
     fn call(&mut self, site: &Site, job: &Job) {
         assert!(site.bytes.len() <= MOST_SET && job.index.len() <= MOST_INDEX && job.entries.len() <= MOST_ENTRIES);
-        assert!(job.input.len() <= MOST_INPUT && job.output <= MOST_OUTPUT && job.work <= MOST_WORK);
+        assert!(job.counts.len() <= MOST_COUNTS && job.input.len() <= MOST_INPUT && job.output <= MOST_OUTPUT && job.work <= MOST_WORK);
         check_call(&StandIn, site, job, &mut self.buffers, &mut self.tally).expect("all sides agree");
         self.use_set(site);
         self.use_index(&job.index);
+        self.use_counts(&job.counts);
         let outcome = call(&site.opened, job);
         let kind = if job.call == Call::Read { READ } else { BATCH };
         let lengths = [job.entries.len(), job.input.len(), job.output, job.work, outcome.bytes.len()].map(|length| length as u32);
@@ -123,7 +142,11 @@ impl List {
             Err(refusal) => [refusal.number, refusal.place, 0, 0, 0, 0, 0, 0],
         };
         let [number, place, written, turns, lookups, attempts, accepted, yields] = answer.map(small);
-        self.record([kind, 0, entries, input, output, work, result, 0, number, place, written, turns, lookups, attempts, accepted, yields]);
+        let support = outcome.answer.ok().and_then(|report| report.support);
+        let (supported, support) = (support.is_some() as u32, support.unwrap_or(0));
+        self.record([
+            kind, support, entries, input, output, work, result, supported, number, place, written, turns, lookups, attempts, accepted, yields,
+        ]);
         for part in [&job.entries, &job.input, &outcome.bytes] {
             self.bytes.extend_from_slice(part);
         }
@@ -147,8 +170,9 @@ impl List {
     fn finish(mut self) -> Vec<u8> {
         self.record([END; RECORD]);
         let mut list = Vec::with_capacity(self.bytes.len() + 4 * HEAD);
-        let [set, input, output, work, index] = [MOST_SET, MOST_INPUT, MOST_OUTPUT, MOST_WORK, MOST_INDEX].map(|length| length as u32);
-        push(&mut list, &[1, self.cases, set, input, output, work, LENT as u32, index]);
+        let most = [MOST_SET, MOST_INPUT, MOST_OUTPUT, MOST_WORK, MOST_INDEX, MOST_COUNTS];
+        let [set, input, output, work, index, counts] = most.map(|length| length as u32);
+        push(&mut list, &[1, self.cases, set, input, output, work, LENT as u32, index, counts]);
         list.extend_from_slice(&self.bytes);
         list
     }
@@ -180,6 +204,12 @@ fn samples(list: &mut List) {
         list.call(&site, &Job { output: 5, work: 12, ..job(Call::Read, entries, b"AACGTC") });
     }
     list.call(&site, &Job { output: 0, work: 2, ..job(Call::Batch, &[], b"\n") });
+    for sample in &SUPPORTED {
+        let site = Site::new(sample.set());
+        list.call(&site, &sample.call());
+        let batch = job(Call::Batch, sample.job, &batch_of([&sample.read.as_bytes().to_vec()]));
+        list.call(&site, &Job { counts: sample.counts.to_vec(), ..batch });
+    }
 }
 
 /// For every k: sets of genomes, of cycles, dense ones; reads with errors, in all ten letters, with other bytes, at every limit.
@@ -430,6 +460,114 @@ fn late_indexes(list: &mut List, rng: &mut Rng) {
     }
 }
 
+/// Whether a call with counts tells a part of its evidence, or a scenario, by a method by which that is not often enough told. Lists of several
+/// entries count as one method more.
+fn tells_support(site: &Site, job: &Job, told: &mut [[u32; PARTS.len() + BY]; METHODS.len() + 1]) -> bool {
+    let outcome = call(&site.opened, job);
+    if outcome.answer.is_ok_and(|report| report.support.is_none()) || outcome.answer.is_err() {
+        return false;
+    }
+    let told = match entries(job)[..] {
+        [entry] => &mut told[entry.method as usize - 1],
+        _ => &mut told[METHODS.len()],
+    };
+    let parts = parts_that_tell(&outcome.passes, &job.counts);
+    // A scenario is told where no other made a correction.
+    let passes: Vec<&Pass> = outcome.passes.iter().flatten().collect();
+    let alone = passes.iter().map(|pass| pass.accepted).sum::<u64>() == 1;
+    let by = (0..BY).map(|by| alone && passes.iter().any(|pass| pass.by[by] > 0));
+    let mut wanted = false;
+    for (told, now) in told.iter_mut().zip(parts.into_iter().chain(by)) {
+        if now && *told < SUPPORTS {
+            *told += 1;
+            wanted = true;
+        }
+    }
+    wanted
+}
+
+/// A batch of several reads by one entry.
+fn several_lines(rng: &mut Rng, site: &Site, genome: &[u8]) -> Job {
+    let mut next = || if genome.is_empty() { reads::in_set(rng, site) } else { reads::noisy(rng, genome, 60) };
+    let lines = [next(), next(), next()];
+    let entry = any_entries(rng, 1, 3);
+    job(Call::Batch, &entry, &batch_of(&lines))
+}
+
+/// Counts of as many kinds as there are, with calls that tell which part of the evidence has the smallest.
+fn supports(list: &mut List, rng: &mut Rng) {
+    let mut told = [[0; PARTS.len() + BY]; METHODS.len() + 1];
+    for _ in 0..20_000 {
+        let k = *rng.pick(&[3, 3, 5, 5, 7, 9, 15, 21, 31]);
+        let (site, genome) = match rng.below(3) {
+            0 if k < 7 => (sets::dense(rng, k), Vec::new()),
+            1 => sets::periodic(rng, k),
+            _ => small_genome(rng, k),
+        };
+        if site.bytes.len() > 1024 {
+            continue;
+        }
+        let counts = any_counts(rng, site.opened.as_ref().map_or(0, |set| set.keys.len()));
+        for _ in 0..4 {
+            let any = if rng.percent(25) { several_lines(rng, &site, &genome) } else { any_call(rng, &site, &genome) };
+            let job = Job { counts: counts.clone(), ..any };
+            if tells_support(&site, &job, &mut told) {
+                list.call(&site, &job);
+            }
+        }
+    }
+    for (method, told) in METHODS.iter().map(|method| format!("{method:?}")).chain(["lists".to_string()]).zip(told) {
+        println!(
+            "{method}: calls told by each part of the evidence {:?}, by one correction of each scenario {:?}",
+            &told[..PARTS.len()],
+            &told[PARTS.len()..]
+        );
+    }
+}
+
+/// Counts of every kind and of other lengths, with calls that are accepted, whose output is too short, or whose index is not the set's.
+fn offer_counts(list: &mut List, rng: &mut Rng) {
+    let none = Site::new(set_file::make(3, &[]));
+    for counts in [vec![0], vec![7; 2], Vec::new()] {
+        list.call(&none, &Job { counts, ..job(Call::Read, &[1, 1], b"ACGT") });
+    }
+    for k in [1, 3, 5, 21] {
+        let (site, genome) = if k < 5 { (sets::dense(rng, k), Vec::new()) } else { small_genome(rng, k) };
+        let n = site.opened.as_ref().map_or(0, |set| set.keys.len());
+        let (right, wrong) = (counts::right(rng, n), counts::wrong(rng, n));
+        for counts in right.iter().chain(&wrong) {
+            let job = Job { counts: counts.clone(), ..mending_call(rng, &site, &genome) };
+            list.call(&site, &job);
+            list.call(&site, &Job { output: job.input.len() / 2, ..job });
+        }
+        for counts in wrong.iter().chain(&right[..1]).filter(|_| k < 5) {
+            let job = Job { counts: counts.clone(), ..mending_call(rng, &site, &genome) };
+            list.call(&site, &Job { index: site.index().to_vec(), ..job.clone() });
+            list.call(&site, &Job { index: vec![0; BLOCK], ..job });
+        }
+    }
+}
+
+/// Counts of another number than there are keys, with inputs and sets that are refused before them.
+fn late_counts(list: &mut List, rng: &mut Rng) {
+    let site = sets::dense(rng, 3);
+    let counts = counts::wrong(rng, site.opened.as_ref().map_or(0, |set| set.keys.len())).swap_remove(0);
+    for _ in 0..40 {
+        damage::input(rng, b"ACGTTGCA", false, &mut |job| {
+            if job.input.len() <= MOST_INPUT && job.output <= MOST_OUTPUT && job.work <= MOST_WORK {
+                list.call(&site, &Job { counts: counts.clone(), ..job.clone() });
+            }
+        });
+    }
+    for _ in 0..16 {
+        let damaged = Site::new(damage::set(rng));
+        if damaged.bytes.len() <= 1024 {
+            let call = any_call(rng, &damaged, b"ACGTTGCA");
+            list.call(&damaged, &Job { counts: counts.clone(), ..call });
+        }
+    }
+}
+
 pub fn write(file: &str, seed: u64) -> Result<(), String> {
     let mut list = List::default();
     let rng = &mut Rng::of_unit(seed, u64::MAX);
@@ -443,6 +581,9 @@ pub fn write(file: &str, seed: u64) -> Result<(), String> {
     short_indexes(&mut list, rng);
     long_indexes(&mut list, rng);
     late_indexes(&mut list, rng);
+    supports(&mut list, rng);
+    offer_counts(&mut list, rng);
+    late_counts(&mut list, rng);
     list.tally.print();
     println!("{} cases, seed {seed}", list.cases);
     let bytes = list.finish();
@@ -472,22 +613,26 @@ pub fn replay(file: &str, library: &dyn Library) -> Result<bool, String> {
     let bytes = std::fs::read(file).map_err(|error| format!("{file}: {error}"))?;
     let mut reader = Reader(&bytes);
     let head: [u32; HEAD] = reader.words()?;
-    let (mut set, mut index): (&[u8], &[u8]) = (&[], &[]);
+    let (mut set, mut index, mut counts): (&[u8], &[u8], Vec<u32>) = (&[], &[], Vec::new());
     let (mut passed, mut failed) = (0, 0);
     loop {
         let record: [u32; RECORD] = reader.words()?;
         let right = match record[0] {
             END => break,
             SET => {
-                (set, index) = (reader.take(record[1] as usize)?, &[]);
+                (set, index, counts) = (reader.take(record[1] as usize)?, &[], Vec::new());
                 continue;
             }
             INDEX => {
                 index = reader.take(record[1] as usize)?;
                 continue;
             }
+            COUNTS => {
+                counts = (0..record[1] / 4).map(|_| reader.words::<1>().map(|[count]| count)).collect::<Result<_, _>>()?;
+                continue;
+            }
             OPEN => library.open(set) == expected_open(&record),
-            READ | BATCH => replay_call(&mut reader, &record, (set, index), head[6] as u8, library)?,
+            READ | BATCH => replay_call(&mut reader, &record, (set, index, &counts), head[6] as u8, library)?,
             kind => return Err(format!("no record of kind {kind}")),
         };
         passed += right as u32;
@@ -507,11 +652,15 @@ fn expected_open(record: &[u32; RECORD]) -> Result<(u64, u64), Refusal> {
     }
 }
 
-fn replay_call(reader: &mut Reader, record: &[u32; RECORD], (set, index): (&[u8], &[u8]), lent: u8, library: &dyn Library) -> Result<bool, String> {
+/// What stands for a case from the records before it: the set, the index and the counts.
+type Offered<'a> = (&'a [u8], &'a [u8], &'a [u32]);
+
+fn replay_call(reader: &mut Reader, record: &[u32; RECORD], (set, index, counts): Offered, lent: u8, library: &dyn Library) -> Result<bool, String> {
     let [entries, input, output, work, result] = [2, 3, 4, 5, 6].map(|at| record[at] as usize);
     let job = Job {
         call: if record[0] == READ { Call::Read } else { Call::Batch },
         index: index.to_vec(),
+        counts: counts.to_vec(),
         entries: reader.take(entries)?.to_vec(),
         input: reader.take(input)?.to_vec(),
         output,
@@ -520,7 +669,7 @@ fn replay_call(reader: &mut Reader, record: &[u32; RECORD], (set, index): (&[u8]
     let bytes = reader.take(result)?;
     let (mut output, mut work) = (vec![lent; output], vec![lent; work]);
     let answer = library.correct(set, &job, &mut output, &mut work);
-    let rest = if matches!(record[8], 1..=10 | 15) { lent } else { 0 };
+    let rest = if matches!(record[8], 1..=10 | 15 | 16) { lent } else { 0 };
     let (written, spare) = output.split_at(result);
     Ok(answer == expected_answer(record) && written == bytes && spare.iter().chain(&work).all(|byte| *byte == rest))
 }
@@ -528,7 +677,15 @@ fn replay_call(reader: &mut Reader, record: &[u32; RECORD], (set, index): (&[u8]
 fn expected_answer(record: &[u32; RECORD]) -> Answer {
     let word = |at: usize| record[at] as u64;
     match word(8) {
-        0 => Ok(Report { written: word(10), turns: word(11), lookups: word(12), attempts: word(13), accepted: word(14), yields: word(15) }),
+        0 => Ok(Report {
+            written: word(10),
+            turns: word(11),
+            lookups: word(12),
+            attempts: word(13),
+            accepted: word(14),
+            yields: word(15),
+            support: (word(7) == 1).then_some(record[1]),
+        }),
         number => Err(Refusal { number, place: word(9) }),
     }
 }

@@ -1,11 +1,16 @@
 //! Makers of blocks: one case on both sides, and the run over all of them.
 use crate::cases::index::made as each_index;
+use crate::cases::job;
 use crate::cases::make::{each, Case};
 use crate::check::{show, Site, LENT};
 use crate::library::Library;
 use crate::referee::calls::{Call, Job};
+use crate::referee::make::Room;
 use crate::referee::set::Refusal;
 use crate::referee::{index, make, set};
+
+/// What every lent count is before a call.
+const LENT_COUNT: u32 = 0xaaaa_aaaa;
 
 /// What was compared.
 #[derive(Default)]
@@ -45,38 +50,52 @@ impl Made {
     }
 }
 
-/// A maker's answer and every lent byte against what is expected: the blocks, zeros behind them; or a refusal and nothing changed.
+/// A maker's answer and its lent blocks against what is expected.
 fn check_blocks(expected: Result<&[u8], Refusal>, found: Result<u64, Refusal>, blocks: &[u8]) -> Result<(), String> {
     let told = expected.map(|made| made.len() as u64);
     if found != told {
         return Err(format!("expected {told:?}, found {found:?}"));
     }
-    let Ok(made) = expected else {
-        return blocks.iter().all(|byte| *byte == LENT).then_some(()).ok_or("a refusal changed the buffer".to_string());
+    check_lent("the blocks", expected.ok(), blocks, LENT)
+}
+
+/// Every element of a lent buffer: what was made, zeros behind it; or, refused, as it was.
+fn check_lent<T: Copy + Default + PartialEq>(of: &str, made: Option<&[T]>, lent: &[T], before: T) -> Result<(), String> {
+    let Some(made) = made else {
+        return lent.iter().all(|element| *element == before).then_some(()).ok_or(format!("a refusal changed {of}"));
     };
-    let (written, rest) = blocks.split_at(made.len());
-    if written != made {
-        let place = written.iter().zip(made).position(|(found, expected)| found != expected);
-        return Err(format!("byte {place:?} of the blocks differs"));
+    let (written, rest) = lent.split_at(made.len());
+    if let Some(place) = written.iter().zip(made).position(|(found, expected)| found != expected) {
+        return Err(format!("element {place} of {of} differs"));
     }
-    if rest.iter().any(|byte| *byte != 0) {
-        return Err("the buffer's rest is not zero".to_string());
+    if rest.iter().any(|element| *element != T::default()) {
+        return Err(format!("the rest of {of} is not zero"));
     }
     Ok(())
 }
 
-/// The library against the referee: the answer, every lent byte, and the blocks opened again.
+/// The library against the referee: the answer, every lent byte and count, the blocks opened again, and a call that takes both.
 fn check_set(library: &dyn Library, case: &Case) -> Result<Option<Refusal>, String> {
+    let Room { blocks, counts } = case.room;
     let expected = make::make_set(&case.text, case.k, case.least, case.room);
-    let mut blocks = vec![LENT; case.room];
-    let found = library.make_set(&case.text, case.k, case.least, &mut blocks);
-    check_blocks(expected.as_deref().map_err(|refusal| *refusal), found, &blocks)?;
+    let (mut blocks, mut counts) = (vec![LENT; blocks], vec![LENT_COUNT; counts]);
+    let found = library.make_set(&case.text, case.k, case.least, &mut blocks, &mut counts);
+    let made = expected.as_ref().map_err(|refusal| *refusal);
+    check_blocks(made.map(|made| &made.blocks[..]), found, &blocks)?;
+    check_lent("the counts", made.ok().map(|made| &made.counts[..]), &counts, LENT_COUNT)?;
     let Ok(made) = expected else { return Ok(expected.err()) };
-    let keys = make::keys(&case.text, case.k, case.least).map_err(|_| "keys")?;
-    if library.open(&made) != Ok((case.k, keys.len() as u64)) || !set::open(&made).is_ok_and(|set| set.keys == keys) {
+    let n = made.keys.len();
+    if library.open(&made.blocks) != Ok((case.k, n as u64)) || !set::open(&made.blocks).is_ok_and(|set| set.keys == made.keys) {
         return Err("the blocks do not open with the kept keys".to_string());
     }
-    Ok(None)
+    taken(library, &made.blocks, Job { counts: made.counts, ..job(Call::Read, &[], &[]) })
+}
+
+/// A call without a read, that takes what it is offered.
+fn taken(library: &dyn Library, set: &[u8], offering: Job) -> Result<Option<Refusal>, String> {
+    let (mut output, mut work) = (vec![0; offering.output], vec![0; offering.work]);
+    let answer = library.correct(set, &offering, &mut output, &mut work);
+    answer.map(|_| None).map_err(|refusal| format!("offered to a call, it is refused {}", refusal.number))
 }
 
 /// The same of an index, which a call then takes.
@@ -86,14 +105,12 @@ fn check_index(library: &dyn Library, site: &Site, room: usize) -> Result<Option
     let found = library.make_index(&site.bytes, &mut blocks);
     check_blocks(expected, found, &blocks)?;
     let Ok(made) = expected else { return Ok(expected.err()) };
-    let job = Job { call: Call::Read, index: made.to_vec(), entries: Vec::new(), input: Vec::new(), output: 0, work: 0 };
-    let taken = library.correct(&site.bytes, &job, &mut [], &mut []);
-    taken.map(|_| None).map_err(|refusal| format!("offered to a call, it is refused {}", refusal.number))
+    taken(library, &site.bytes, Job { index: made.to_vec(), ..job(Call::Read, &[], &[]) })
 }
 
 fn what_text(case: &Case) -> String {
     let text = if case.text.len() > 2000 { format!("{} bytes", case.text.len()) } else { show(&case.text) };
-    format!("k {}, least {}, room {}, text {text}", case.k, case.least, case.room)
+    format!("k {}, least {}, {:?}, text {text}", case.k, case.least, case.room)
 }
 
 fn what_set(site: &Site, room: usize) -> String {

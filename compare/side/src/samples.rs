@@ -48,6 +48,99 @@ pub const SAMPLES: [Sample; 31] = [
     (Graph, 1, "aacguccg", "aacTCCg", Some(2), Some(18)),
 ];
 
+/// A read through a job, over keys with counts: the result and the support that is told.
+pub struct Supported {
+    pub k: u64,
+    pub keys: &'static [u64],
+    pub counts: &'static [u32],
+    pub job: &'static [u8],
+    pub read: &'static str,
+    pub result: &'static str,
+    pub support: Option<u32>,
+}
+
+#[rustfmt::skip]
+const fn supported(
+    k: u64, keys: &'static [u64], counts: &'static [u32], job: &'static [u8], read: &'static str, result: &'static str, support: Option<u32>,
+) -> Supported {
+    Supported { k, keys, counts, job, read, result, support }
+}
+
+const RISING: &[u32] = &[10, 20, 30, 40, 50];
+const FALLING: &[u32] = &[50, 40, 30, 20, 10];
+
+/// Document 02, W8. Where a set is not the samples', keys that support nothing have the smaller counts.
+pub const SUPPORTED: [Supported; 45] = [
+    supported(3, &KEYS, RISING, &[1, 1], "AACGC", "AACTC", Some(10)),
+    supported(3, &KEYS, FALLING, &[1, 1], "AACGC", "AACTC", Some(50)),
+    supported(3, &KEYS, RISING, &[1, 1], "AACC", "AACTC", Some(10)),
+    supported(3, &KEYS, FALLING, &[1, 1], "AACGTC", "AACTC", Some(50)),
+    supported(3, &KEYS, FALLING, &[2, 2], "AACCG", "AACTCCG", Some(30)),
+    supported(3, &KEYS, RISING, &[3, 1], "AACGCCG", "AACTCCG", Some(10)),
+    supported(3, &KEYS, FALLING, &[3, 1], "AACGCCG", "AACTCCG", Some(10)),
+    supported(3, &KEYS, FALLING, &[4, 1], "AACGCCG", "AACTCCG", Some(50)),
+    // None: nothing is accepted, or no counts are offered. 0 is a count.
+    supported(3, &KEYS, RISING, &[1, 1], "AACG", "AACG", None),
+    supported(3, &KEYS, RISING, &[1, 1], "AA", "AA", None),
+    supported(3, &KEYS, RISING, &[], "AACGC", "AACGC", None),
+    supported(3, &KEYS, &[], &[3, 1], "AACGCCG", "AACTCCG", None),
+    supported(3, &KEYS, &[0, 1, 1, 1, 1], &[1, 1], "AACGC", "AACTC", Some(0)),
+    supported(3, &KEYS, &[u32::MAX; 5], &[3, 1], "AACGCCG", "AACTCCG", Some(u32::MAX)),
+    // One by I, S, D; Two by each of its scenarios.
+    supported(3, &[33, 46], &[20, 10], &[1, 1], "TGTGAC", "TGTAC", Some(20)),
+    supported(3, &[24, 54], &[10, 20], &[1, 1], "TAGGT", "TAGCT", Some(20)),
+    supported(3, &[12, 24], &[10, 20], &[1, 1], "TCTG", "TCTAG", Some(20)),
+    supported(3, &[10, 43], &[20, 10], &[2, 1], "CAAATCT", "CAATCT", Some(20)),
+    supported(3, &[9, 36], &[20, 10], &[2, 1], "GATTCA", "GATCA", Some(20)),
+    supported(5, &[759, 989], &[10, 20], &[2, 1], "TGGCGTGA", "TGGCGCCA", Some(20)),
+    supported(3, &[43, 45], &[10, 20], &[2, 1], "TTGTA", "TTGCAA", Some(20)),
+    supported(3, &[24, 54], &[10, 20], &[2, 1], "TAGA", "TAGCTA", Some(20)),
+    supported(3, &[23, 53], &[10, 20], &[2, 1], "CCGAGTCCG", "CCGGCCG", Some(20)),
+    supported(5, &[142, 225, 568], &[10, 30, 20], &[2, 1], "ATAGTAGCGA", "ATAGTACT", Some(30)),
+    supported(5, &[383, 510, 1017], &[30, 10, 20], &[2, 2], "GACCCTGGTC", "GACCCGGGTC", Some(30)),
+    supported(3, &[10, 39, 48], &[30, 10, 20], &[2, 1], "TCGGACTTCG", "TCGAATTCG", Some(30)),
+    supported(5, &[5, 23, 479, 894], &[10, 20, 40, 30], &[2, 1], "AAACCCCTG", "AAACCGCGG", Some(40)),
+    supported(3, &[5, 20], &[20, 10], &[2, 1], "ACCCCA", "ACCACCA", Some(20)),
+    supported(3, &[0, 45], &[10, 20], &[2, 1], "TTTCGCCA", "TTTGCCA", Some(20)),
+    supported(3, &[15, 60], &[10, 20], &[2, 1], "TCCCT", "TCCTCCT", Some(20)),
+    // Several are kept and one remains.
+    supported(5, &[178, 585, 715], &[10, 30, 20], &[2, 1], "CATCAATC", "CATCATCATC", Some(30)),
+    // Graph: the weakest k-mer is x, one between, T.
+    supported(3, &[6, 17, 24], &[20, 30, 10], &[3, 1], "TAGGTG", "TAGTG", Some(20)),
+    supported(3, &[3, 5, 15, 17], &[40, 30, 20, 10], &[3, 1], "CACTT", "CACCTT", Some(20)),
+    supported(3, &[6, 17, 24], &[30, 20, 10], &[3, 1], "TAGGTG", "TAGTG", Some(20)),
+    // GapSize by Graph, by One, and by its own moves.
+    supported(3, &[6, 24, 33], &[20, 30, 10], &[4, 1], "TACCTA", "TACTA", Some(20)),
+    supported(3, &[6, 24, 33], &[30, 20, 10], &[4, 1], "TACCTA", "TACTA", Some(20)),
+    supported(3, &[12, 24], &[10, 20], &[4, 1], "TCTCGA", "TCTAGA", Some(20)),
+    supported(3, &[18, 20, 53], &[30, 20, 10], &[4, 1], "GCCTCGG", "GCCATGG", Some(20)),
+    supported(3, &[5, 36, 57, 63], &[20, 10, 30, 40], &[4, 1], "TGAACGCC", "TGACCCCC", Some(20)),
+    supported(3, &[18, 20, 53], &[20, 30, 10], &[4, 1], "GCCTCGG", "GCCATGG", Some(20)),
+    // The smaller one in the first pass, in the second; a refused attempt before an accepted one, and behind it.
+    supported(3, &[6, 33], &[10, 20], &[2, 1, 1, 1], "AGTGA", "AGTACTA", Some(10)),
+    supported(3, &[6, 33], &[20, 10], &[2, 1, 1, 1], "AGTGA", "AGTACTA", Some(10)),
+    supported(3, &[43, 46, 58], &[30, 20, 10], &[3, 2], "CAAACCAA", "CAAACAA", Some(20)),
+    supported(5, &[195, 780, 922], &[10, 30, 20], &[1, 1], "AGAAGAAGC", "AGAAGAAGAC", Some(30)),
+    supported(3, &[24, 54], &[20, 10], &[1, 1], "GCTGA", "GCTAGA", Some(20)),
+];
+
+impl Supported {
+    pub fn set(&self) -> Vec<u8> {
+        set_file::make(self.k, self.keys)
+    }
+
+    pub fn call(&self) -> Job {
+        Job { counts: self.counts.to_vec(), ..job(Call::Read, self.job, self.read.as_bytes()) }
+    }
+
+    fn is_right(&self, library: &dyn Library) -> bool {
+        let job = self.call();
+        let (mut output, mut work) = (vec![0; job.output], vec![0; job.work]);
+        let answer = library.correct(&self.set(), &job, &mut output, &mut work);
+        answer.is_ok_and(|report| output[..report.written as usize] == *self.result.as_bytes() && report.support == self.support)
+    }
+}
+
 /// Two of those reads, and what natir/br makes of them, which reads N as G (docs/DIFFERENCES.md).
 const N_AS_G: [(&str, &str); 2] = [("CTCN", "CTCCN"), ("CCGNA", "CCGNA")];
 
@@ -67,6 +160,10 @@ pub fn wrong(library: &dyn Library) -> Vec<String> {
         if !gives(library, &job, result.as_bytes(), turns, lookups) {
             wrong.push(format!("{method:?}, confirm {confirm}, {read:?} does not give {result:?}, turns {turns:?}, lookups {lookups:?}"));
         }
+    }
+    for sample in SUPPORTED.iter().filter(|sample| !sample.is_right(library)) {
+        let Supported { k, keys, counts, job, read, result, support } = sample;
+        wrong.push(format!("k {k}, keys {keys:?}, counts {counts:?}, job {job:?}, {read:?} does not give {result:?}, support {support:?}"));
     }
     let batch = job(Call::Batch, &[3, 1], b"AACGCCG\nAA\n");
     if !gives(library, &batch, b"AACTCCG\nAA\n", Some(1), Some(21)) {

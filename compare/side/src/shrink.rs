@@ -70,7 +70,7 @@ impl Failure {
                     let bytes = &self.site.bytes;
                     Site::new([&bytes[..from * 512], &bytes[((from + count) * 512).min(bytes.len())..]].concat())
                 });
-                let job = self.job.clone();
+                let job = self.job.clone().map(|job| self.with_counts_of(job, from, count));
                 if !self.try_with(library, Some(site), job) {
                     from += count;
                 }
@@ -79,12 +79,21 @@ impl Failure {
         }
     }
 
+    /// A job without the counts of the keys that are left out; one with another number of counts than keys stays as it is.
+    fn with_counts_of(&self, mut job: Job, from: usize, count: usize) -> Job {
+        if self.site.opened.as_ref().is_ok_and(|set| set.keys.len() == job.counts.len()) {
+            let end = (from + count).min(job.counts.len());
+            job.counts.drain(from..end);
+        }
+        job
+    }
+
     fn smaller_call(&mut self, library: &dyn Library, begun: Instant) {
         let job_now = |failure: &Failure| failure.job.clone().expect("a call");
         let first = job_now(self);
         if first.call == Call::Batch {
             for read in reads(&first) {
-                let single = Job { index: first.index.clone(), ..job(Call::Read, &first.entries, read) };
+                let single = Job { index: first.index.clone(), counts: first.counts.clone(), ..job(Call::Read, &first.entries, read) };
                 if self.try_with(library, None, Some(single)) {
                     break;
                 }
@@ -143,6 +152,9 @@ impl Failure {
                     job.index.len(),
                     self.site.index().len()
                 );
+            }
+            if !job.counts.is_empty() {
+                println!("  {} counts: {:?}", job.counts.len(), &job.counts[..job.counts.len().min(64)]);
             }
             println!("  input of {} bytes: {}", job.input.len(), show(&job.input[..job.input.len().min(4096)]));
         }

@@ -48,12 +48,12 @@ fn print_case(name: &[u8], answer: Answer, output: &[u8], work: &[u8]) {
 }
 
 fn read_case(name: &[u8], set: &[u8], job: &[u8], read: &[u8], output: &mut [u8], work: &mut [u8]) {
-    let answer = job::correct_read(set, b"", job, read, output, work);
+    let answer = job::correct_read(set, b"", &[], job, read, output, work);
     print_case(name, answer, output, work);
 }
 
 fn batch_case(name: &[u8], set: &[u8], batch: &[u8], output: &mut [u8], work: &mut [u8]) {
-    let answer = job::correct_batch(set, b"", b"\x01\x01", batch, output, work);
+    let answer = job::correct_batch(set, b"", &[], b"\x01\x01", batch, output, work);
     print_case(name, answer, output, work);
 }
 

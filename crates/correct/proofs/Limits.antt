@@ -7,13 +7,14 @@ use mathlib.Core.Path.{_≡_}
 use mathlib.Core.Option.{none}
 use mathlib.Core.List.{List}
 use lib.ListN.{length}
-use Rattle.rules.specs.Set.{solid, setCheck, setOf}
+use Rattle.rules.specs.Set.{KmerSet, setOf, offering, setCheck, solid, countOf}
 use Rattle.rules.specs.Driver.{Pass, drive}
 use Rattle.rules.specs.Job.{Method, One, Two, Graph, GapSize, methodOf, entry, correctError, pass}
 use Rattle.rules.specs.Counts.{F}
 use Rattle.rules.proofs.Driver.{drive-turns}
 use Rattle.rules.proofs.Lookups.{drive-lookups, drive-short}
 use Rattle.rules.proofs.Demands.{fair, steady}
+use Rattle.set.specs.Counted.{setWith}
 use Rattle.set.proofs.Opened.{opened-k-low, opened-k-high, opened-n-le, set-count}
 use Rattle.rules.specs.Calls.{maxRead}
 use Rattle.correct.specs.Pass.{maxF, Small}
@@ -26,39 +27,41 @@ pub record Limited (w : ℕ) (p : Pass) : Type 0 where
   pub attempts : p .attempts ≤ 2 * w
   pub accepted : p .accepted ≤ 2 * w
 
-module _ (bytes : List ℕ) (opens : setCheck bytes ≡ none) (c : ℕ) (c-low : 1 ≤ c) (c-high : c < 256) where
-  F-le : (m : Method) → F (setOf bytes) c m ≤ maxF
-  unfolding F setOf
+module _ (bytes counts : List ℕ) (opens : setCheck bytes ≡ none) (c : ℕ) (c-low : 1 ≤ c) (c-high : c < 256) where
+  abbrev set : KmerSet
+  set = setWith bytes counts
+
+  F-le : (m : Method) → F set c m ≤ maxF
+  unfolding F offering setOf
   F-le One = omega arith
   F-le Two = omega arith
   F-le Graph = omega (arith, set-count bytes, opened-n-le bytes opens)
   F-le GapSize = omega (arith, set-count bytes, opened-n-le bytes opens, opened-k-high bytes opens)
 
-  k-low : 1 ≤ setOf bytes .k
-  unfolding setOf
+  k-low : 1 ≤ set .k
+  unfolding offering setOf
   k-low = opened-k-low bytes opens
 
-  pub pass-limited : (method : ℕ) (fed : List ℕ) → Limited (length fed) (pass (setOf bytes) (entry method c) fed)
+  pub pass-limited : (method : ℕ) (fed : List ℕ) → Limited (length fed) (pass set (entry method c) fed)
   unfolding pass entry
   pass-limited method fed =
-      let k = setOf bytes .k in
-      let sol = solid (setOf bytes) in
-      let ce = correctError (setOf bytes) c (methodOf method) in
-      let t : drive k sol ce fed .turns ≤ 2 * length fed = omega (arith, drive-turns k sol ce (steady (setOf bytes) k-low c c-low (methodOf method)) fed) in
-      let f = drive-fewer k sol ce fed in
+      let ce = correctError set c m in
+      let t : drive (set .k) (solid set) (countOf set) ce fed .turns ≤ 2 * length fed =
+      omega (arith, drive-turns (set .k) (solid set) (countOf set) ce (steady set k-low c c-low m) fed) in
+      let f = drive-fewer (set .k) (solid set) (countOf set) ce fed in
       record { turns = t; lookups = looked; attempts = omega (arith, f .attempts); accepted = omega (arith, f .accepted) }
     where
       m : Method
       m = methodOf method
 
-      looked : drive (setOf bytes .k) (solid (setOf bytes)) (correctError (setOf bytes) c m) fed .lookups ≤ 1 + length fed * maxF
-      looked = elim (decLe (setOf bytes .k) (length fed)) [
+      looked : drive (set .k) (solid set) (countOf set) (correctError set c m) fed .lookups ≤ 1 + length fed * maxF
+      looked = elim (decLe (set .k) (length fed)) [
         | yes le ↦ omega (
           arith,
-          drive-lookups (setOf bytes .k) (solid (setOf bytes)) (correctError (setOf bytes) c m) (F (setOf bytes) c m) (fair (setOf bytes) k-low c c-low m) fed le,
-          mul-le-mul-left (length fed - setOf bytes .k) (F-le m),
+          drive-lookups (set .k) (solid set) (countOf set) (correctError set c m) (F set c m) (fair set k-low c c-low m) fed le,
+          mul-le-mul-left (length fed - set .k) (F-le m),
         )
-        | no gt ↦ omega (arith, drive-short (setOf bytes .k) (solid (setOf bytes)) (correctError (setOf bytes) c m) 0 fed (omega arith))
+        | no gt ↦ omega (arith, drive-short (set .k) (solid set) (countOf set) (correctError set c m) 0 fed (omega arith))
       ]
 
 -- fed no more than maxRead bytes

@@ -1,21 +1,31 @@
 -- A pass: what its answer means by the rules.
 use Prim.Native.Nat.{ℕ, _+_, _*_, _≤_, _<_}
 use mathlib.Core.Path.{_≡_}
+use mathlib.Core.Option.{none}
 use mathlib.Core.List.{List}
 use lib.ListN.{length, take}
 use Rattle.rules.specs.Driver as rules
 use Rattle.rules.specs.Calls.{maxRead}
+use Rattle.support.specs.Support.{supportOf}
 use Rattle.correct.specs.declared.Counts.{Counts}
 use Rattle.correct.specs.declared.Pass.{Pass}
 use Rattle.correct.specs.declared.Pass.the-variants.{Done, Full}
 
 -- Counts, with the bytes at the front of the output, as the rules' pass.
 abbrev pub passOf : Counts → List ℕ → rules.Pass
-passOf n out = record { bytes = take (n .written) out; turns = n .turns; lookups = n .lookups; attempts = n .attempts; accepted = n .accepted }
+passOf n out =
+    record {
+      bytes = take (n .written) out;
+      turns = n .turns;
+      lookups = n .lookups;
+      attempts = n .attempts;
+      accepted = n .accepted;
+      support = supportOf (n .accepted) (n .support);
+    }
 
 -- A read returned unchanged, counts zero.
 abbrev pub returned : List ℕ → rules.Pass
-returned read = record { bytes = read; turns = 0; lookups = 0; attempts = 0; accepted = 0 }
+returned read = record { bytes = read; turns = 0; lookups = 0; attempts = 0; accepted = 0; support = none }
 
 -- The answer to the rules' pass n: its counts, and its bytes at the front of the output; Full where they are more than its room.
 abbrev pub PassIs : ℕ → List ℕ → rules.Pass → Pass → Type 0

@@ -1,4 +1,5 @@
-// The driver, `Corrector::correct` of src/correct/mod.rs: a pass, which is one read through one method. Document 01, "Driver".
+// The driver, `Corrector::correct` of src/correct/mod.rs: a pass, which is one read through one method. Document 01, "Driver", and document
+// 02, W8.
 use kmer::Header;
 use kmer::Kmer;
 use turn::Place;
@@ -6,20 +7,21 @@ use turn::Turned;
 ghost use mathlib.Core.Path.{_≡_};
 ghost use Prim.Native.Nat.{_≤_};
 ghost use lib.ListN.{length, take};
-ghost use Rattle.rules.specs.Set.{setOf};
 ghost use Rattle.rules.specs.Job.{entry, pass};
 ghost use Rattle.set.specs.Ready.{Ready};
+ghost use Rattle.set.specs.Counted.{setWith};
 ghost use Rattle.rules.specs.Calls.{maxRead};
 ghost use Rattle.correct.specs.Pass.{returned, PassIs, Passed};
 ghost use Rattle.turn.specs.Turn.{stateOf, Stands, Countable, endOf};
 
-// What was written and counted.
+// What was written and counted, and the smallest count behind the accepted corrections, if there are any.
 pub struct Counts {
     pub written: usize,
     pub turns: u64,
     pub lookups: u64,
     pub attempts: u64,
     pub accepted: u64,
+    pub support: u32,
 }
 
 // Full: the result is longer than the output.
@@ -42,6 +44,7 @@ fn turns_of(
     set: &[u8],
     starts: &[u32],
     head: Header,
+    counts: &[u32],
     method: u8,
     c: u8,
     first: Place,
@@ -50,10 +53,10 @@ fn turns_of(
 ) -> Pass
     requires { ⌜
         Ready (now set) (now starts) head × (1 ≤ c) × Stands (head .k) first (now read) (now out)
-        × Countable (endOf (now set) head method c (stateOf first (now read) (now out))) ⌝ }
+        × Countable (endOf (now set) head (now counts) method c (stateOf first (now read) (now out))) ⌝ }
     ensures { λ r. ⌜
         PassIs (length (now (out .entry))) (now (out .exit))
-        (endOf (now (set .entry)) head method c (stateOf first (now (read .entry)) (now (out .entry))))
+        (endOf (now (set .entry)) head (now (counts .entry)) method c (stateOf first (now (read .entry)) (now (out .entry))))
         r ⌝ }
 {
     let mut p = first;
@@ -68,7 +71,7 @@ fn turns_of(
             };
             ahead = scan::read_ahead(set, starts, head, kmer, read, p.at);
         }
-        let Turned::To(next) = turn::turn(set, starts, head, method, c, p, read, out) else {
+        let Turned::To(next) = turn::turn(set, starts, head, counts, method, c, p, read, out) else {
             return Pass::Full;
         };
         p = next;
@@ -79,6 +82,7 @@ fn turns_of(
         lookups: p.lookups,
         attempts: p.attempts,
         accepted: p.accepted,
+        support: p.support,
     })
 }
 
@@ -96,6 +100,7 @@ pub fn copied(read: &[u8], out: &mut [u8]) -> Pass
         lookups: 0,
         attempts: 0,
         accepted: 0,
+        support: 0,
     })
 }
 
@@ -104,6 +109,7 @@ pub fn correct(
     set: &[u8],
     starts: &[u32],
     head: Header,
+    counts: &[u32],
     method: u8,
     c: u8,
     read: &[u8],
@@ -111,7 +117,7 @@ pub fn correct(
 ) -> Pass
     requires { ⌜ Ready (now set) (now starts) head × (1 ≤ c) × (length (now read) ≤ maxRead) ⌝ }
     ensures { λ r. ⌜
-        Passed (now (out .entry)) (now (out .exit)) (pass (setOf (now (set .entry))) (entry method c) (now (read .entry))) r ⌝ }
+        Passed (now (out .entry)) (now (out .exit)) (pass (setWith (now (set .entry)) (now (counts .entry))) (entry method c) (now (read .entry))) r ⌝ }
 {
     let k = head.k;
     if read.len() < k {
@@ -132,6 +138,7 @@ pub fn correct(
         lookups: asked.lookups,
         attempts: 0,
         accepted: 0,
+        support: 0,
     };
-    turns_of(set, starts, head, method, c, first, read, out)
+    turns_of(set, starts, head, counts, method, c, first, read, out)
 }

@@ -3,19 +3,21 @@ use Prim.Native.Nat.{ℕ, _+_, _≤_, _<_}
 use native.Mathlib.Omega.{arith}
 use mathlib.Core.Path.{_≡_, refl, sym, ap, _∙_}
 use mathlib.Core.Bool.{Bool}
-use mathlib.Core.Option.{none, some, Option·some-injective, Option·none-ne-some}
-use mathlib.Core.List.{List}
+use mathlib.Core.Option.{Option, none, some, Option·some-injective, Option·none-ne-some}
+use mathlib.Core.List.{List, [], _∷_}
 use lib.ListN.{length, take}
 use Rattle.rules.specs.Letters.{Kmer}
+use Rattle.rules.specs.Set.{KmerSet}
 use Rattle.rules.specs.Counted.{Try, after}
 use Rattle.rules.specs.Scan.{alternative}
 use Rattle.rules.specs.Exist.{Scenario, kept, choose, exist}
 use Rattle.rules.specs.Exist as rules
+use Rattle.rules.specs.Driver.{weaker, weakest}
 use Rattle.scan.specs.Attempt.{Attempted}
 use Rattle.scan.proofs.Laws.{alternative-four}
 use Rattle.scan.specs.declared.Attempt.the-variants.{Mend as Mended, Refused, Full}
 use Rattle.scenario.specs.declared.Mend.{Mend}
-use Rattle.scenario.specs.Scenario.{spelledOut}
+use Rattle.scenario.specs.Scenario.{ofCode, spelledOut}
 use Rattle.scenario.proofs.Trials.{refused-bind, given-bind}
 use Rattle.trials.specs.declared.Scenarii.{Scenarii}
 use Rattle.trials.specs.Trials.{mendsOf, KeptIs}
@@ -31,7 +33,7 @@ module _ (k : ℕ) (sol : ℕ → Bool) (c : ℕ) (s : List ℕ) (scs : Kmer →
   unfolding exist after
   exist-none e f = ap (after made) (refused-bind _ (λ i. record { answer = e i; lookups = sym f i }))
 
-  module _ (low : 1 ≤ k) {x : Kmer} (a : alternative k sol y .answer ≡ some x) (r : Scenarii) (q : KeptIs (kept k sol c s (scs x s)) r) where
+  module _ (low : 1 ≤ k) {x : Kmer} (a : alternative k sol y .answer ≡ some x) {set : KmerSet} (r : Scenarii) (q : KeptIs set (kept k sol c s (scs x s)) r) where
     chosen : attempt ≡ after made (after 4 (after (r .lookups) (choose k sol c s y (mendsOf r))))
     unfolding exist
     chosen =
@@ -48,12 +50,12 @@ module _ (k : ℕ) (sol : ℕ → Bool) (c : ℕ) (s : List ℕ) (scs : Kmer →
 
 -- ---- what is answered of the attempt t
 
-module _ {index : ℕ} {out : List ℕ} {t : Try rules.Mend} where
-  pub refused : {l : ℕ} → t .answer ≡ none → t .lookups ≡ l → Attempted index out out t (Refused l)
+module _ {count : Kmer → ℕ} {index : ℕ} {out : List ℕ} {t : Try rules.Mend} where
+  pub refused : {l : ℕ} → t .answer ≡ none → t .lookups ≡ l → Attempted count index out out t (Refused l)
   refused e p = record { is = (e, p); room = refl }
 
   module _ (m : Mend) (e : t .answer ≡ some (spelledOut m)) where
-    pub full : length out < m .letters → Attempted index out out t Full
+    pub full : length out < m .letters → Attempted count index out out t Full
     full h =
         record {
           is = (
@@ -65,10 +67,20 @@ module _ {index : ℕ} {out : List ℕ} {t : Try rules.Mend} where
           room = refl;
         }
 
-    pub mended : {out′ : List ℕ} {l : ℕ} → t .lookups ≡ l → m .letters ≤ length out → take (m .letters) out′ ≡ spelledOut m .letters
-        → length out′ ≡ length out → Attempted index out out′ t (Mended (m .letters) (m .resume) l)
-    mended p h w n =
+    -- it rests on its tried k-mer alone
+    pub mended : {out′ : List ℕ} {l v : ℕ} → t .lookups ≡ l → m .letters ≤ length out → take (m .letters) out′ ≡ spelledOut m .letters
+        → length out′ ≡ length out → count (ofCode (m .tried)) ≡ v → Attempted count index out out′ t (Mended (m .letters) (m .resume) l v)
+    unfolding weakest weaker
+    mended p h w n q =
         record {
-          is = (e ∙ ap (λ (ls : List ℕ). some (record { letters = ls; resume = m .resume })) (sym w), omega arith, p);
+          is = (
+            record {
+              on = ofCode (m .tried) ∷ [];
+              is = e ∙ ap (λ (ls : List ℕ). some (record { letters = ls; resume = m .resume; on = ofCode (m .tried) ∷ [] })) (sym w);
+              weakest-is = ap {B = Option ℕ} some q;
+              written = omega arith;
+            },
+            p,
+          );
           room = n;
         }

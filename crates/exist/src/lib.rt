@@ -1,8 +1,8 @@
 // Document 01, "Correctors", One and Two: ports src/correct/exist/mod.rs. The choice among the scenarios that trials keep.
 use kmer::Header;
 use kmer::Kmer;
+use scan::Alt;
 use scan::Attempt;
-use scan::Next;
 use scenario::Mend;
 use set::Asked;
 use trials::Scenarii;
@@ -10,12 +10,13 @@ ghost use mathlib.Core.Path.{_≡_};
 ghost use Prim.Native.Nat.{_≤_, _<_, _^_};
 ghost use lib.ListN.{length, take};
 ghost use Rattle.rules.specs.Letters.{inPlace};
-ghost use Rattle.rules.specs.Set.{solid, setOf};
+ghost use Rattle.rules.specs.Set.{solid, setOf, countOf};
 ghost use Rattle.rules.specs.Counted.{after};
 ghost use Rattle.rules.specs.Scan.{errorLen};
 ghost use Rattle.rules.specs.Exist as rules;
 ghost use Rattle.kmer.specs.Kmer.{Shifts, kmerOf, IsKmer, HasLetters};
 ghost use Rattle.set.specs.Ready.{Ready};
+ghost use Rattle.set.specs.Counted.{setWith};
 ghost use Rattle.scan.specs.Attempt.{Attempted};
 ghost use Rattle.scenario.specs.Scenario.{scenarios, spelledOut, Small};
 ghost use Rattle.trials.specs.Trials.{mendsOf, Held};
@@ -98,14 +99,15 @@ fn choose(
     s: &[u8],
     scenarii: Scenarii,
 ) -> Choice
-    requires { ⌜ Ready (now set) (now starts) head × IsKmer (head .k) kmer × (c < 256) × Held scenarii ⌝ }
-    ensures { λ r. ⌜ ChoiceIs (rules.choose (head .k) (solid (setOf (now (set .entry)))) c (now (s .entry)) (kmerOf kmer) (mendsOf scenarii)) r ⌝ }
+    requires { ⌜ Ready (now set) (now starts) head × IsKmer (head .k) kmer × (c < 256) × Held (setOf (now set)) scenarii ⌝ }
+    ensures { λ r. ⌜ ChoiceIs (setOf (now (set .entry))) (rules.choose (head .k) (solid (setOf (now (set .entry)))) c (now (s .entry)) (kmerOf kmer) (mendsOf scenarii)) r ⌝ }
 {
     let kept = scenarii.kept;
     let count = scenarii.count;
     if count == 1 {
+        let only = kept[0];
         return Choice {
-            pick: Pick::Mend(kept[0]),
+            pick: Pick::Mend(only),
             lookups: 0,
         };
     }
@@ -113,6 +115,8 @@ fn choose(
         code: 0,
         letters: 0,
         resume: 0,
+        tried: 0,
+        place: 0,
     };
     let mut remaining: usize = 0;
     let mut lookups = 0;
@@ -139,10 +143,12 @@ fn choose(
 }
 
 // An attempt by One or by Two at the bad k-mer, s the rest of the read at its bad base; `made` are the lookups before it, of GapSize's scan.
+// It rests on the tried k-mer of the scenario that is used.
 pub fn correct_error(
     set: &[u8],
     starts: &[u32],
     head: Header,
+    counts: &[u32],
     two: bool,
     c: u8,
     made: u64,
@@ -151,11 +157,13 @@ pub fn correct_error(
     out: &mut [u8],
 ) -> Attempt
     requires { ⌜ Ready (now set) (now starts) head × IsKmer (head .k) kmer × (1 ≤ c) × (made < 2 ^ 63) ⌝ }
-    ensures { λ r. ⌜ Attempted (errorLen (head .k) (solid (setOf (now (set .entry)))) (kmerOf kmer) (now (s .entry)) .index) (now (out .entry)) (now (out .exit))
+    ensures { λ r. ⌜ Attempted (countOf (setWith (now (set .entry)) (now (counts .entry))))
+        (errorLen (head .k) (solid (setOf (now (set .entry)))) (kmerOf kmer) (now (s .entry)) .index) (now (out .entry)) (now (out .exit))
         (after made (rules.exist (head .k) (solid (setOf (now (set .entry)))) c (now (s .entry)) (scenarios two (head .k) (solid (setOf (now (set .entry))))) (kmerOf kmer))) r ⌝ }
 {
-    let Next::Kmer(x) = scan::sole_alt(set, starts, head, kmer) else {
-        return Attempt::Refused(made + scan::alt_cost(kmer, head));
+    let Alt::Kmer(x, _) = scan::sole_alt(set, starts, head, kmer) else {
+        let lookups = made + scan::alt_cost(kmer, head);
+        return Attempt::Refused(lookups);
     };
     let confirm = c as usize;
     let scenarii = trials::get_scenarii(set, starts, head, two, confirm, x, s);
@@ -169,5 +177,7 @@ pub fn correct_error(
         return Attempt::Full;
     }
     write(mend, out);
-    Attempt::Mend(mend.letters, mend.resume, lookups)
+    let place = mend.place;
+    let support = support::count_at(counts, place);
+    Attempt::Mend(mend.letters, mend.resume, lookups, support)
 }

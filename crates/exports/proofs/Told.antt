@@ -1,7 +1,9 @@
 -- What a host is told is what the rules say.
 use Prim.Native.Nat.{ℕ, _<_}
 use native.Mathlib.Omega.{arith}
-use mathlib.Core.Path.{_≡_, ap, _∙_, subst}
+use mathlib.Core.Path.{_≡_, refl, ap, _∙_, subst}
+use mathlib.Core.Bool.{Bool, true, false}
+use mir.Val.{boolByte as bit}
 use mathlib.Core.List.{List, [], _∷_}
 use lib.ListN.{length}
 use Rattle.rules.specs.Refusal.{Outcome}
@@ -9,6 +11,7 @@ use Rattle.rules.specs.Set.{KmerSet, opened}
 use Rattle.rules.specs.Job.{Entry}
 use Rattle.rules.specs.Calls.{After}
 use Rattle.rules.specs.Blocks.{Made}
+use Rattle.rules.specs.MakeSet.{SetMade}
 use Rattle.refusal.specs.declared.Refusal.{Refusal}
 use Rattle.refusal.specs.declared.Refusal.the-variants as Refusals
 use Rattle.refusal.specs.Refusal.{refusalOf}
@@ -19,8 +22,8 @@ use Rattle.set.proofs.Opened.{set-count}
 use Rattle.report.specs.declared.Answer.{Answer}
 use Rattle.report.specs.declared.Answer.the-variants as Answers
 use Rattle.report.specs.Answer as Report
-use Rattle.report.specs.Answer.{answerOf}
-use Rattle.exports.specs.Numbers.{numbersOf, refusedNumbers, openNumbers, madeNumbers, Told, Exact, Ceiling, MadeExact}
+use Rattle.report.specs.Answer.{supportTold, answerOf}
+use Rattle.exports.specs.Numbers.{supportNumbers, supportNumber, numbersOf, refusedNumbers, openNumbers, madeNumbers, Told, Exact, Ceiling, MadeExact, SetMadeExact}
 use Rattle.exports.proofs.Laid.{laid-there, laid-length}
 
 -- ---- opening
@@ -42,6 +45,20 @@ told-by {ns} {ms} {old} {new} {r} e t = subst (λ (l : List ℕ). Told l old r n
 pub told-made : (a : Outcome ℕ) {ns old new : List ℕ} {r : ℕ} → ns ≡ madeNumbers a → Told ns old r new → {made : Made} {b : List ℕ}
     → record { answer = a; buffer = b } ≡ made → MadeExact made old r b new
 told-made a n t e = record { told = told-by (n ∙ ap (λ (m : Made). madeNumbers (m .answer)) e) t; buffer = ap (λ (m : Made). m .buffer) e }
+
+pub told-set : (a : Outcome ℕ) {ns old new : List ℕ} {r : ℕ} → ns ≡ madeNumbers a → Told ns old r new → {made : SetMade} {b c : List ℕ}
+    → record { answer = a; blocks = b; counts = c } ≡ made → SetMadeExact made old r b c new
+told-set a n t e = record {
+  told = told-by (n ∙ ap (λ (m : SetMade). madeNumbers (m .answer)) e) t;
+  blocks = ap (λ (m : SetMade). m .blocks) e;
+  counts = ap (λ (m : SetMade). m .counts) e;
+}
+
+-- ---- a support
+
+pub support-told : (supported : Bool) (v : ℕ) → bit supported ∷ supportNumber supported v ∷ [] ≡ supportNumbers (supportTold supported v)
+support-told true v = refl
+support-told false v = refl
 
 -- ---- a call: the code's answer a, told as r and new
 
@@ -65,6 +82,7 @@ number-pos (Refusals.Line line) = omega arith
 number-pos (Refusals.NotRising line) = omega arith
 number-pos Refusals.TooShort = omega arith
 number-pos Refusals.Index = omega arith
+number-pos Refusals.Counts = omega arith
 
 module _ (set : KmerSet) (es : List Entry) (reads : List (List ℕ)) {old new : List ℕ} {r : ℕ} where
   pub told-ceiling : (a : Answer) → Told (numbersOf (answerOf a)) old r new → Report.Ceiling set es reads a → Ceiling set es reads r new

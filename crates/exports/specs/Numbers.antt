@@ -1,6 +1,8 @@
 -- What a host is told: a call's answer as numbers in a lent slice.
 use Prim.Native.Nat.{ℕ, _≤_}
 use mathlib.Core.Path.{_≡_}
+use mathlib.Core.Bool.{Bool, true, false}
+use mathlib.Core.Option.{Option, none, some}
 use mathlib.Core.List.{List, [], _∷_, _++_}
 use lib.ListN.{length, getD, take, drop}
 use Rattle.rules.specs.Refusal.{Refusal, Outcome, accepted, refused}
@@ -11,13 +13,25 @@ use Rattle.rules.specs.Counts.{Demand3}
 use Rattle.rules.specs.Calls.{After}
 use Rattle.rules.specs.Solid.{Solids}
 use Rattle.rules.specs.Blocks.{Made}
+use Rattle.rules.specs.MakeSet.{SetMade}
 use Rattle.blocks.specs.declared.Opened.{Opened}
 use Rattle.blocks.specs.Opened.{Opens}
 
--- A call: the refusal's number (0: accepted), its place, then written, turns, lookups, attempts, accepted, yield. What does not apply is 0.
+-- A support: supported (1 or 0), and the smallest count, 0 where there is none.
+abbrev pub supportNumbers : Option ℕ → List ℕ
+supportNumbers none = 0 ∷ 0 ∷ []
+supportNumbers (some v) = 1 ∷ v ∷ []
+
+abbrev pub supportNumber : Bool → ℕ → ℕ
+supportNumber true v = v
+supportNumber false v = 0
+
+-- A call: the refusal's number (0: accepted), its place, then written, turns, lookups, attempts, accepted, yield, supported, support. What does
+-- not apply is 0.
 unfoldable pub numbersOf : Outcome Report → List ℕ
-numbersOf (accepted r) = 0 ∷ 0 ∷ r .written ∷ r .turns ∷ r .lookups ∷ r .attempts ∷ r .accepted ∷ r .yield ∷ []
-numbersOf (refused r) = r .number ∷ r .place ∷ 0 ∷ 0 ∷ 0 ∷ 0 ∷ 0 ∷ 0 ∷ []
+numbersOf (accepted r) =
+    0 ∷ 0 ∷ r .written ∷ r .turns ∷ r .lookups ∷ r .attempts ∷ r .accepted ∷ r .yield ∷ supportNumbers (r .support)
+numbersOf (refused r) = r .number ∷ r .place ∷ 0 ∷ 0 ∷ 0 ∷ 0 ∷ 0 ∷ 0 ∷ 0 ∷ 0 ∷ []
 
 -- Where a call answers two numbers: of its refusal, number and place.
 abbrev pub refusedNumbers : Refusal → List ℕ
@@ -65,3 +79,9 @@ Ceiling set es reads r new = r ≡ 0 → 5 ≤ length new → Demand3 set es rea
 pub record MadeExact (made : Made) (old : List ℕ) (r : ℕ) (b new : List ℕ) : Type 0 where
   pub told : Told (madeNumbers (made .answer)) old r new
   pub buffer : b ≡ made .buffer
+
+-- The maker of the set file: its numbers, every byte of the lent blocks and every number of the lent list of counts are those of the rules.
+pub record SetMadeExact (made : SetMade) (old : List ℕ) (r : ℕ) (b c new : List ℕ) : Type 0 where
+  pub told : Told (madeNumbers (made .answer)) old r new
+  pub blocks : b ≡ made .blocks
+  pub counts : c ≡ made .counts

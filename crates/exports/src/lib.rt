@@ -19,10 +19,17 @@ ghost use Rattle.refusal.specs.Refusal.{refusalOf};
 ghost use Rattle.report.specs.Answer.{given, answerOf};
 ghost use Rattle.solid.specs.Solid.{countOf};
 ghost use Rattle.lay.specs.Made.{outcomeOf};
-ghost use Rattle.exports.specs.Numbers.{numbersOf, refusedNumbers, openNumbers, OpenNumbers, solidNumbers, madeNumbers, Told, Exact, Ceiling, MadeExact};
+ghost use Rattle.exports.specs.Numbers.{supportNumber, numbersOf, refusedNumbers, openNumbers, OpenNumbers, solidNumbers, madeNumbers, Told, Exact, Ceiling, MadeExact, SetMadeExact};
+
+// The number of a support, 0 where there is none.
+fn support_number(supported: bool, support: u32) -> u64
+    ensures { λ r. ⌜ r ≡ supportNumber supported support ⌝ }
+{
+    if supported { support as u64 } else { 0 }
+}
 
 // The numbers of a call.
-fn numbers_of(answer: Answer) -> [u64; 8]
+fn numbers_of(answer: Answer) -> [u64; 10]
     ensures { λ r. ⌜ r ≡ numbersOf (answerOf answer) ⌝ }
 {
     match answer {
@@ -35,10 +42,14 @@ fn numbers_of(answer: Answer) -> [u64; 8]
             report.attempts,
             report.accepted,
             report.yield_,
+            report.supported as u64,
+            support_number(report.supported, report.support),
         ],
         Answer::Refused(refusal) => [
             refusal::number_of(refusal),
             refusal::place_of(refusal),
+            0,
+            0,
             0,
             0,
             0,
@@ -125,6 +136,7 @@ pub extern "C" fn corrector_open(set: &[u8], answer: &mut [u64]) -> u64
 pub extern "C" fn corrector_read(
     set: &[u8],
     index: &[u8],
+    counts: &[u32],
     job: &[u8],
     read: &[u8],
     output: &mut [u8],
@@ -132,13 +144,13 @@ pub extern "C" fn corrector_read(
     answer: &mut [u64],
 ) -> u64
     ensures exact { λ r. ⌜
-        Exact (correctRead (given (now (set .entry)) (now (index .entry)) (now (job .entry)) (now (read .entry)) (now (output .entry)) (now (work .entry))))
+        Exact (correctRead (given (now (set .entry)) (now (index .entry)) (now (counts .entry)) (now (job .entry)) (now (read .entry)) (now (output .entry)) (now (work .entry))))
         (now (answer .entry)) r (now (output .exit)) (now (work .exit)) (now (answer .exit)) ⌝ }
     ensures ceiling { λ r. ⌜
-        Ceiling (offering (now (index .entry)) (setOf (now (set .entry)))) (entriesOf (now (job .entry))) (now (read .entry) ∷ []) r (now (answer .exit)) ⌝ }
+        Ceiling (offering (now (index .entry)) (now (counts .entry)) (setOf (now (set .entry)))) (entriesOf (now (job .entry))) (now (read .entry) ∷ []) r (now (answer .exit)) ⌝ }
 {
     tell_answer(
-        job::correct_read(set, index, job, read, output, work),
+        job::correct_read(set, index, counts, job, read, output, work),
         answer,
     )
 }
@@ -148,6 +160,7 @@ pub extern "C" fn corrector_read(
 pub extern "C" fn corrector_batch(
     set: &[u8],
     index: &[u8],
+    counts: &[u32],
     job: &[u8],
     batch: &[u8],
     output: &mut [u8],
@@ -155,13 +168,13 @@ pub extern "C" fn corrector_batch(
     answer: &mut [u64],
 ) -> u64
     ensures exact { λ r. ⌜
-        Exact (correctBatch (given (now (set .entry)) (now (index .entry)) (now (job .entry)) (now (batch .entry)) (now (output .entry)) (now (work .entry))))
+        Exact (correctBatch (given (now (set .entry)) (now (index .entry)) (now (counts .entry)) (now (job .entry)) (now (batch .entry)) (now (output .entry)) (now (work .entry))))
         (now (answer .entry)) r (now (output .exit)) (now (work .exit)) (now (answer .exit)) ⌝ }
     ensures ceiling { λ r. ⌜
-        Ceiling (offering (now (index .entry)) (setOf (now (set .entry)))) (entriesOf (now (job .entry))) (lines (now (batch .entry))) r (now (answer .exit)) ⌝ }
+        Ceiling (offering (now (index .entry)) (now (counts .entry)) (setOf (now (set .entry)))) (entriesOf (now (job .entry))) (lines (now (batch .entry))) r (now (answer .exit)) ⌝ }
 {
     tell_answer(
-        job::correct_batch(set, index, job, batch, output, work),
+        job::correct_batch(set, index, counts, job, batch, output, work),
         answer,
     )
 }
@@ -175,18 +188,21 @@ pub extern "C" fn corrector_count_solid(set: &[u8], read: &[u8], answer: &mut [u
     tell(&numbers, answer)
 }
 
-// The set file made from k-mer counts as text. Refusals 9 and 12 to 14, which leave the blocks as they are.
+// The set file and the list of its keys' counts made from k-mer counts as text. Refusals 9 and 12 to 14, which leave blocks and counts as they are.
 #[no_mangle]
 pub extern "C" fn corrector_make_set(
     text: &[u8],
     k: u64,
     least: u64,
     blocks: &mut [u8],
+    counts: &mut [u32],
     answer: &mut [u64],
 ) -> u64
-    ensures { λ r. ⌜ MadeExact (makeSet (now (text .entry)) k least (now (blocks .entry))) (now (answer .entry)) r (now (blocks .exit)) (now (answer .exit)) ⌝ }
+    ensures { λ r. ⌜
+        SetMadeExact (makeSet (now (text .entry)) k least (now (blocks .entry)) (now (counts .entry)))
+        (now (answer .entry)) r (now (blocks .exit)) (now (counts .exit)) (now (answer .exit)) ⌝ }
 {
-    let numbers = made_numbers(make_set::make_set(text, k, least, blocks));
+    let numbers = made_numbers(make_set::make_set(text, k, least, blocks, counts));
     tell(&numbers, answer)
 }
 

@@ -1,5 +1,5 @@
--- A gap move by move, and its k-mers found again from its letters.
-use Prim.Native.Nat.{ℕ, zero, suc, _+_, _*_, _-_, _^_, _≤_, _<_}
+-- A gap move by move, its k-mers found again from its letters, and its smallest count.
+use Prim.Native.Nat.{ℕ, zero, suc, _+_, _*_, _-_, _^_, _≤_, _<_, min}
 use native.Mathlib.Omega.{arith}
 use native.Mathlib.Nat.{sub-zero}
 use native.Mathlib.Numerals.{add-one}
@@ -16,6 +16,7 @@ use Rattle.rules.specs.Scan.{ask, sole, alternative}
 use Rattle.rules.specs.Exist.{Mend}
 use Rattle.rules.specs.Graph.{end, also, end-distinct, also-distinct, spell}
 use Rattle.rules.specs.GapSize.{gap, gapFrom}
+use Rattle.rules.specs.Driver.{weakest}
 use Rattle.rules.proofs.Kmer.{Known, last-one}
 use Rattle.rules.proofs.Counted.{bind-some as given-by}
 use Rattle.rules.proofs.Scan.{sole-is}
@@ -25,7 +26,8 @@ use Rattle.kmer.specs.declared.Header.{Header}
 use Rattle.set.specs.Ready.{Ready}
 use Rattle.set.proofs.Opened.{opened-n-le, set-count}
 use Rattle.scan.proofs.Laws.{known-four, alternative-four}
-use Rattle.graph.proofs.Laws.{bind-none, bind-some}
+use Rattle.scan.specs.Attempt.{MendIs}
+use Rattle.graph.proofs.Laws.{spell-snoc, length-spell, weakest-one, weakest-snoc, bind-none, bind-some}
 use Rattle.passed.specs.Passed.{onward, passed}
 use Rattle.gap_size.specs.Gap.{gapMend}
 
@@ -40,11 +42,6 @@ addAll-snoc : (k : ℕ) (y : Kmer) (bs : List ℕ) (b : ℕ) → addAll k y (bs 
 unfolding addAll
 addAll-snoc k y [] b = refl
 addAll-snoc k y (a ∷ bs) b = addAll-snoc k (addBase k y a) bs b
-
-spell-snoc : (ys : List Kmer) (z : Kmer) → spell (ys ++ (z ∷ [])) ≡ spell ys ++ (lastLetter z ∷ [])
-unfolding spell
-spell-snoc [] z = refl
-spell-snoc (y ∷ ys) z = ap (λ (l : List ℕ). lastLetter y ∷ l) (spell-snoc ys z)
 
 -- one letter more
 slice-more : (out : List ℕ) (i a : ℕ) → i + 1 < length out → slice 1 (i + 1 + 1) (set out (i + 1) a) ≡ slice 1 (i + 1) out ++ (a ∷ [])
@@ -62,29 +59,32 @@ letter-back (suc j) sol y z l e =
 
 -- ---- a gap
 
--- what a gap of m moves from x still does after i of them, their letters in out
-pub record Filling (k : ℕ) (sol : ℕ → Bool) (m : ℕ) (x at : Kmer) (i : ℕ) (out : List ℕ) : Type 0 where
+-- what a gap of m moves from x still does after i of them, their letters in out, w the smallest count so far
+pub record Filling (k : ℕ) (sol : ℕ → Bool) (count : Kmer → ℕ) (m : ℕ) (x at : Kmer) (i w : ℕ) (out : List ℕ) : Type 0 where
   pub rest : gap k sol m (x ∷ []) x 0 ≡ gap k sol (m - i) (passed k x i out) at (4 * i)
   pub spelled : spell (passed k x i out) ≡ take (i + 1) out
   pub ends : addAll k x (slice 1 (i + 1) out) ≡ at
+  pub weakest-is : weakest count (passed k x i out) ≡ some w
 
 pub passed-none : (k : ℕ) (x : Kmer) (out : List ℕ) → passed k x 0 out ≡ x ∷ []
 unfolding onward
 passed-none k x out = rw (slice-empty 1 out)
 
-pub filling-start : (k : ℕ) (sol : ℕ → Bool) (m : ℕ) (x : Kmer) (out : List ℕ) → 0 < length out → Filling k sol m x x 0 (set out 0 (lastLetter x))
+pub filling-start : (k : ℕ) (sol : ℕ → Bool) (count : Kmer → ℕ) (m : ℕ) (x : Kmer) (out : List ℕ) → 0 < length out
+    → Filling k sol count m x x 0 (count x) (set out 0 (lastLetter x))
 unfolding onward addAll spell
-filling-start k sol m x out l =
+filling-start k sol count m x out l =
     let e = slice-empty 1 (set out 0 (lastLetter x)) in
     record {
       rest = rw (e, sub-zero);
       spelled = rw (e, take-suc-set out 0 (lastLetter x) l);
       ends = rw e;
+      weakest-is = ap (weakest count) (passed-none k x (set out 0 (lastLetter x))) ∙ weakest-one count x;
     }
 
 -- the k-mer at which it stands has no unknown letter
-module _ {k : ℕ} {sol : ℕ → Bool} {m : ℕ} {x at : Kmer} {i : ℕ} {out : List ℕ} (low : 1 ≤ k) (known : Known at)
-    (f : Filling k sol m x at i out) (lt : i < m) where
+module _ {k : ℕ} {sol : ℕ → Bool} {count : Kmer → ℕ} {m : ℕ} {x at : Kmer} {i w : ℕ} {out : List ℕ} (low : 1 ≤ k) (known : Known at)
+    (f : Filling k sol count m x at i w out) (lt : i < m) where
   one-move : m - i ≡ suc (m - (i + 1))
   one-move = omega arith
 
@@ -110,7 +110,7 @@ module _ {k : ℕ} {sol : ℕ → Bool} {m : ℕ} {x at : Kmer} {i : ℕ} {out :
       pub passed-more : passed k x (i + 1) (set out (i + 1) (lastLetter z)) ≡ passed k x i out ++ (z ∷ [])
       passed-more = rw (slice-more out i (lastLetter z) room, onward-snoc, back)
 
-      pub gap-goes : met z (passed k x i out) ≡ false → Filling k sol m x z (i + 1) (set out (i + 1) (lastLetter z))
+      pub gap-goes : met z (passed k x i out) ≡ false → Filling k sol count m x z (i + 1) (min w (count z)) (set out (i + 1) (lastLetter z))
       unfolding gap
       gap-goes h =
           let l : 4 * (i + 1) ≡ 4 * i + 4 = omega arith in
@@ -118,6 +118,7 @@ module _ {k : ℕ} {sol : ℕ → Bool} {m : ℕ} {x at : Kmer} {i : ℕ} {out :
             rest = f .rest ∙ rw (one-move, gap, e, h, four, passed-more, l);
             spelled = ap spell passed-more ∙ spell-snoc (passed k x i out) z ∙ rw (f .spelled, add-one (i + 1), take-suc-set out (i + 1) (lastLetter z) room);
             ends = rw (slice-more out i (lastLetter z) room) (addAll-snoc k x (slice 1 (i + 1) out) (lastLetter z) ∙ back);
+            weakest-is = ap (weakest count) passed-more ∙ weakest-snoc count (passed k x i out) z w (f .weakest-is);
           }
 
 -- ---- what it costs
@@ -156,9 +157,9 @@ gap-bound {bytes} {starts} {head} r m x lt lit =
           (also-distinct refl end-distinct) (also g end),
     ))
 
-pub gap-room : {k : ℕ} {sol : ℕ → Bool} {m : ℕ} {x at : Kmer} {i : ℕ} {out : List ℕ} → Filling k sol m x at i out
+pub gap-room : {k : ℕ} {sol : ℕ → Bool} {count : Kmer → ℕ} {m : ℕ} {x at : Kmer} {i w : ℕ} {out : List ℕ} → Filling k sol count m x at i w out
     → gap k sol m (x ∷ []) x 0 .lookups ≤ 8 * maxKeys → 4 * i ≤ 8 * maxKeys
-gap-room {k} {sol} {m} {x} {at} {i} {out} f h =
+gap-room {k} {sol} {count} {m} {x} {at} {i} {w} {out} f h =
     omega (arith, ap (λ (t : Try (List Kmer)). t .lookups) (f .rest), gap-least k sol (m - i) (passed k x i out) at (4 * i))
 
 -- ---- the attempt that a gap makes, l lookups having been made before it
@@ -172,27 +173,26 @@ module _ (k : ℕ) (sol : ℕ → Bool) (m : ℕ) (x : Kmer) (l : ℕ) where
   unfolding after gapMend _>>=_ next refuse
   gap-refused i l′ e q = (rw (e, gapMend), rw (e, gapMend) (omega arith))
 
-  pub gap-mends : {at : Kmer} {i : ℕ} {out : List ℕ} → Filling k sol m x at i out → m ≤ i → i ≤ m → m < length out → (l′ : ℕ) → l′ ≡ l + 4 * i
-      → (tried .answer ≡ some (record { letters = take (m + 1) out; resume = m + 1 })) × (m + 1 ≤ length out) × (tried .lookups ≡ l′)
+  pub gap-mends : {count : Kmer → ℕ} {at : Kmer} {i w : ℕ} {out : List ℕ} → Filling k sol count m x at i w out → m ≤ i → i ≤ m → m < length out
+      → (l′ : ℕ) → l′ ≡ l + 4 * i → MendIs count out (tried .answer) (m + 1) (m + 1) w × (tried .lookups ≡ l′)
   unfolding after gapMend _>>=_ next give gap
-  gap-mends {at} {i} {out} f le ge room l′ q =
+  gap-mends {count} {at} {i} {w} {out} f le ge room l′ q =
       let none-left : m - i ≡ 0 = omega arith in
       let all : i ≡ m = omega arith in
-      let w : gap k sol m (x ∷ []) x 0 ≡ record { answer = some (passed k x i out); lookups = 4 * i } = f .rest ∙ rw none-left in
-      let count : length (passed k x i out) ≡ m + 1 =
-      gap-any k sol m (x ∷ []) x 0 .1 (passed k x i out) (ap (λ (t : Try (List Kmer)). t .answer) w) ∙ omega arith in
+      let v : gap k sol m (x ∷ []) x 0 ≡ record { answer = some (passed k x i out); lookups = 4 * i } = f .rest ∙ rw none-left in
+      let many : length (passed k x i out) ≡ m + 1 =
+      gap-any k sol m (x ∷ []) x 0 .1 (passed k x i out) (ap (λ (t : Try (List Kmer)). t .answer) v) ∙ omega arith in
       let letters : spell (passed k x i out) ≡ take (m + 1) out = f .spelled ∙ ap (λ (n : ℕ). take (n + 1) out) all in (
-        rw (w, gapMend) (λ j. some (record { letters = letters j; resume = count j })),
-        omega arith,
-        rw (w, gapMend) (omega arith),
+        record {
+          on = passed k x i out;
+          is = rw (v, gapMend) (λ j. some (record { letters = letters j; resume = many j; on = passed k x i out }));
+          weakest-is = f .weakest-is;
+          written = omega arith;
+        },
+        rw (v, gapMend) (omega arith),
       )
 
 -- ---- from the bad k-mer to x
-
-length-spell : (ys : List Kmer) → length (spell ys) ≡ length ys
-unfolding spell
-length-spell [] = refl
-length-spell (y ∷ ys) = ap suc (length-spell ys)
 
 module _ (k : ℕ) (sol : ℕ → Bool) (m : ℕ) (y : Kmer) (l : ℕ) where
   -- m + 1 letters

@@ -1,42 +1,48 @@
-// Document 01, "GapSize": ports src/correct/gap_size.rs.
+// Document 01, "GapSize": ports src/correct/gap_size.rs. Document 02, W8: the smallest count of the k-mers from x on.
 use kmer::Header;
 use kmer::Kmer;
+use scan::Alt;
 use scan::Attempt;
-use scan::Next;
 use scan::Scan;
 use scan::Sole;
 ghost use Prim.Native.Nat.{_-_, _^_, _≤_, _<_};
 ghost use lib.ListN.{length};
-ghost use Rattle.rules.specs.Set.{solid, setOf};
+ghost use Rattle.rules.specs.Set.{solid, setOf, countOf};
 ghost use Rattle.rules.specs.Counted.{after};
 ghost use Rattle.rules.specs.Scan.{errorLen};
 ghost use Rattle.rules.specs.GapSize.{gapFrom, gapSize};
 ghost use Rattle.kmer.specs.Kmer.{kmerOf, IsKmer};
 ghost use Rattle.set.specs.Ready.{Ready};
+ghost use Rattle.set.specs.Counted.{setWith};
 ghost use Rattle.scan.specs.Attempt.{Attempted};
 ghost use Rattle.gap_size.specs.Gap.{Fillable, GapIs};
 
-// The moves of a gap from x, after all lookups up to x.
+// The moves of a gap from x, which has that count, after all lookups up to x.
 fn fill(
     set: &[u8],
     starts: &[u32],
     head: Header,
+    counts: &[u32],
     scan: Scan,
     x: Kmer,
+    count: u32,
     filter: &mut [u64],
     out: &mut [u8],
 ) -> Attempt
-    requires { ⌜ Fillable (now set) (now starts) head scan x (now out) × (0 < length (now filter)) ⌝ }
-    ensures { λ r. ⌜ GapIs (now (set .entry)) head scan x (now (out .entry)) (now (out .exit)) r ⌝ }
+    requires { ⌜ Fillable (now set) (now starts) head (now counts) scan x count (now out) × (0 < length (now filter)) ⌝ }
+    ensures { λ r. ⌜ GapIs (now (set .entry)) head (now (counts .entry)) scan x (now (out .entry)) (now (out .exit)) r ⌝ }
 {
     let mut lookups = scan.lookups + 4;
     graph::write_last(out, 0, x);
     let mut before = passed::begin(head, x, filter);
     let mut at = x;
+    let mut weakest = count;
+    let mut places = [0usize; 4];
     let moves = scan.index - head.k;
     for i in 0..moves {
         lookups += 4;
-        let Sole::Nuc(nuc) = scan::sole_nuc(scan::next_nucs(set, starts, head, at)) else {
+        let Sole::Nuc(nuc) = scan::sole_nuc(scan::next_nucs(set, starts, head, at, &mut places))
+        else {
             return Attempt::Refused(lookups);
         };
         let next = kmer::add_nuc_to_end(at, nuc, head);
@@ -45,10 +51,12 @@ fn fill(
             return Attempt::Refused(lookups);
         }
         before = met.maybe;
+        weakest = support::lower(weakest, support::count_at(counts, places[nuc as usize]));
         graph::write_last(out, i + 1, next);
         at = next;
     }
-    Attempt::Mend(moves + 1, moves + 1, lookups)
+    let letters = moves + 1;
+    Attempt::Mend(letters, letters, lookups, weakest)
 }
 
 // The filter goes by the number of moves, a word for two of them where it can, so that a short gap clears little.
@@ -56,66 +64,74 @@ fn fill_short(
     set: &[u8],
     starts: &[u32],
     head: Header,
+    counts: &[u32],
     scan: Scan,
     x: Kmer,
+    count: u32,
     out: &mut [u8],
 ) -> Attempt
-    requires { ⌜ Fillable (now set) (now starts) head scan x (now out) ⌝ }
-    ensures { λ r. ⌜ GapIs (now (set .entry)) head scan x (now (out .entry)) (now (out .exit)) r ⌝ }
+    requires { ⌜ Fillable (now set) (now starts) head (now counts) scan x count (now out) ⌝ }
+    ensures { λ r. ⌜ GapIs (now (set .entry)) head (now (counts .entry)) scan x (now (out .entry)) (now (out .exit)) r ⌝ }
 {
     let mut filter = [0u64; 64];
-    fill(set, starts, head, scan, x, &mut filter, out)
+    fill(set, starts, head, counts, scan, x, count, &mut filter, out)
 }
 
 fn fill_long(
     set: &[u8],
     starts: &[u32],
     head: Header,
+    counts: &[u32],
     scan: Scan,
     x: Kmer,
+    count: u32,
     out: &mut [u8],
 ) -> Attempt
-    requires { ⌜ Fillable (now set) (now starts) head scan x (now out) ⌝ }
-    ensures { λ r. ⌜ GapIs (now (set .entry)) head scan x (now (out .entry)) (now (out .exit)) r ⌝ }
+    requires { ⌜ Fillable (now set) (now starts) head (now counts) scan x count (now out) ⌝ }
+    ensures { λ r. ⌜ GapIs (now (set .entry)) head (now (counts .entry)) scan x (now (out .entry)) (now (out .exit)) r ⌝ }
 {
     let mut filter = [0u64; 4096];
-    fill(set, starts, head, scan, x, &mut filter, out)
+    fill(set, starts, head, counts, scan, x, count, &mut filter, out)
 }
 
 fn fill_longest(
     set: &[u8],
     starts: &[u32],
     head: Header,
+    counts: &[u32],
     scan: Scan,
     x: Kmer,
+    count: u32,
     out: &mut [u8],
 ) -> Attempt
-    requires { ⌜ Fillable (now set) (now starts) head scan x (now out) ⌝ }
-    ensures { λ r. ⌜ GapIs (now (set .entry)) head scan x (now (out .entry)) (now (out .exit)) r ⌝ }
+    requires { ⌜ Fillable (now set) (now starts) head (now counts) scan x count (now out) ⌝ }
+    ensures { λ r. ⌜ GapIs (now (set .entry)) head (now (counts .entry)) scan x (now (out .entry)) (now (out .exit)) r ⌝ }
 {
     let mut filter = [0u64; 131072];
-    fill(set, starts, head, scan, x, &mut filter, out)
+    fill(set, starts, head, counts, scan, x, count, &mut filter, out)
 }
 
 fn fill_by_length(
     set: &[u8],
     starts: &[u32],
     head: Header,
+    counts: &[u32],
     scan: Scan,
     x: Kmer,
+    count: u32,
     out: &mut [u8],
 ) -> Attempt
-    requires { ⌜ Fillable (now set) (now starts) head scan x (now out) ⌝ }
-    ensures { λ r. ⌜ GapIs (now (set .entry)) head scan x (now (out .entry)) (now (out .exit)) r ⌝ }
+    requires { ⌜ Fillable (now set) (now starts) head (now counts) scan x count (now out) ⌝ }
+    ensures { λ r. ⌜ GapIs (now (set .entry)) head (now (counts .entry)) scan x (now (out .entry)) (now (out .exit)) r ⌝ }
 {
     let length = scan.index - head.k;
     if length <= 128 {
-        return fill_short(set, starts, head, scan, x, out);
+        return fill_short(set, starts, head, counts, scan, x, count, out);
     }
     if length <= 8192 {
-        return fill_long(set, starts, head, scan, x, out);
+        return fill_long(set, starts, head, counts, scan, x, count, out);
     }
-    fill_longest(set, starts, head, scan, x, out)
+    fill_longest(set, starts, head, counts, scan, x, count, out)
 }
 
 // Above k, after the scan. Without room for index − k + 1 letters the attempt is Full even if it would be refused, since the bases that
@@ -124,23 +140,34 @@ fn ins_sub_correction(
     set: &[u8],
     starts: &[u32],
     head: Header,
+    counts: &[u32],
     scan: Scan,
     kmer: Kmer,
     out: &mut [u8],
 ) -> Attempt
     requires { ⌜ Ready (now set) (now starts) head × IsKmer (head .k) kmer × (head .k ≤ scan .index) × (scan .lookups < 2 ^ 63) ⌝ }
     ensures { λ r. ⌜
-        Attempted (scan .index) (now (out .entry)) (now (out .exit))
+        Attempted (countOf (setWith (now (set .entry)) (now (counts .entry)))) (scan .index) (now (out .entry)) (now (out .exit))
         (after (scan .lookups) (gapFrom (head .k) (solid (setOf (now (set .entry)))) (scan .index - head .k) (kmerOf kmer)))
         r ⌝ }
 {
     if out.len() <= scan.index - head.k {
         return Attempt::Full;
     }
-    let Next::Kmer(x) = scan::sole_alt(set, starts, head, kmer) else {
-        return Attempt::Refused(scan.lookups + scan::alt_cost(kmer, head));
+    let Alt::Kmer(x, place) = scan::sole_alt(set, starts, head, kmer) else {
+        let lookups = scan.lookups + scan::alt_cost(kmer, head);
+        return Attempt::Refused(lookups);
     };
-    fill_by_length(set, starts, head, scan, x, out)
+    fill_by_length(
+        set,
+        starts,
+        head,
+        counts,
+        scan,
+        x,
+        support::count_at(counts, place),
+        out,
+    )
 }
 
 // kmer is the bad k-mer, s the rest of the read at its bad base. The scan decides, and is made and counted once.
@@ -148,6 +175,7 @@ pub fn correct_error(
     set: &[u8],
     starts: &[u32],
     head: Header,
+    counts: &[u32],
     c: u8,
     kmer: Kmer,
     s: &[u8],
@@ -155,16 +183,28 @@ pub fn correct_error(
 ) -> Attempt
     requires { ⌜ Ready (now set) (now starts) head × IsKmer (head .k) kmer × (1 ≤ length (now s)) × (1 ≤ c) ⌝ }
     ensures { λ r. ⌜
-        Attempted (errorLen (head .k) (solid (setOf (now (set .entry)))) (kmerOf kmer) (now (s .entry)) .index) (now (out .entry)) (now (out .exit))
+        Attempted (countOf (setWith (now (set .entry)) (now (counts .entry))))
+        (errorLen (head .k) (solid (setOf (now (set .entry)))) (kmerOf kmer) (now (s .entry)) .index) (now (out .entry)) (now (out .exit))
         (gapSize (head .k) (head .n) (solid (setOf (now (set .entry)))) c (now (s .entry)) (kmerOf kmer))
         r ⌝ }
 {
     let scan = scan::error_len(set, starts, head, kmer, s);
     if scan.index < head.k {
-        return graph::from_scan(set, starts, head, scan, kmer, out);
+        return graph::from_scan(set, starts, head, counts, scan, kmer, out);
     }
     if scan.index == head.k {
-        return exist::correct_error(set, starts, head, false, c, scan.lookups, kmer, s, out);
+        return exist::correct_error(
+            set,
+            starts,
+            head,
+            counts,
+            false,
+            c,
+            scan.lookups,
+            kmer,
+            s,
+            out,
+        );
     }
-    ins_sub_correction(set, starts, head, scan, kmer, out)
+    ins_sub_correction(set, starts, head, counts, scan, kmer, out)
 }

@@ -1,5 +1,5 @@
--- A walk move by move, its letters in a lent output, and the attempt that it makes.
-use Prim.Native.Nat.{ℕ, suc, _+_, _*_, _-_, _^_, _≤_, _<_}
+-- A walk move by move, its letters in a lent output, its smallest count, and the attempt that it makes.
+use Prim.Native.Nat.{ℕ, suc, _+_, _*_, _-_, _^_, _≤_, _<_, min}
 use native.Mathlib.Omega.{arith}
 use native.Mathlib.Decide.{decLe}
 use native.Mathlib.Nat.{sub-zero}
@@ -7,23 +7,32 @@ use native.Mathlib.Numerals.{add-one}
 use borrow.Author.Tests.{eq-eqb, ne-eqb}
 use mathlib.Core.Path.{_≡_, refl, sym, ap, _∙_, subst}
 use mathlib.Core.Bool.{Bool, true, false}
-use mathlib.Core.Option.{none, some, Option·some-injective, Option·none-ne-some}
+use mathlib.Core.Option.{Option, none, some, Option·some-injective, Option·none-ne-some}
 use mathlib.Core.List.{List, [], _∷_, _++_}
-use lib.ListN.{length, take, drop, set, length-drop, length-append, length-set}
+use lib.ListN.{length, take, drop, getD, set, length-drop, length-append, length-set}
 use lib.Seq.{take-append-le, take-all, take-nil, take-suc-set, set-out}
-use Rattle.rules.specs.Letters.{Kmer, same, lastLetter}
+use Rattle.rules.specs.Letters.{Kmer, add, same, lastLetter}
+use Rattle.rules.specs.Set.{setOf, solid, countOf}
 use Rattle.rules.specs.Counted.{Try, after, refuse, give, next, _>>=_}
 use Rattle.rules.specs.Scan as rules
-use Rattle.rules.specs.Scan.{sole, alternative, errorLen}
+use Rattle.rules.specs.Scan.{only, yesFrom, successors, sole, alternative, errorLen}
 use Rattle.rules.specs.Exist.{Mend}
-use Rattle.rules.specs.Graph.{Walk, start, moved, halt, walk, walkFrom, graphFrom, graph}
+use Rattle.rules.specs.Graph.{spell, Walk, start, moved, halt, walk, walkFrom, graphFrom, graph}
+use Rattle.rules.specs.Driver.{weaker, weakest}
 use Rattle.rules.proofs.Kmer.{Known}
 use Rattle.rules.proofs.Scan.{scan-is}
+use Rattle.rules.proofs.Support.{weakest-append}
+use Rattle.kmer.specs.declared.Kmer.{Kmer as KmerOf}
+use Rattle.kmer.specs.Kmer.{kmerOf, HasLetters}
+use Rattle.set.specs.Counted.{setWith}
+use Rattle.set.proofs.Counted.{with-count}
 use Rattle.scan.specs.declared.Attempt.{Attempt}
 use Rattle.scan.specs.declared.Scan.{Scan}
-use Rattle.scan.specs.Scan.{scanOf}
-use Rattle.scan.specs.Attempt.{Attempted}
-use Rattle.scan.proofs.Laws.{known-four, alternative-four}
+use Rattle.scan.specs.declared.Sole.{Sole}
+use Rattle.scan.specs.declared.Sole.the-variants.{Nuc}
+use Rattle.scan.specs.Scan.{nucOf, placesOf, scanOf}
+use Rattle.scan.specs.Attempt.{MendIs, Attempted}
+use Rattle.scan.proofs.Laws.{known-four, alternative-four, nuc-lt, next-kmer, sole-place}
 use Rattle.graph.specs.Walk.{Holds, walkMend}
 
 -- ---- letters in a lent output
@@ -49,43 +58,77 @@ holds-more letters out a i e h = elim (decLe (length out) i) [ yes l ↦ full l 
         rw (length-set, take-all (length out) (letters ++ (a ∷ [])) (omega (arith, longer)), longer, take-suc-set out i a l)
         (ap (λ (ls : List ℕ). ls ++ (a ∷ [])) (holds-all letters out (omega arith) h ∙ ap (λ (n : ℕ). take n out) e))
 
+-- ---- k-mers in turn
+
+pub spell-snoc : (ys : List Kmer) (z : Kmer) → spell (ys ++ (z ∷ [])) ≡ spell ys ++ (lastLetter z ∷ [])
+unfolding spell
+spell-snoc [] z = refl
+spell-snoc (y ∷ ys) z = ap (λ (l : List ℕ). lastLetter y ∷ l) (spell-snoc ys z)
+
+pub length-spell : (ys : List Kmer) → length (spell ys) ≡ length ys
+unfolding spell
+length-spell [] = refl
+length-spell (y ∷ ys) = ap suc (length-spell ys)
+
+pub weakest-one : (count : Kmer → ℕ) (y : Kmer) → weakest count (y ∷ []) ≡ some (count y)
+unfolding weakest weaker
+weakest-one count y = refl
+
+pub weakest-snoc : (count : Kmer → ℕ) (ys : List Kmer) (z : Kmer) (w : ℕ) → weakest count ys ≡ some w
+    → weakest count (ys ++ (z ∷ [])) ≡ some (min w (count z))
+unfolding weakest weaker
+weakest-snoc count ys z w e = weakest-append count ys (z ∷ []) ∙ ap (λ (o : Option ℕ). weaker o (some (count z))) e
+
+-- The move from y by the code's choice r among the answers f, to y′: the count at its letter's place is that of y′.
+pub move-count : (bytes counts : List ℕ) (k : ℕ) (y : Kmer) {f : List Bool} (r : Sole) → f ≡ successors k (solid (setOf bytes)) y
+    → nucOf r ≡ only (yesFrom 0 f) → (a : ℕ) (y′ : KmerOf) {ps : List ℕ} {c : ℕ} → r ≡ Nuc a → HasLetters k (add k y a) y′
+    → ps ≡ placesOf (setOf bytes) k y → c ≡ getD counts (getD ps a 0) 0 → c ≡ countOf (setWith bytes counts) (kmerOf y′)
+move-count bytes counts k y r found choice-is a y′ {ps} {c} e h ps-is c-is =
+    let sol : ℕ → Bool = solid (setOf bytes) in
+    let p = sole-place (setOf bytes) k y (kmerOf y′) a (next-kmer k sol y r found choice-is a e h .0) (h .is) (nuc-lt k sol y r found choice-is a e) in
+    c-is ∙ ap (λ (l : List ℕ). getD counts (getD l a 0) 0) ps-is ∙ sym (with-count bytes counts (kmerOf y′) _ p)
+
 -- ---- a walk
 
-abbrev pub halted : ℕ → Try (List ℕ)
+abbrev pub halted : ℕ → Try (List Kmer)
 halted l = record { answer = none; lookups = l }
 
--- a walk from x that arrived at t with that many letters, in out, after l lookups
-pub record Arrived (k n : ℕ) (sol : ℕ → Bool) (t x : Kmer) (l many : ℕ) (out : List ℕ) : Type 0 where
-  pub letters : List ℕ
-  pub count : length letters ≡ many
-  pub holds : Holds letters out
-  pub is : walkFrom k n sol t x ≡ record { answer = some letters; lookups = l }
+-- a walk from x that arrived at t with that many letters, in out, after l lookups, w the smallest count of its k-mers
+pub record Arrived (k n : ℕ) (sol : ℕ → Bool) (count : Kmer → ℕ) (t x : Kmer) (l many w : ℕ) (out : List ℕ) : Type 0 where
+  pub seen : List Kmer
+  pub many-are : length seen ≡ many
+  pub holds : Holds (spell seen) out
+  pub weakest-is : weakest count seen ≡ some w
+  pub is : walkFrom k n sol t x ≡ record { answer = some seen; lookups = l }
 
 -- where a walk stands after i moves
-abbrev standing : Kmer → Kmer → ℕ → ℕ → List ℕ → Walk
-standing at mark i marks-at letters =
-    record { at = at; mark = mark; moves = i; marks-at = marks-at; letters = letters; lookups = 4 * i }
+abbrev standing : Kmer → Kmer → ℕ → ℕ → List Kmer → Walk
+standing at mark i marks-at seen =
+    record { at = at; mark = mark; moves = i; marks-at = marks-at; seen = seen; lookups = 4 * i }
 
--- what a walk from x to t still does after i moves, its letters in out
-pub record Going (k n : ℕ) (sol : ℕ → Bool) (t x at mark : Kmer) (i marks-at : ℕ) (out : List ℕ) : Type 0 where
-  pub letters : List ℕ
-  pub count : length letters ≡ i + 1
-  pub holds : Holds letters out
-  pub rest : walkFrom k n sol t x ≡ walk k sol (6 * n - i) t (standing at mark i marks-at letters)
+-- what a walk from x to t still does after i moves, its letters in out, w the smallest count so far
+pub record Going (k n : ℕ) (sol : ℕ → Bool) (count : Kmer → ℕ) (t x at mark : Kmer) (i marks-at w : ℕ) (out : List ℕ) : Type 0 where
+  pub seen : List Kmer
+  pub many-are : length seen ≡ i + 1
+  pub holds : Holds (spell seen) out
+  pub weakest-is : weakest count seen ≡ some w
+  pub rest : walkFrom k n sol t x ≡ walk k sol (6 * n - i) t (standing at mark i marks-at seen)
 
-pub going-start : (k n : ℕ) (sol : ℕ → Bool) (t x : Kmer) (out : List ℕ) → same x t ≡ false → Going k n sol t x x x 0 1 (set out 0 (lastLetter x))
-unfolding walkFrom start
-going-start k n sol t x out e =
+pub going-start : (k n : ℕ) (sol : ℕ → Bool) (count : Kmer → ℕ) (t x : Kmer) (out : List ℕ) → same x t ≡ false
+    → Going k n sol count t x x x 0 1 (count x) (set out 0 (lastLetter x))
+unfolding walkFrom start spell
+going-start k n sol count t x out e =
     record {
-      letters = lastLetter x ∷ [];
-      count = refl;
+      seen = x ∷ [];
+      many-are = refl;
       holds = holds-more [] out (lastLetter x) 0 refl (take-nil (length out));
+      weakest-is = weakest-one count x;
       rest = rw (e, walkFrom, sub-zero);
     }
 
 -- the k-mer that it stands at has no unknown letter
-module _ {k n : ℕ} {sol : ℕ → Bool} {t x at mark : Kmer} {i marks-at : ℕ} {out : List ℕ} (low : 1 ≤ k) (known : Known at)
-    (g : Going k n sol t x at mark i marks-at out) (lt : i < 6 * n) where
+module _ {k n : ℕ} {sol : ℕ → Bool} {count : Kmer → ℕ} {t x at mark : Kmer} {i marks-at w : ℕ} {out : List ℕ} (low : 1 ≤ k) (known : Known at)
+    (g : Going k n sol count t x at mark i marks-at w out) (lt : i < 6 * n) where
   one-move : 6 * n - i ≡ suc (6 * n - (i + 1))
   one-move = omega arith
 
@@ -97,21 +140,25 @@ module _ {k n : ℕ} {sol : ℕ → Bool} {t x at mark : Kmer} {i marks-at : ℕ
   walk-dead e = g .rest ∙ rw (one-move, walk, e, four)
 
   module _ (y : Kmer) (e : sole k sol at .answer ≡ some y) where
-    letters′ : List ℕ
-    letters′ = g .letters ++ (lastLetter y ∷ [])
+    seen′ : List Kmer
+    seen′ = g .seen ++ (y ∷ [])
 
-    count′ : length letters′ ≡ i + 2
-    unfolding letters′
-    count′ = length-append (g .letters) (lastLetter y ∷ []) ∙ omega (arith, g .count)
+    many′ : length seen′ ≡ i + 2
+    unfolding seen′
+    many′ = length-append (g .seen) (y ∷ []) ∙ omega (arith, g .many-are)
 
-    holds′ : Holds letters′ (set out (i + 1) (lastLetter y))
-    unfolding letters′
-    holds′ = holds-more (g .letters) out (lastLetter y) (i + 1) (g .count) (g .holds)
+    holds′ : Holds (spell seen′) (set out (i + 1) (lastLetter y))
+    unfolding seen′
+    holds′ = rw (spell-snoc (g .seen) y) (holds-more (spell (g .seen)) out (lastLetter y) (i + 1) (length-spell (g .seen) ∙ g .many-are) (g .holds))
 
-    pub walk-arrives : same y t ≡ true → Arrived k n sol t x (4 * i + 4) (i + 2) (set out (i + 1) (lastLetter y))
-    unfolding walk letters′
+    weakest′ : weakest count seen′ ≡ some (min w (count y))
+    unfolding seen′
+    weakest′ = weakest-snoc count (g .seen) y w (g .weakest-is)
+
+    pub walk-arrives : same y t ≡ true → Arrived k n sol count t x (4 * i + 4) (i + 2) (min w (count y)) (set out (i + 1) (lastLetter y))
+    unfolding walk seen′
     walk-arrives h =
-        record { letters = letters′; count = count′; holds = holds′; is = g .rest ∙ rw (one-move, walk, e, h, four) }
+        record { seen = seen′; many-are = many′; holds = holds′; weakest-is = weakest′; is = g .rest ∙ rw (one-move, walk, e, h, four) }
 
     module _ (ne : same y t ≡ false) where
       pub walk-meets : same y mark ≡ true → walkFrom k n sol t x ≡ halted (4 * i + 4)
@@ -119,30 +166,34 @@ module _ {k n : ℕ} {sol : ℕ → Bool} {t x at mark : Kmer} {i marks-at : ℕ
       walk-meets h = g .rest ∙ rw (one-move, walk, e, ne, h, four)
 
       module _ (new : same y mark ≡ false) where
-        goes : walkFrom k n sol t x ≡ walk k sol (6 * n - (i + 1)) t (moved (standing at mark i marks-at (g .letters)) y 4)
+        goes : walkFrom k n sol t x ≡ walk k sol (6 * n - (i + 1)) t (moved (standing at mark i marks-at (g .seen)) y 4)
         unfolding walk
         goes = g .rest ∙ rw (one-move, walk, e, ne, new, four)
 
         cost : 4 * (i + 1) ≡ 4 * i + 4
         cost = omega arith
 
-        pub walk-marks : i + 1 ≡ marks-at → Going k n sol t x y y (i + 1) (2 * marks-at) (set out (i + 1) (lastLetter y))
-        unfolding moved letters′
+        pub walk-marks : i + 1 ≡ marks-at
+            → Going k n sol count t x y y (i + 1) (2 * marks-at) (min w (count y)) (set out (i + 1) (lastLetter y))
+        unfolding moved seen′
         walk-marks h =
             record {
-              letters = letters′;
-              count = count′ ∙ omega arith;
+              seen = seen′;
+              many-are = many′ ∙ omega arith;
               holds = holds′;
+              weakest-is = weakest′;
               rest = goes ∙ rw (cost, add-one, eq-eqb (suc i) marks-at (sym (add-one i) ∙ h));
             }
 
-        pub walk-goes : (i + 1 ≡ marks-at → ⊥) → Going k n sol t x y mark (i + 1) marks-at (set out (i + 1) (lastLetter y))
-        unfolding moved letters′
+        pub walk-goes : (i + 1 ≡ marks-at → ⊥)
+            → Going k n sol count t x y mark (i + 1) marks-at (min w (count y)) (set out (i + 1) (lastLetter y))
+        unfolding moved seen′
         walk-goes h =
             record {
-              letters = letters′;
-              count = count′ ∙ omega arith;
+              seen = seen′;
+              many-are = many′ ∙ omega arith;
               holds = holds′;
+              weakest-is = weakest′;
               rest = goes ∙ rw (cost, add-one, ne-eqb (suc i) marks-at (λ q. h (add-one i ∙ q)));
             }
 
@@ -152,8 +203,8 @@ unfolding walkFrom refuse
 walk-stays k n sol t x e = rw (e, walkFrom)
 
 -- the fuel has run out
-pub walk-over : {k n : ℕ} {sol : ℕ → Bool} {t x at mark : Kmer} {i marks-at : ℕ} {out : List ℕ} → Going k n sol t x at mark i marks-at out → 6 * n ≤ i
-    → walkFrom k n sol t x ≡ halted (4 * i)
+pub walk-over : {k n : ℕ} {sol : ℕ → Bool} {count : Kmer → ℕ} {t x at mark : Kmer} {i marks-at w : ℕ} {out : List ℕ}
+    → Going k n sol count t x at mark i marks-at w out → 6 * n ≤ i → walkFrom k n sol t x ≡ halted (4 * i)
 unfolding walk halt
 walk-over {n = n} {i = i} g e =
     let z : 6 * n - i ≡ 0 = omega arith in
@@ -170,24 +221,30 @@ module _ (k n : ℕ) (sol : ℕ → Bool) (sc : rules.Scan) (x : Kmer) (m : ℕ)
   unfolding after walkMend _>>=_ next refuse
   walk-refused l l′ e q = (rw (e, walkMend), rw (e, walkMend) (omega arith))
 
-  module _ {l many : ℕ} {out : List ℕ} (w : Arrived k n sol (sc .end) x l many out) where
+  module _ {count : Kmer → ℕ} {l many w : ℕ} {out : List ℕ} (r : Arrived k n sol count (sc .end) x l many w out) where
     pub walk-mends : (l′ : ℕ) → l′ ≡ m + l → many ≤ length out
-        → (tried .answer ≡ some (record { letters = take many out; resume = sc .index + 1 })) × (many ≤ length out) × (tried .lookups ≡ l′)
+        → MendIs count out (tried .answer) many (sc .index + 1) w × (tried .lookups ≡ l′)
     unfolding after walkMend _>>=_ next give
     walk-mends l′ q h =
-        let c = w .count in (
-          rw (w .is, walkMend, add-one, ← c)
-              (ap (λ (ls : List ℕ). some (record { letters = ls; resume = suc (sc .index) })) (holds-all (w .letters) out (omega arith) (w .holds))),
-          h,
-          rw (w .is, walkMend) (omega arith),
+        let c : length (spell (r .seen)) ≡ many = length-spell (r .seen) ∙ r .many-are in
+        let all : spell (r .seen) ≡ take many out =
+        holds-all (spell (r .seen)) out (omega arith) (r .holds) ∙ ap (λ (i : ℕ). take i out) c in (
+          record {
+            on = r .seen;
+            is = rw (r .is, walkMend, add-one)
+                (ap (λ (ls : List ℕ). some (record { letters = ls; resume = suc (sc .index); on = r .seen })) all);
+            weakest-is = r .weakest-is;
+            written = h;
+          },
+          rw (r .is, walkMend) (omega arith),
         )
 
     pub walk-full : (room : ℕ) → room < many
         → ((d : Mend) → tried .answer ≡ some d → room < length (d .letters)) × (tried .answer ≡ none → room < sc .index)
     unfolding after walkMend _>>=_ next give
     walk-full room h =
-        let a : tried .answer ≡ some (record { letters = w .letters; resume = suc (sc .index) }) = rw (w .is, walkMend) in (
-          λ d b. rw (← (Option·some-injective _ d (sym a ∙ b))) (omega (arith, w .count)),
+        let a : tried .answer ≡ some (record { letters = spell (r .seen); resume = suc (sc .index); on = r .seen }) = rw (r .is, walkMend) in (
+          λ d b. rw (← (Option·some-injective _ d (sym a ∙ b))) (omega (arith, length-spell (r .seen), r .many-are)),
           λ b. absurd (Option·none-ne-some _ (sym b ∙ a)),
         )
 
@@ -233,8 +290,9 @@ pub scan-fits : (k : ℕ) (sol : ℕ → Bool) (y : Kmer) (s : List ℕ) (r : Sc
 scan-fits k sol y s r e h l = let w = scan-within k sol y s r e h in (omega arith, omega arith)
 
 -- Graph is Graph from its scan
-pub graph-scanned : (k n : ℕ) (sol : ℕ → Bool) (s : List ℕ) (y : Kmer) {sc : rules.Scan} {out out′ : List ℕ} {r : Attempt} → sc ≡ errorLen k sol y s
-    → Attempted (sc .index) out out′ (after (sc .lookups) (graphFrom k n sol sc y)) r → Attempted (errorLen k sol y s .index) out out′ (graph k n sol s y) r
+pub graph-scanned : (k n : ℕ) (sol : ℕ → Bool) (s : List ℕ) (y : Kmer) {count : Kmer → ℕ} {sc : rules.Scan} {out out′ : List ℕ} {r : Attempt}
+    → sc ≡ errorLen k sol y s → Attempted count (sc .index) out out′ (after (sc .lookups) (graphFrom k n sol sc y)) r
+    → Attempted count (errorLen k sol y s .index) out out′ (graph k n sol s y) r
 unfolding graph
-graph-scanned k n sol s y {sc} {out} {out′} {r} e h =
-    subst (λ (sc′ : rules.Scan). Attempted (sc′ .index) out out′ (after (sc′ .lookups) (graphFrom k n sol sc′ y)) r) e h
+graph-scanned k n sol s y {count} {sc} {out} {out′} {r} e h =
+    subst (λ (sc′ : rules.Scan). Attempted count (sc′ .index) out out′ (after (sc′ .lookups) (graphFrom k n sol sc′ y)) r) e h

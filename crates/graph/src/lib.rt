@@ -1,21 +1,22 @@
 // Document 01, "Graph": ports src/correct/graph.rs. The mark takes the place of the source's hash set. Document 02, W6: the source's
-// question whether the current k-mer is solid is not put.
+// question whether the current k-mer is solid is not put; W8: the smallest count of the walk's k-mers.
 use kmer::Header;
 use kmer::Kmer;
+use scan::Alt;
 use scan::Attempt;
-use scan::Next;
 use scan::Scan;
 use scan::Sole;
 ghost use mathlib.Core.Path.{_≡_};
 ghost use Prim.Native.Nat.{_+_, _^_, _≤_, _<_};
 ghost use lib.ListN.{length, set as put};
 ghost use Rattle.rules.specs.Letters.{lastLetter};
-ghost use Rattle.rules.specs.Set.{solid, setOf};
+ghost use Rattle.rules.specs.Set.{solid, setOf, countOf};
 ghost use Rattle.rules.specs.Counted.{after};
 ghost use Rattle.rules.specs.Scan.{errorLen};
 ghost use Rattle.rules.specs.Graph.{graphFrom, graph};
 ghost use Rattle.kmer.specs.Kmer.{kmerOf, IsKmer};
 ghost use Rattle.set.specs.Ready.{Ready};
+ghost use Rattle.set.specs.Counted.{setWith};
 ghost use Rattle.scan.specs.Scan.{scanOf};
 ghost use Rattle.scan.specs.Attempt.{Attempted};
 ghost use Rattle.graph.specs.Walk.{walkMend};
@@ -29,36 +30,53 @@ pub fn write_last(out: &mut [u8], at: usize, kmer: Kmer)
     }
 }
 
-// The walk from x to the last k-mer of the scan, after all lookups up to x. Letters beyond the room are only counted, since the walk may
-// yet be refused.
-fn walk(set: &[u8], starts: &[u32], head: Header, scan: Scan, x: Kmer, out: &mut [u8]) -> Attempt
-    requires { ⌜ Ready (now set) (now starts) head × IsKmer (head .k) x × (x .unknown ≡ 0) × (scan .index < 2 ^ 63) × (scan .lookups < 2 ^ 63) ⌝ }
+// The walk from x, which has that count, to the last k-mer of the scan, after all lookups up to x. Letters beyond the room are only
+// counted, since the walk may yet be refused.
+fn walk(
+    set: &[u8],
+    starts: &[u32],
+    head: Header,
+    counts: &[u32],
+    scan: Scan,
+    x: Kmer,
+    count: u32,
+    out: &mut [u8],
+) -> Attempt
+    requires { ⌜
+        Ready (now set) (now starts) head × IsKmer (head .k) x × (x .unknown ≡ 0) × (scan .index < 2 ^ 63) × (scan .lookups < 2 ^ 63)
+        × (count ≡ countOf (setWith (now set) (now counts)) (kmerOf x)) ⌝ }
     ensures { λ r. ⌜
-        Attempted (scan .index) (now (out .entry)) (now (out .exit))
+        Attempted (countOf (setWith (now (set .entry)) (now (counts .entry)))) (scan .index) (now (out .entry)) (now (out .exit))
         (after (scan .lookups + 4) (walkMend (head .k) (head .n) (solid (setOf (now (set .entry)))) (scanOf scan) (kmerOf x)))
         r ⌝ }
 {
     let end = scan.end;
+    let resume = scan.index + 1;
     let mut lookups = scan.lookups + 4;
     if kmer::same(x, end) {
         return Attempt::Refused(lookups);
     }
     write_last(out, 0, x);
     let mut at = x;
+    let mut weakest = count;
+    let mut places = [0usize; 4];
     let mut mark = x;
     let mut marks_at = 1;
     // It never runs out (the rules' theorem walk-moves).
     let fuel = 6 * head.n;
     for moves in 0..fuel {
         lookups += 4;
-        let Sole::Nuc(nuc) = scan::sole_nuc(scan::next_nucs(set, starts, head, at)) else {
+        let Sole::Nuc(nuc) = scan::sole_nuc(scan::next_nucs(set, starts, head, at, &mut places))
+        else {
             return Attempt::Refused(lookups);
         };
         let next = kmer::add_nuc_to_end(at, nuc, head);
+        weakest = support::lower(weakest, support::count_at(counts, places[nuc as usize]));
         write_last(out, moves + 1, next);
         if kmer::same(next, end) {
-            if moves + 2 <= out.len() {
-                return Attempt::Mend(moves + 2, scan.index + 1, lookups);
+            let letters = moves + 2;
+            if letters <= out.len() {
+                return Attempt::Mend(letters, resume, lookups, weakest);
             }
             return Attempt::Full;
         }
@@ -79,20 +97,31 @@ pub fn from_scan(
     set: &[u8],
     starts: &[u32],
     head: Header,
+    counts: &[u32],
     scan: Scan,
     kmer: Kmer,
     out: &mut [u8],
 ) -> Attempt
     requires { ⌜ Ready (now set) (now starts) head × IsKmer (head .k) kmer × (scan .index < 2 ^ 63) × (scan .lookups < 2 ^ 63) ⌝ }
     ensures { λ r. ⌜
-        Attempted (scan .index) (now (out .entry)) (now (out .exit))
+        Attempted (countOf (setWith (now (set .entry)) (now (counts .entry)))) (scan .index) (now (out .entry)) (now (out .exit))
         (after (scan .lookups) (graphFrom (head .k) (head .n) (solid (setOf (now (set .entry)))) (scanOf scan) (kmerOf kmer)))
         r ⌝ }
 {
-    let Next::Kmer(x) = scan::sole_alt(set, starts, head, kmer) else {
-        return Attempt::Refused(scan.lookups + scan::alt_cost(kmer, head));
+    let Alt::Kmer(x, place) = scan::sole_alt(set, starts, head, kmer) else {
+        let lookups = scan.lookups + scan::alt_cost(kmer, head);
+        return Attempt::Refused(lookups);
     };
-    walk(set, starts, head, scan, x, out)
+    walk(
+        set,
+        starts,
+        head,
+        counts,
+        scan,
+        x,
+        support::count_at(counts, place),
+        out,
+    )
 }
 
 // kmer is the bad k-mer, s the rest of the read at its bad base.
@@ -100,13 +129,15 @@ pub fn correct_error(
     set: &[u8],
     starts: &[u32],
     head: Header,
+    counts: &[u32],
     kmer: Kmer,
     s: &[u8],
     out: &mut [u8],
 ) -> Attempt
     requires { ⌜ Ready (now set) (now starts) head × IsKmer (head .k) kmer × (1 ≤ length (now s)) ⌝ }
     ensures { λ r. ⌜
-        Attempted (errorLen (head .k) (solid (setOf (now (set .entry)))) (kmerOf kmer) (now (s .entry)) .index) (now (out .entry)) (now (out .exit))
+        Attempted (countOf (setWith (now (set .entry)) (now (counts .entry))))
+        (errorLen (head .k) (solid (setOf (now (set .entry)))) (kmerOf kmer) (now (s .entry)) .index) (now (out .entry)) (now (out .exit))
         (graph (head .k) (head .n) (solid (setOf (now (set .entry)))) (now (s .entry)) (kmerOf kmer))
         r ⌝ }
 {
@@ -114,6 +145,7 @@ pub fn correct_error(
         set,
         starts,
         head,
+        counts,
         scan::error_len(set, starts, head, kmer, s),
         kmer,
         out,

@@ -131,11 +131,13 @@ fn in_pair(part: &[u8], skip: usize, key: u64, line: usize, at: usize) -> Found
     requires { ⌜ Lines skip (now part) line (line + 1) × (at < 7) ⌝ }
     ensures { λ r. ⌜ Answers skip (now (part .entry)) key (firstKey line + at) (min (firstKey (line + 1)) (firstKey line + at + 2)) r ⌝ }
 {
-    let next = blocks::word_at(part, 512 + 64 * line + 8 * (at + 1) - skip);
-    let is_first = key == line_key(part, skip, line, at);
+    // The index comes from numbers that are at hand, or else it would be worked out behind a branch for each of the two.
+    let word = 8 * line + at;
+    let next = blocks::word_at(part, 520 + 8 * word - skip);
+    let is_first = key == blocks::word_at(part, 512 + 8 * word - skip);
     let is_second = (key == next) & (at + line % 8 < 13);
     if is_first | is_second {
-        return Found::At(first_key(line) + at + pick(is_second, 1, 0));
+        return Found::At(word + pick(is_second, 1, 0) - line / 8);
     }
     Found::Nothing
 }

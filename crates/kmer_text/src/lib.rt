@@ -1,13 +1,16 @@
-// Document 02, W3: a site's k-mer counts as text. Where a line ends, whether it has the form, whether it is kept, and its canonical code.
+// Document 02, W3 and W8: a site's k-mer counts as text. Where a line ends, whether it has the form, whether it is kept, its canonical code and its
+// count.
 use kmer::Header;
 ghost use mathlib.Core.Path.{_≡_};
 ghost use mathlib.Core.Bool.{true};
-ghost use Prim.Native.Nat.{_≤_, _<_};
+ghost use Prim.Native.Nat.{_≤_, _<_, min};
 ghost use lib.ListN.{length};
 ghost use Rattle.rules.specs.Set.{maxK};
 ghost use Rattle.rules.specs.MakeSet as Rules;
 ghost use Rattle.kmer.specs.Kmer.{Shifts};
 ghost use Rattle.kmer_text.specs.Text.{TextLine};
+
+const MAX_COUNT: u64 = 4294967295;
 
 fn is_letter(b: u8) -> bool
     ensures { λ r. ⌜ r ≡ Rules.isLetter b ⌝ }
@@ -83,13 +86,23 @@ pub fn form_right(line: &[u8], k: usize) -> bool
     line[last] == 10
 }
 
-fn line_count(line: &[u8], k: usize) -> u64
+pub fn line_count(line: &[u8], k: usize) -> u64
     requires { ⌜ (k ≤ maxK) × (Rules.formRight k (now line) ≡ true) ⌝ }
     ensures { λ r. ⌜ r ≡ Rules.lineCount k (now (line .entry)) ⌝ }
 {
     let first = k + 1;
     let last = line.len() - 1;
     number_of(&line[first..last])
+}
+
+// A count as a 32-bit number: larger ones are held at the largest.
+pub fn held(count: u64) -> u32
+    ensures { λ r. ⌜ r ≡ min count Rules.maxCount ⌝ }
+{
+    if MAX_COUNT < count {
+        return MAX_COUNT as u32;
+    }
+    count as u32
 }
 
 // A line whose count is below the least is passed over.

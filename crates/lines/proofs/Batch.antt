@@ -8,11 +8,13 @@ use mathlib.Core.Bool.{true}
 use mathlib.Core.Option.{none, some}
 use mathlib.Core.List.{List, [], _∷_, _++_, append-nil, append-assoc}
 use lib.ListN.{length, take, drop, length-append, length-take, length-drop, drop-of-length-le}
+use lib.Dec.{ltb}
 use lib.Seq.{length-take-le, take-add}
-use Rattle.rules.specs.Set.{KmerSet, setOf}
+use Rattle.rules.specs.Set.{KmerSet, offering}
 use Rattle.rules.specs.Driver as Rules
+use Rattle.rules.specs.Driver.{weaker}
 use Rattle.rules.specs.Job.{Entry, result, entriesOf, lines, linesFrom}
-use Rattle.rules.specs.Counts.{sum, allPasses, turns, lookups, attempts, corrections}
+use Rattle.rules.specs.Counts.{sum, allPasses, turns, lookups, attempts, corrections, supportOver}
 use Rattle.rules.specs.Calls.{Given, maxMethods, maxLines, batchRight, tooLong, results, corrected}
 use Rattle.input.specs.Input.{LineAt}
 use Rattle.correct.specs.declared.Counts.{Counts}
@@ -30,7 +32,10 @@ use Rattle.input.specs.Input.{Within}
 use Rattle.rules.proofs.Job.{entriesOf-length}
 use Rattle.report.proofs.Within.{few-lines}
 use Rattle.report.proofs.Exact.{throughAll, full-exact, fits-exact}
-use Rattle.report.proofs.Calls.{sum-first, too-long-here, too-long-later}
+use Rattle.rules.proofs.Support.{weaker-none, weaker-assoc}
+use Rattle.support.specs.Support.{supportOf}
+use Rattle.set.specs.Counted.{setWith}
+use Rattle.report.proofs.Calls.{sum-first, support-first, too-long-here, too-long-later}
 
 -- What q writes and counts, behind p.
 abbrev pub behind : Rules.Pass → Rules.Pass → Rules.Pass
@@ -41,6 +46,7 @@ behind p q =
       lookups = p .lookups + q .lookups;
       attempts = p .attempts + q .attempts;
       accepted = p .accepted + q .accepted;
+      support = weaker (p .support) (q .support);
     }
 
 behind-assoc : (p q r : Rules.Pass) → behind (behind p q) r ≡ behind p (behind q r)
@@ -50,10 +56,16 @@ behind-assoc p q r = λ i. record {
   lookups = add-assoc (p .lookups) (q .lookups) (r .lookups) i;
   attempts = add-assoc (p .attempts) (q .attempts) (r .attempts) i;
   accepted = add-assoc (p .accepted) (q .accepted) (r .accepted) i;
+  support = weaker-assoc (p .support) (q .support) (r .support) i;
 }
 
+-- s is the support of a and b together.
+abbrev pub Weaker : Counts → Counts → ℕ → Type 0
+Weaker a b s =
+    supportOf (a .accepted + b .accepted) s ≡ weaker (supportOf (a .accepted) (a .support)) (supportOf (b .accepted) (b .support))
+
 abbrev nothing : Counts
-nothing = record { written = 0; turns = 0; lookups = 0; attempts = 0; accepted = 0 }
+nothing = record { written = 0; turns = 0; lookups = 0; attempts = 0; accepted = 0; support = 0 }
 
 module _ (set : KmerSet) (es : List Entry) where
   abbrev ending : List ℕ
@@ -70,16 +82,18 @@ module _ (set : KmerSet) (es : List Entry) where
     lookups = sym (sum-first set es (lookups set) read reads) i;
     attempts = sym (sum-first set es (attempts set) read reads) i;
     accepted = sym (sum-first set es (corrections set) read reads) i;
+    support = sym (support-first set es read reads) i;
   }
 
   all-none : (p : Rules.Pass) → behind p (all []) ≡ p
-  unfolding throughAll results allPasses sum
+  unfolding throughAll results allPasses sum supportOver
   all-none p = λ i. record {
     bytes = append-nil (p .bytes) i;
     turns = add-zero (p .turns) i;
     lookups = add-zero (p .lookups) i;
     attempts = add-zero (p .attempts) i;
     accepted = add-zero (p .accepted) i;
+    support = weaker-none (p .support) i;
   }
 
   -- `line` of the reads are done, and the rest is left; o is the output, which has room for `room` bytes.
@@ -92,6 +106,7 @@ module _ (set : KmerSet) (es : List Entry) where
     pub small : Small (maxMethods * line) (passOf done o)
 
   pub begin : (reads : List (List ℕ)) (o : List ℕ) → Going (length o) reads reads 0 nothing o
+  unfolding supportOf weaker
   begin reads o =
       record {
         lines = zero-add (length reads);
@@ -104,6 +119,7 @@ module _ (set : KmerSet) (es : List Entry) where
           lookups = zero-add (all reads .lookups) i;
           attempts = zero-add (all reads .attempts) i;
           accepted = zero-add (all reads .accepted) i;
+          support = all reads .support;
         };
         small = record { turns = omega arith; lookups = omega arith; attempts = omega arith; accepted = omega arith };
       }
@@ -114,9 +130,9 @@ module _ (set : KmerSet) (es : List Entry) where
     line-full h = g .left ∙ too-long-here set es ending line (room - done .written) read rest (omega (arith, g .length-is))
 
     -- A line more.
-    line-bytes : (r : Counts) → LineIs set es read (done .written) o o′ (Done r) → length o′ ≡ length o
-        → passOf (summed done r) o′ ≡ behind (passOf done o) (lineThrough set es read)
-    line-bytes r h same =
+    line-bytes : (r : Counts) (s : ℕ) → Weaker done r s → LineIs set es read (done .written) o o′ (Done r) → length o′ ≡ length o
+        → passOf (summed done r s) o′ ≡ behind (passOf done o) (lineThrough set es read)
+    line-bytes r s v h same =
         let e = h .0 in
         λ i. record {
           bytes = (take-add (done .written) (r .written) o′ ∙ ap₂ (λ (a b : List ℕ). a ++ b) (h .1) (ap (λ (p : Rules.Pass). p .bytes) e)) i;
@@ -124,13 +140,14 @@ module _ (set : KmerSet) (es : List Entry) where
           lookups = done .lookups + e i .lookups;
           attempts = done .attempts + e i .attempts;
           accepted = done .accepted + e i .accepted;
+          support = (v ∙ ap (λ (p : Rules.Pass). weaker (supportOf (done .accepted) (done .support)) (p .support)) e) i;
         }
 
-    line-done : (r : Counts) → length es ≤ maxMethods
+    line-done : (r : Counts) (s : ℕ) → Weaker done r s → length es ≤ maxMethods
         → LineIs set es read (done .written) o o′ (Done r) → length o′ ≡ length o
-        → Going room reads rest (line + 1) (summed done r) o′
+        → Going room reads rest (line + 1) (summed done r s) o′
     unfolding through
-    line-done r few h same =
+    line-done r s v few h same =
         let w = r .written in
         let bytes : take w (drop (done .written) o′) ≡ result set es read ++ ending = ap (λ (p : Rules.Pass). p .bytes) (h .0) in
         let w-is : w ≡ length (result set es read) + 1 =
@@ -145,7 +162,7 @@ module _ (set : KmerSet) (es : List Entry) where
           written = omega (arith, h .2);
           left = g .left ∙ too-long-later set es ending line (room - done .written) read rest (omega (arith, h .3, g .length-is))
               ∙ ap₂ (λ (i n : ℕ). tooLong set es ending i n rest) (sym (add-one line)) left-is;
-          whole = ap (λ (p : Rules.Pass). behind p (all rest)) (line-bytes r h same)
+          whole = ap (λ (p : Rules.Pass). behind p (all rest)) (line-bytes r s v h same)
               ∙ behind-assoc (passOf done o) (lineThrough set es read) (all rest)
               ∙ ap (behind (passOf done o)) (all-first read rest)
               ∙ g .whole;
@@ -172,7 +189,7 @@ part-length n from l = omega (arith, length-take n (drop from l), length-drop fr
 
 module _ (g : Given) where
   abbrev set : KmerSet
-  set = setOf (g .set)
+  set = setWith (g .set) (g .counts)
 
   abbrev es : List Entry
   es = entriesOf (g .job)
@@ -216,12 +233,12 @@ module _ (g : Given) where
           (line-full set es (length (g .output)) (lines (g .input)) _ _ line done o o′ here is)
           o′ (same ∙ i .length-is) (n .0) (rw same-work at (n .1))
 
-      pub batch-next : (r : Counts) → passed ≡ Done r → checked
-          → going (end + 1) (line + 1) (summed done r) o′
-      batch-next r e k =
+      pub batch-next : (r : Counts) (s : ℕ) → Weaker done r s → passed ≡ Done r → checked
+          → going (end + 1) (line + 1) (summed done r s) o′
+      batch-next r s v e k =
           let is = subst (LineIs set es line-is (done .written) o o′) e h in
           line-done set es (length (g .output)) (lines (g .input)) _ _ line done o o′ here
-          r (omega (arith, entriesOf-length (g .job), k .entries)) is same
+          r s v (omega (arith, entriesOf-length (g .job), k .entries)) is same
 
   module _ (from line : ℕ) (done : Counts) (o : List ℕ) (i : going from line done o) (k : checked) (b : batchRight (g .input) ≡ true) where
     pub batch-countable : Countable done × (line ≤ maxLines)
@@ -242,13 +259,13 @@ module _ (g : Given) where
     batch-small = (i .written, omega (arith, i .small .accepted, batch-countable .1))
 
   pub batch-accepted : (from line : ℕ) (done : Counts) (o w : List ℕ) {r : Answer} {o′ w′ : List ℕ} → going from line done o
-      → length (g .input) ≤ from → length w ≡ length (g .work) → (r ≡ Reported (reportOn done)) × Cleared (done .written) o (length w) o′ w′
+      → length (g .input) ≤ from → length w ≡ length (g .work) → (r ≡ Reported (reportOn (ltb 0 (length (g .counts))) done)) × Cleared (done .written) o (length w) o′ w′
       → exactly r o′ w′
-  unfolding lines linesFrom
+  unfolding lines linesFrom offering
   batch-accepted from line done o w i end same a =
       let over : lines (drop from (g .input)) ≡ [] = ap lines (drop-of-length-le (g .input) end) in
       let last : Going set es (length (g .output)) (lines (g .input)) [] line done o = rw over at i in
-      fits-exact set es (10 ∷ []) g (lines (g .input)) done o
+      fits-exact set es (10 ∷ []) g (lines (g .input)) done (ltb 0 (length (g .counts))) o refl
       (all-fit set es (length (g .output)) (lines (g .input)) line done o last)
       (all-done set es (length (g .output)) (lines (g .input)) line done o last)
       (i .written) (i .length-is) (a .0) (rw same at (a .1))

@@ -6,7 +6,7 @@ use mathlib.Core.Path.{_≡_, ap, _∙_, subst}
 use mathlib.Core.List.{List, [], _∷_, _++_}
 use lib.ListN.{length, take, drop, set, length-append, length-drop}
 use lib.Seq.{length-take-le, take-at, drop-at, take-append-le, take-set-le, take-suc-set, drop-set-add}
-use Rattle.rules.specs.Set.{setOf}
+use Rattle.set.specs.Counted.{setWith}
 use Rattle.rules.specs.Driver as Rules
 use Rattle.rules.specs.Job.{Entry, entriesOf}
 use Rattle.correct.specs.declared.Counts.{Counts}
@@ -26,8 +26,8 @@ module _ (o : List ℕ) (at : ℕ) (h : at < length o) where
   pub lent-length : length lent ≡ room
   lent-length = length-take-le room (drop at o) (omega (arith, length-drop at o))
 
-  module _ (bytes : List ℕ) (job line part w w′ : List ℕ) (passed : Pass)
-      (t : Through (setOf bytes) job line lent part w w′ passed) where
+  module _ (bytes counts : List ℕ) (job line part w w′ : List ℕ) (passed : Pass)
+      (t : Through (setWith bytes counts) job line lent part w w′ passed) where
     abbrev es : List Entry
     es = entriesOf job
 
@@ -46,14 +46,14 @@ module _ (o : List ℕ) (at : ℕ) (h : at < length o) where
         length-append (take at o) (part ++ drop room (drop at o))
         ∙ omega (arith, front, length-append part (drop room (drop at o)), part-length, length-drop room (drop at o), length-drop at o)
 
-    pub line-full : passed ≡ Full → LineIs (setOf bytes) es line at o o₁ Full
+    pub line-full : passed ≡ Full → LineIs (setWith bytes counts) es line at o o₁ Full
     line-full e =
-        let is = subst (ThroughIs (setOf bytes) es line (length lent) part) e (t .is) in
+        let is = subst (ThroughIs (setWith bytes counts) es line (length lent) part) e (t .is) in
         omega (arith, is, lent-length)
 
     module _ (done : Counts) (e : passed ≡ Done done) where
-      is : ThroughIs (setOf bytes) es line (length lent) part (Done done)
-      is = subst (ThroughIs (setOf bytes) es line (length lent) part) e (t .is)
+      is : ThroughIs (setWith bytes counts) es line (length lent) part (Done done)
+      is = subst (ThroughIs (setWith bytes counts) es line (length lent) part) e (t .is)
 
       abbrev n : ℕ
       n = done .written
@@ -76,8 +76,8 @@ module _ (o : List ℕ) (at : ℕ) (h : at < length o) where
           (take-suc-set (part ++ rest) n 10 (omega (arith, length-append part rest, line-within, part-length, length-drop room (drop at o), length-drop at o))
           ∙ ap (λ (l : List ℕ). l ++ (10 ∷ [])) (take-append-le n part rest (is .1)))
 
-      pub line-done : LineIs (setOf bytes) es line at o o₂
-          (Done (record { written = n + 1; turns = done .turns; lookups = done .lookups; attempts = done .attempts; accepted = done .accepted }))
+      pub line-done : LineIs (setWith bytes counts) es line at o o₂
+          (Done (record { written = n + 1; turns = done .turns; lookups = done .lookups; attempts = done .attempts; accepted = done .accepted; support = done .support }))
       line-done =
           let q = is .0 in (
             λ i. record {
@@ -86,6 +86,7 @@ module _ (o : List ℕ) (at : ℕ) (h : at < length o) where
               lookups = q i .lookups;
               attempts = q i .attempts;
               accepted = q i .accepted;
+              support = q i .support;
             },
             take-set-le at o₁ (at + n) 10 (omega arith) ∙ take-at (take at o) (part ++ drop room (drop at o)) at front,
             omega (arith, line-within, same),

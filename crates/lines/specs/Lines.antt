@@ -10,6 +10,7 @@ use Rattle.rules.specs.Calls.{longest}
 use Rattle.correct.specs.declared.Counts.{Counts}
 use Rattle.correct.specs.declared.Pass.{Pass}
 use Rattle.correct.specs.declared.Pass.the-variants.{Done, Full}
+use Rattle.support.specs.Support.{supportOf}
 use Rattle.correct.specs.Pass.{passOf, Small}
 use Rattle.through.specs.Through.{through}
 
@@ -17,7 +18,14 @@ use Rattle.through.specs.Through.{through}
 abbrev pub lineThrough : KmerSet → List Entry → List ℕ → Rules.Pass
 lineThrough set es line =
     let p = through set es line in
-    record { bytes = p .bytes ++ (10 ∷ []); turns = p .turns; lookups = p .lookups; attempts = p .attempts; accepted = p .accepted }
+    record {
+      bytes = p .bytes ++ (10 ∷ []);
+      turns = p .turns;
+      lookups = p .lookups;
+      attempts = p .attempts;
+      accepted = p .accepted;
+      support = p .support;
+    }
 
 -- A line stands behind the first `at` bytes of the output; Full where a pass result and byte 10 are more than what is left.
 abbrev pub LineIs : KmerSet → List Entry → List ℕ → ℕ → List ℕ → List ℕ → Pass → Type 0
@@ -29,15 +37,23 @@ LineIs set es line at o o′ (Done r) =
     × Small (length es) (passOf r (drop at o′))
 LineIs set es line at o o′ Full = length o - at < longest set es line + 1
 
-abbrev pub summed : Counts → Counts → Counts
-summed a b =
+-- Counts added, with a support s.
+abbrev pub summed : Counts → Counts → ℕ → Counts
+summed a b s =
     record {
       written = a .written + b .written;
       turns = a .turns + b .turns;
       lookups = a .lookups + b .lookups;
       attempts = a .attempts + b .attempts;
       accepted = a .accepted + b .accepted;
+      support = s;
     }
+
+-- r is the sum of a and b, its support the weaker of theirs.
+pub record Summed (a b r : Counts) : Type 0 where
+  pub is : r ≡ summed a b (r .support)
+  pub weaker-is : supportOf (a .accepted + b .accepted) (r .support)
+      ≡ Rules.weaker (supportOf (a .accepted) (a .support)) (supportOf (b .accepted) (b .support))
 
 -- Counts that fit their types.
 pub record Countable (n : Counts) : Type 0 where

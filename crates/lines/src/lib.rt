@@ -8,19 +8,20 @@ ghost use mathlib.Core.Bool.{true};
 ghost use mathlib.Core.List.{[], _∷_};
 ghost use Prim.Native.Nat.{_≤_};
 ghost use lib.ListN.{length};
-ghost use Rattle.rules.specs.Set.{setOf};
 ghost use Rattle.rules.specs.Job.{entriesOf, lines};
 ghost use Rattle.rules.specs.Calls.{batchRight, corrected};
 ghost use Rattle.set.specs.Ready.{Ready};
+ghost use Rattle.set.specs.Counted.{setWith};
 ghost use Rattle.input.specs.Input.{Within};
 ghost use Rattle.report.specs.Answer.{Exact, given};
-ghost use Rattle.lines.specs.Lines.{LineIs, summed, Countable};
+ghost use Rattle.lines.specs.Lines.{LineIs, summed, Summed, Countable};
 
 // A line is corrected where it lies, into what is left of the output less 1, and byte 10 put behind it.
 fn correct_line(
     set: &[u8],
     starts: &[u32],
     head: Header,
+    counts: &[u32],
     job: &[u8],
     line: &[u8],
     at: usize,
@@ -32,7 +33,7 @@ fn correct_line(
         × Within (now job) (length (now line)) (length (now output)) (length (now work))
         × (at ≤ length (now output)) ⌝ }
     ensures { λ r. ⌜
-        LineIs (setOf (now (set .entry))) (entriesOf (now (job .entry))) (now (line .entry))
+        LineIs (setWith (now (set .entry)) (now (counts .entry))) (entriesOf (now (job .entry))) (now (line .entry))
         at (now (output .entry)) (now (output .exit)) r ⌝ }
 {
     if output.len() <= at {
@@ -44,6 +45,7 @@ fn correct_line(
         set,
         starts,
         head,
+        counts,
         job,
         line,
         &mut output[at..end],
@@ -60,12 +62,13 @@ fn correct_line(
         lookups: done.lookups,
         attempts: done.attempts,
         accepted: done.accepted,
+        support: done.support,
     })
 }
 
 fn add(a: Counts, b: Counts) -> Counts
-    requires { ⌜ Countable (summed a b) ⌝ }
-    ensures { λ r. ⌜ r ≡ summed a b ⌝ }
+    requires { ⌜ Countable (summed a b 0) ⌝ }
+    ensures { λ r. ⌜ Summed a b r ⌝ }
 {
     Counts {
         written: a.written + b.written,
@@ -73,6 +76,7 @@ fn add(a: Counts, b: Counts) -> Counts
         lookups: a.lookups + b.lookups,
         attempts: a.attempts + b.attempts,
         accepted: a.accepted + b.accepted,
+        support: support::weaker(a.accepted, a.support, b.accepted, b.support),
     }
 }
 
@@ -81,6 +85,7 @@ pub fn correct_lines(
     set: &[u8],
     starts: &[u32],
     head: Header,
+    counts: &[u32],
     job: &[u8],
     batch: &[u8],
     output: &mut [u8],
@@ -91,8 +96,8 @@ pub fn correct_lines(
         × Within (now job) (length (now batch)) (length (now output)) (length (now work))
         × (batchRight (now batch) ≡ true) ⌝ }
     ensures { λ r. ⌜
-        Exact (corrected (setOf (now (set .entry))) (entriesOf (now (job .entry))) (10 ∷ [])
-        (given (now (set .entry)) [] (now (job .entry)) (now (batch .entry)) (now (output .entry)) (now (work .entry)))
+        Exact (corrected (setWith (now (set .entry)) (now (counts .entry))) (entriesOf (now (job .entry))) (10 ∷ [])
+        (given (now (set .entry)) [] (now (counts .entry)) (now (job .entry)) (now (batch .entry)) (now (output .entry)) (now (work .entry)))
         (lines (now (batch .entry))))
         r (now (output .exit)) (now (work .exit)) ⌝ }
 {
@@ -102,6 +107,7 @@ pub fn correct_lines(
         lookups: 0,
         attempts: 0,
         accepted: 0,
+        support: 0,
     };
     let mut line = 0;
     let mut from = 0;
@@ -111,6 +117,7 @@ pub fn correct_lines(
             set,
             starts,
             head,
+            counts,
             job,
             &batch[from..end],
             done.written,
@@ -124,5 +131,5 @@ pub fn correct_lines(
         line += 1;
         from = end + 1;
     }
-    report::accept(done, output, work)
+    report::accept(done, 0 < counts.len(), output, work)
 }

@@ -2,19 +2,19 @@
 use Prim.Native.Nat.{ℕ, _+_, _*_, _-_, _%_, _≤_, _<_}
 use native.Mathlib.Omega.{arith}
 use borrow.Author.Tests.{eq-eqb, ne-eqb, le-leb, lt-leb, leb-true}
-use mathlib.Core.Path.{_≡_}
-use mathlib.Core.Bool.{true, false, and-false}
+use mathlib.Core.Path.{_≡_, sym, _∙_}
+use mathlib.Core.Bool.{Bool, true, false, _&&_, and-false}
 use mathlib.Core.Option.{none, some}
 use mathlib.Core.List.{List, _++_}
 use lib.Dec.{eqb, leb}
 use lib.ListN.{length, replicate}
 use Rattle.rules.specs.Refusal.{Refusal, accepted, refused, Check, _orElse_, unless}
 use Rattle.rules.specs.Set.{maxKeys, kRight}
-use Rattle.rules.specs.Blocks.{blocksFor, unmade}
-use Rattle.rules.specs.MakeSet.{textLines, textKeys, linesCheck, textCheck, setWords, setBlocks, makeSet}
+use Rattle.rules.specs.Blocks.{blocksFor, fits, filled}
+use Rattle.rules.specs.MakeSet.{textLines, textKeys, textCounts, linesCheck, textCheck, setWords, setBlocks, setUnmade, bothLaid, makeSet}
 use Rattle.rules.proofs.Opened.{passed, unless-passed}
 use Rattle.rules.proofs.Blocks.{blocks-length}
-use Rattle.lay.proofs.Laws.{laid-short, laid-fits}
+use Rattle.rules.proofs.MakeSet.{text-counts-length}
 use Rattle.refusal.specs.declared.Refusal.{Refusal as Reason}
 use Rattle.make_set.specs.declared.Judged.{Judged}
 use Rattle.make_set.specs.declared.Judged.the-variants.{Refused}
@@ -50,9 +50,9 @@ module _ (text : List ℕ) (k least : ℕ) where
   unfolding textCheck unless
   at-none e l h = rw (e, l, le-leb (length (textKeys k least text)) maxKeys h)
 
-  module _ (buffer : List ℕ) where
-    pub made-refused : (r : Refusal) → textCheck text k least ≡ some r → record { answer = refused r; buffer = buffer } ≡ makeSet text k least buffer
-    unfolding makeSet unmade
+  module _ (blocks counts : List ℕ) where
+    pub made-refused : (r : Refusal) → textCheck text k least ≡ some r → record { answer = refused r; blocks = blocks; counts = counts } ≡ makeSet text k least blocks counts
+    unfolding makeSet setUnmade
     made-refused r e = rw (e, makeSet)
 
     module _ (n : ℕ) (e : textCheck text k least ≡ none) (n-is : n ≡ length (textKeys k least text)) where
@@ -60,16 +60,41 @@ module _ (text : List ℕ) (k least : ℕ) where
       unfolding setBlocks
       size = rw n-is (blocks-length (setWords k (textKeys k least text)) 0 (1 + blocksFor (length (textKeys k least text))))
 
-      pub made-short : length buffer < 512 * (1 + blocksFor n)
-          → record { answer = refused (record { number = 14; place = 0 }); buffer = buffer } ≡ makeSet text k least buffer
-      unfolding makeSet
-      made-short h = rw (e, makeSet) (laid-short buffer (setBlocks k (textKeys k least text)) _ size h)
+      list-size : length (textCounts k least text) ≡ n
+      list-size = text-counts-length k least text ∙ sym n-is
 
-      pub made-blocks : (after : List ℕ) → 512 * (1 + blocksFor n) ≤ length buffer
-          → after ≡ setBlocks k (textKeys k least text) ++ replicate (length buffer - 512 * (1 + blocksFor n)) 0
-          → record { answer = accepted (512 * (1 + blocksFor n)); buffer = after } ≡ makeSet text k least buffer
-      unfolding makeSet
-      made-blocks after h a = rw (e, makeSet) (laid-fits buffer (setBlocks k (textKeys k least text)) _ size after h a)
+      short : Bool → Type 0
+      short t = (leb (length (setBlocks k (textKeys k least text))) (length blocks) && leb (length (textCounts k least text)) (length counts)) ≡ t
+
+      made-14 : short false → record { answer = refused (record { number = 14; place = 0 }); blocks = blocks; counts = counts } ≡ makeSet text k least blocks counts
+      unfolding makeSet bothLaid setUnmade fits short
+      made-14 s = rw (e, makeSet, s, bothLaid)
+
+      pub blocks-short : length blocks < 512 * (1 + blocksFor n)
+          → record { answer = refused (record { number = 14; place = 0 }); blocks = blocks; counts = counts } ≡ makeSet text k least blocks counts
+      unfolding short
+      blocks-short h = made-14 (rw (lt-leb (length (setBlocks k (textKeys k least text))) (length blocks) (omega (arith, size))))
+
+      pub counts-short : 512 * (1 + blocksFor n) ≤ length blocks → length counts < n
+          → record { answer = refused (record { number = 14; place = 0 }); blocks = blocks; counts = counts } ≡ makeSet text k least blocks counts
+      unfolding short
+      counts-short h l =
+          made-14
+          (rw (
+            le-leb (length (setBlocks k (textKeys k least text))) (length blocks) (omega (arith, size)),
+            lt-leb (length (textCounts k least text)) (length counts) (omega (arith, list-size)),
+          ))
+
+      -- Written by a header whose k is this one.
+      pub made-both : (own : ℕ) → own ≡ k → (after list-after : List ℕ) → 512 * (1 + blocksFor n) ≤ length blocks → n ≤ length counts
+          → after ≡ setBlocks own (textKeys own least text) ++ replicate (length blocks - 512 * (1 + blocksFor n)) 0
+          → list-after ≡ textCounts own least text ++ replicate (length counts - n) 0
+          → record { answer = accepted (512 * (1 + blocksFor n)); blocks = after; counts = list-after } ≡ makeSet text k least blocks counts
+      unfolding makeSet bothLaid fits filled
+      made-both own own-is after list-after h l a c =
+          let s = le-leb (length (setBlocks k (textKeys k least text))) (length blocks) (omega (arith, size)) in
+          let t = le-leb (length (textCounts k least text)) (length counts) (omega (arith, list-size)) in
+          rw (a, c, own-is, ← size, ← list-size, e, makeSet, s, t, bothLaid)
 
 -- ---- k
 

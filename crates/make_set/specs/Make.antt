@@ -1,11 +1,13 @@
--- What judging a text answers, in the rules' terms.
+-- What judging a text and making its set answer, in the rules' terms.
 use Prim.Native.Nat.{ℕ}
 use mathlib.Core.Path.{_≡_}
 use mathlib.Core.Option.{none, some}
 use mathlib.Core.List.{List}
 use lib.ListN.{length}
-use Rattle.rules.specs.MakeSet.{textLines, textKeys, linesCheck}
+use Rattle.rules.specs.MakeSet.{textLines, textKeys, linesCheck, SetMade}
 use Rattle.refusal.specs.Refusal.{refusalOf}
+use Rattle.lay.specs.declared.Made.{Made}
+use Rattle.lay.specs.Made.{outcomeOf}
 use Rattle.make_set.specs.declared.Judged.{Judged}
 use Rattle.make_set.specs.declared.Judged.the-variants as Judgement
 
@@ -17,3 +19,7 @@ JudgedAs text k least (Judgement.Refused r) = linesCheck k least 0 none (textLin
 abbrev pub IsRefused : Judged → Type 0
 IsRefused (Judgement.Kept n) = ⊥
 IsRefused (Judgement.Refused r) = Unit
+
+-- What the call answers, and blocks and counts afterwards.
+abbrev pub setMadeOf : Made → List ℕ → List ℕ → SetMade
+setMadeOf r blocks counts = record { answer = outcomeOf r; blocks = blocks; counts = counts }

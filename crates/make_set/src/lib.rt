@@ -1,5 +1,5 @@
-// Document 02, W3: the set file made from k-mer counts as text. One walk over the lines judges and counts, a second one writes; nothing is
-// written before everything is judged.
+// Document 02, W3 and W8: the set file and the list of its keys' counts made from k-mer counts as text. One walk over the lines judges and counts, a
+// second one writes; nothing is written before everything is judged.
 use kmer::Header;
 use lay::Made;
 use refusal::Refusal;
@@ -7,14 +7,13 @@ ghost use mathlib.Core.Path.{_≡_};
 ghost use mathlib.Core.Option.{none};
 ghost use mathlib.Core.List.{_++_};
 ghost use Prim.Native.Nat.{_+_, _*_, _-_, _≤_};
-ghost use lib.ListN.{length, replicate};
+ghost use lib.ListN.{length, take, drop, replicate};
 ghost use Rattle.rules.specs.Set.{maxKeys};
 ghost use Rattle.rules.specs.Blocks.{blocksFor};
 ghost use Rattle.rules.specs.MakeSet as Rules;
 ghost use Rattle.kmer.specs.Kmer.{Shifts};
 ghost use Rattle.lay.specs.Lay.{Extended};
-ghost use Rattle.lay.specs.Made.{madeOf};
-ghost use Rattle.make_set.specs.Make.{JudgedAs, IsRefused};
+ghost use Rattle.make_set.specs.Make.{JudgedAs, IsRefused, setMadeOf};
 
 const MAX_KEYS: usize = 16777216;
 
@@ -64,42 +63,61 @@ fn refused(judged: Judged) -> Refusal
     }
 }
 
-// The kept lines' codes as the words behind the header's 63. Every line has been judged.
-fn write_keys(text: &[u8], head: Header, least: u64, blocks: &mut [u8])
+// The kept lines' codes as the words behind the header's 63, and their counts. Every line has been judged.
+fn write_lines(text: &[u8], head: Header, least: u64, blocks: &mut [u8], counts: &mut [u32])
     requires { ⌜ Shifts head × (Rules.linesCheck (head .k) least 0 none (Rules.textLines (now text)) ≡ none)
         × (length (Rules.textKeys (head .k) least (now text)) ≤ maxKeys)
-        × (512 * (1 + blocksFor (length (Rules.textKeys (head .k) least (now text)))) ≤ length (now blocks)) ⌝ }
-    ensures { λ _. ⌜ Extended (now (blocks .entry)) 63 (Rules.textKeys (head .k) least (now (text .entry))) (now (blocks .exit)) ⌝ }
+        × (512 * (1 + blocksFor (length (Rules.textKeys (head .k) least (now text)))) ≤ length (now blocks))
+        × (length (Rules.textKeys (head .k) least (now text)) ≤ length (now counts)) ⌝ }
+    ensures { λ _. ⌜ Extended (now (blocks .entry)) 63 (Rules.textKeys (head .k) least (now (text .entry))) (now (blocks .exit))
+        × (now (counts .exit) ≡ Rules.textCounts (head .k) least (now (text .entry))
+        ++ drop (length (Rules.textKeys (head .k) least (now (text .entry)))) (now (counts .entry))) ⌝ }
 {
     let mut at = 0;
     let mut i = 0;
     while at < text.len() {
         let end = kmer_text::line_end(text, at);
-        if kmer_text::is_kept(&text[at..end], head.k, least) {
+        let count = kmer_text::line_count(&text[at..end], head.k);
+        // As `is_kept`, whose count the list needs.
+        if least <= count {
             let key = kmer_text::line_key(&text[at..end], head);
             lay::put(blocks, 63 + i, key);
+            counts[i] = kmer_text::held(count);
             i += 1;
         }
         at = end;
     }
 }
 
-// The blocks of a text that was judged, and zeros behind them.
-fn write(text: &[u8], head: Header, least: u64, n: usize, blocks: &mut [u8])
+// Zeros from `from` to the end.
+fn clear_counts(counts: &mut [u32], from: usize)
+    requires { ⌜ from ≤ length (now counts) ⌝ }
+    ensures { λ _. ⌜ now (counts .exit) ≡ take from (now (counts .entry)) ++ replicate (length (now (counts .entry)) - from) 0 ⌝ }
+{
+    for i in from..counts.len() {
+        counts[i] = 0;
+    }
+}
+
+// The blocks and the counts of a text that was judged, and zeros behind them.
+fn write(text: &[u8], head: Header, least: u64, n: usize, blocks: &mut [u8], counts: &mut [u32])
     requires { ⌜ Shifts head × (Rules.textCheck (now text) (head .k) least ≡ none) × (n ≡ length (Rules.textKeys (head .k) least (now text)))
-        × (512 * (1 + blocksFor n) ≤ length (now blocks)) ⌝ }
-    ensures { λ _. ⌜ now (blocks .exit) ≡ Rules.setBlocks (head .k) (Rules.textKeys (head .k) least (now (text .entry)))
-        ++ replicate (length (now (blocks .entry)) - 512 * (1 + blocksFor n)) 0 ⌝ }
+        × (512 * (1 + blocksFor n) ≤ length (now blocks)) × (n ≤ length (now counts)) ⌝ }
+    ensures { λ _. ⌜ (now (blocks .exit) ≡ Rules.setBlocks (head .k) (Rules.textKeys (head .k) least (now (text .entry)))
+        ++ replicate (length (now (blocks .entry)) - 512 * (1 + blocksFor n)) 0)
+        × (now (counts .exit) ≡ Rules.textCounts (head .k) least (now (text .entry)) ++ replicate (length (now (counts .entry)) - n) 0) ⌝ }
 {
     input::clear(blocks, 0);
     lay::put(blocks, 0, head.k as u64);
     lay::put(blocks, 1, n as u64);
-    write_keys(text, head, least, blocks);
+    write_lines(text, head, least, blocks, counts);
     lay::seal(blocks, 1 + (n + 62) / 63);
+    clear_counts(counts, n);
 }
 
-pub fn make_set(text: &[u8], k: u64, least: u64, blocks: &mut [u8]) -> Made
-    ensures { λ r. ⌜ madeOf r (now (blocks .exit)) ≡ Rules.makeSet (now (text .entry)) k least (now (blocks .entry)) ⌝ }
+pub fn make_set(text: &[u8], k: u64, least: u64, blocks: &mut [u8], counts: &mut [u32]) -> Made
+    ensures { λ r. ⌜ setMadeOf r (now (blocks .exit)) (now (counts .exit))
+        ≡ Rules.makeSet (now (text .entry)) k least (now (blocks .entry)) (now (counts .entry)) ⌝ }
 {
     if k % 2 == 0 {
         return Made::Refused(Refusal::Header);
@@ -116,9 +134,9 @@ pub fn make_set(text: &[u8], k: u64, least: u64, blocks: &mut [u8]) -> Made
         return Made::Refused(Refusal::Header);
     }
     let length = 512 * (1 + (n + 62) / 63);
-    if blocks.len() < length {
+    if blocks.len() < length || counts.len() < n {
         return Made::Refused(Refusal::TooShort);
     }
-    write(text, head, least, n, blocks);
+    write(text, head, least, n, blocks, counts);
     Made::Blocks(length)
 }

@@ -8,14 +8,14 @@ use lib.ListN.{length, take, drop, replicate, length-append, length-replicate}
 use lib.Seq.{take-append-seam}
 use Rattle.rules.specs.Refusal.{Refusal, Check, Outcome, accepted, refused, _orElse_, unless}
 use Rattle.rules.specs.Report as Reports
-use Rattle.rules.specs.Set.{KmerSet, opened}
+use Rattle.rules.specs.Set.{KmerSet, offering, opened}
 use Rattle.rules.specs.Job.{Entry, entriesOf, lines}
 use Rattle.rules.specs.Index.{indexCheck}
-use Rattle.rules.specs.Calls.{Given, withoutIndex, After, unchanged, noRoom, tooLong, results, report, corrected, call, batchRight, givenCheck, correctBatch}
+use Rattle.rules.specs.Calls.{Given, withoutIndex, After, unchanged, noRoom, tooLong, results, report, corrected, countsCheck, call, batchRight, givenCheck, correctBatch}
 use Rattle.rules.specs.Program.{zeros, refusalLine, countsLine, printedFor}
 use Rattle.refusal.specs.declared.Refusal.{Refusal as Refused·by}
 use Rattle.refusal.specs.Refusal.{refusalOf}
-use Rattle.report.proofs.Calls.{corrected-full, corrected-fits, call-refused, call-not-opened, call-index-wrong, call-opened}
+use Rattle.report.proofs.Calls.{corrected-full, corrected-fits, call-refused, call-not-opened, call-index-wrong, call-counts-wrong, call-opened}
 use Rattle.report.specs.declared.Report.{Report}
 use Rattle.report.specs.declared.Answer.{Answer}
 use Rattle.report.specs.declared.Answer.the-variants.{Report as Reported, Refused}
@@ -94,7 +94,11 @@ module _ (n : ℕ) (g : Given) (out : g .output ≡ zeros n) where
           where
             at : (i : Check) → indexCheck set (g .index) ≡ i → Leaves n (call ending reads none g)
             at (some x) i = rw (call-index-wrong ending reads none g set refl o x i) (unchanged-leaves x)
-            at none i = rw (call-opened ending reads none g set refl o i) (corrected-leaves set (entriesOf (g .job)))
+            at none i = on (countsCheck set (g .counts)) refl
+              where
+                on : (d : Check) → countsCheck set (g .counts) ≡ d → Leaves n (call ending reads none g)
+                on (some x) d = rw (call-counts-wrong ending reads none g set refl o i x d) (unchanged-leaves x)
+                on none d = rw (call-opened ending reads none g set refl o i d) (corrected-leaves (offering [] (g .counts) set) (entriesOf (g .job)))
 
   batch-leaves : Leaves n (correctBatch g)
   unfolding correctBatch
@@ -102,9 +106,9 @@ module _ (n : ℕ) (g : Given) (out : g .output ≡ zeros n) where
 
 -- A page that was empty, behind the call: its output, and the zeros that were not lent.
 module _ (set job batch page₀ work : List ℕ) (a : Answer) (o w : List ℕ) (empty : Page [] 0 page₀) (zero-work : work ≡ zeros 65536)
-    (h : Exact (correctBatch (given set [] job batch (take 32768 page₀) work)) a o w) (long : length o ≡ length (take 32768 page₀)) where
+    (h : Exact (correctBatch (given set [] [] job batch (take 32768 page₀) work)) a o w) (long : length o ≡ length (take 32768 page₀)) where
   abbrev g : Given
-  g = given set [] job batch (zeros 32768) (zeros 65536)
+  g = given set [] [] job batch (zeros 32768) (zeros 65536)
 
   abbrev page : List ℕ
   page = o ++ drop 32768 page₀
@@ -116,8 +120,8 @@ module _ (set job batch page₀ work : List ℕ) (a : Answer) (o w : List ℕ) (
   lent = ap (λ (x : List ℕ). o ++ drop 32768 x) (empty .page) ∙ ap (λ (x : List ℕ). o ++ x) (drop-zeros 32768 32896)
 
   exact : Exact (correctBatch g) a o w
-  exact = subst (λ (x : List ℕ). Exact (correctBatch (given set [] job batch x (zeros 65536))) a o w) zero-output
-      (subst (λ (x : List ℕ). Exact (correctBatch (given set [] job batch (take 32768 page₀) x)) a o w) zero-work h)
+  exact = subst (λ (x : List ℕ). Exact (correctBatch (given set [] [] job batch x (zeros 65536))) a o w) zero-output
+      (subst (λ (x : List ℕ). Exact (correctBatch (given set [] [] job batch (take 32768 page₀) x)) a o w) zero-work h)
 
   leaves : Leaves 32768 (correctBatch g)
   leaves = batch-leaves 32768 g refl

@@ -48,7 +48,7 @@ module _ (set job batch : List ℕ) where
   bad true true true e = rw (callOn, e)
 
   good : (a b c : Bool) → (a && (b && (c && eqb (length job % 2) 0))) ≡ true
-      → callWith (Kept a set) (Kept b job) (Kept c batch) ≡ some (given set [] job batch (zeros 32768) (zeros 65536))
+      → callWith (Kept a set) (Kept b job) (Kept c batch) ≡ some (given set [] [] job batch (zeros 32768) (zeros 65536))
   unfolding callOn
   good false b c e = absurd (let z : _≡_ {A = ℕ} 0 1 = cc in omega arith)
   good true false c e = absurd (let z : _≡_ {A = ℕ} 0 1 = cc in omega arith)
@@ -75,6 +75,6 @@ module _ (w : Whole) (set job batch : List ℕ) where
   prints-bad-file e = rw (printed, call-with ∙ bad set job batch s j b e)
 
   pub prints-answer : allTaken w (length set) (length job) (length batch) ≡ true
-      → printedFor (correctBatch (given set [] job batch (zeros 32768) (zeros 65536))) ≡ printed (filesOf w set job batch)
+      → printedFor (correctBatch (given set [] [] job batch (zeros 32768) (zeros 65536))) ≡ printed (filesOf w set job batch)
   unfolding printed
   prints-answer e = rw (printed, call-with ∙ good set job batch s j b e)

@@ -57,18 +57,18 @@ fn all_taken(whole: Whole, set: usize, job: usize, batch: usize) -> bool
 fn call_on(set: &[u8], job: &[u8], batch: &[u8], page: &mut [u8]) -> Answer
     requires { ⌜ Page [] 0 (now page) ⌝ }
     ensures { λ r. ⌜
-        Answered (correctBatch (given (now (set .entry)) [] (now (job .entry)) (now (batch .entry)) (zeros 32768) (zeros 65536)))
+        Answered (correctBatch (given (now (set .entry)) [] [] (now (job .entry)) (now (batch .entry)) (zeros 32768) (zeros 65536)))
         r (now (page .exit)) ⌝ }
 {
     let mut work = [0u8; WORK];
-    job::correct_batch(set, b"", job, batch, &mut page[..OUTPUT], &mut work)
+    job::correct_batch(set, b"", &[], job, batch, &mut page[..OUTPUT], &mut work)
 }
 
 // The call's answer, behind its output.
 fn put_answer(set: &[u8], job: &[u8], batch: &[u8], page: &mut [u8]) -> usize
     requires { ⌜ Page [] 0 (now page) ⌝ }
     ensures { λ r. ⌜
-        Page (printedFor (correctBatch (given (now (set .entry)) [] (now (job .entry)) (now (batch .entry)) (zeros 32768) (zeros 65536))))
+        Page (printedFor (correctBatch (given (now (set .entry)) [] [] (now (job .entry)) (now (batch .entry)) (zeros 32768) (zeros 65536))))
         r (now (page .exit)) ⌝ }
 {
     let answer = call_on(set, job, batch, page);

@@ -19,6 +19,7 @@ pub enum Refusal {
     NotRising(usize),
     TooShort,
     Index,
+    Counts,
 }
 
 pub fn number_of(refusal: Refusal) -> u64
@@ -40,6 +41,7 @@ pub fn number_of(refusal: Refusal) -> u64
         Refusal::NotRising(_) => 13,
         Refusal::TooShort => 14,
         Refusal::Index => 15,
+        Refusal::Counts => 16,
     }
 }
 
@@ -62,5 +64,6 @@ pub fn place_of(refusal: Refusal) -> u64
         Refusal::Header => 0,
         Refusal::TooShort => 0,
         Refusal::Index => 0,
+        Refusal::Counts => 0,
     }
 }

@@ -4,6 +4,7 @@ use crate::list::number;
 use blocks::Opened;
 use refusal::Refusal;
 use report::Answer;
+use report::Report;
 
 fn pair_is(record: &[u8; 64], i: usize, first: u64, second: u64) -> bool
     requires { ⌜ i < 15 ⌝ }
@@ -27,6 +28,12 @@ pub fn open_agrees(set: &[u8], record: &[u8; 64]) -> bool {
     }
 }
 
+// Whether a support is told, and which.
+fn support_agrees(report: Report, record: &[u8; 64]) -> bool {
+    let supported = if report.supported { 1 } else { 0 };
+    number(record, 7) == supported && number(record, 1) == report.support as u64
+}
+
 fn answer_agrees(answer: Answer, record: &[u8; 64]) -> bool {
     match answer {
         Answer::Report(report) => {
@@ -34,6 +41,7 @@ fn answer_agrees(answer: Answer, record: &[u8; 64]) -> bool {
                 && pair_is(record, 10, report.written as u64, report.turns)
                 && pair_is(record, 12, report.lookups, report.attempts)
                 && pair_is(record, 14, report.accepted, report.yield_)
+                && support_agrees(report, record)
         }
         Answer::Refused(refusal) => refusal_agrees(refusal, record),
     }
@@ -57,7 +65,7 @@ fn lent_is(lent: &[u8], result: &[u8], rest: u8) -> bool {
 fn rest_of(record: &[u8; 64], fill: u8) -> u8 {
     match number(record, 8) {
         1..=10 => fill,
-        15 => fill,
+        15..=16 => fill,
         _ => 0,
     }
 }
@@ -65,6 +73,7 @@ fn rest_of(record: &[u8; 64], fill: u8) -> u8 {
 fn call(
     set: &[u8],
     index: &[u8],
+    counts: &[u32],
     record: &[u8; 64],
     job: &[u8],
     input: &[u8],
@@ -72,14 +81,15 @@ fn call(
     work: &mut [u8],
 ) -> Answer {
     if number(record, 0) == 3 {
-        return job::correct_read(set, index, job, input, output, work);
+        return job::correct_read(set, index, counts, job, input, output, work);
     }
-    job::correct_batch(set, index, job, input, output, work)
+    job::correct_batch(set, index, counts, job, input, output, work)
 }
 
 pub fn call_agrees(
     set: &[u8],
     index: &[u8],
+    counts: &[u32],
     record: &[u8; 64],
     fill: u8,
     job: &[u8],
@@ -88,7 +98,7 @@ pub fn call_agrees(
     output: &mut [u8],
     work: &mut [u8],
 ) -> bool {
-    let answer = call(set, index, record, job, input, output, work);
+    let answer = call(set, index, counts, record, job, input, output, work);
     let rest = rest_of(record, fill);
     answer_agrees(answer, record) && lent_is(output, result, rest) && lent_is(work, b"", rest)
 }

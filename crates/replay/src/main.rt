@@ -11,11 +11,17 @@ use libc::STDOUT_FILENO;
 use list::Part;
 use list::number;
 use list::part_of;
+use list::put_counts;
 use list::read_part;
 
 const MAX_SET: usize = 8192;
 
 const MAX_INDEX: usize = 34304;
+
+const MAX_COUNTS: usize = 1024;
+
+// Their bytes.
+const MAX_COUNT_BYTES: usize = 4096;
 
 const MAX_JOB: usize = 64;
 
@@ -30,16 +36,19 @@ const SET: u64 = 1;
 
 const INDEX: u64 = 5;
 
+const COUNTS: u64 = 6;
+
 enum Case {
     Agrees,
     Differs,
     Malformed,
 }
 
-// The lengths of the set and the index of the next case; whole if its record and they were there.
+// The lengths of the set, the index and the counts of the next case, in bytes; whole if its record and they were there.
 struct Next {
     set: usize,
     index: usize,
+    counts: usize,
     whole: bool,
 }
 
@@ -50,6 +59,7 @@ fn told(agrees: bool) -> Case {
 fn compare(
     set: &[u8],
     index: &[u8],
+    counts: &[u32],
     record: &[u8; 64],
     fill: u8,
     job: &[u8],
@@ -68,6 +78,7 @@ fn compare(
     told(call_agrees(
         set,
         index,
+        counts,
         record,
         fill,
         job,
@@ -78,7 +89,7 @@ fn compare(
     ))
 }
 
-fn replay_call(set: &[u8], index: &[u8], record: &[u8; 64], fill: u8) -> Case {
+fn replay_call(set: &[u8], index: &[u8], counts: &[u32], record: &[u8; 64], fill: u8) -> Case {
     let mut job = [0u8; MAX_JOB];
     let mut input = [0u8; MAX_INPUT];
     let mut result = [0u8; MAX_OUTPUT];
@@ -94,6 +105,7 @@ fn replay_call(set: &[u8], index: &[u8], record: &[u8; 64], fill: u8) -> Case {
     compare(
         set,
         index,
+        counts,
         record,
         fill,
         &job[..job_end],
@@ -102,10 +114,27 @@ fn replay_call(set: &[u8], index: &[u8], record: &[u8; 64], fill: u8) -> Case {
     )
 }
 
-fn replay_case(set: &[u8], index: &[u8], record: &[u8; 64], fill: u8) -> Case {
+// A call with the counts that these bytes are.
+fn replay_counted(
+    set: &[u8],
+    index: &[u8],
+    count_bytes: &[u8],
+    record: &[u8; 64],
+    fill: u8,
+) -> Case {
+    let mut counts = [0u32; MAX_COUNTS];
+    let counts_part = put_counts(count_bytes, &mut counts);
+    if !counts_part.whole {
+        return Case::Malformed;
+    }
+    let counts_end = counts_part.length;
+    replay_call(set, index, &counts[..counts_end], record, fill)
+}
+
+fn replay_case(set: &[u8], index: &[u8], count_bytes: &[u8], record: &[u8; 64], fill: u8) -> Case {
     match number(record, 0) {
         2 => told(open_agrees(set, record)),
-        3..=4 => replay_call(set, index, record, fill),
+        3..=4 => replay_counted(set, index, count_bytes, record, fill),
         _ => Case::Malformed,
     }
 }
@@ -129,30 +158,38 @@ fn next_bytes(kind: u64, record: &mut [u8; 64], bytes: &mut [u8], length: usize)
     }
 }
 
-// An index is offered until the next set.
+// An index, or counts, are offered until the next set.
 fn kept(record: &[u8; 64], offered: usize) -> usize {
     if number(record, 0) == SET { 0 } else { offered }
 }
 
-// Reads the record of the next case, and before it the set and the index, if they are there; else they stay.
+// Reads the record of the next case, and before it the set, the index and the counts, if they are there; else they stay.
 fn next_case(
     record: &mut [u8; 64],
     set: &mut [u8],
     length: usize,
     index: &mut [u8],
-    offered: usize,
+    indexed: usize,
+    counts: &mut [u8],
+    counted: usize,
 ) -> Next
     requires { ⌜ Counts length (now set) ⌝ }
-    ensures { λ r. ⌜ Counts (r .set) (now (set .exit)) × Counts (r .index) (now (index .exit)) ⌝ }
+    ensures { λ r. ⌜
+        Counts (r .set) (now (set .exit))
+        × Counts (r .index) (now (index .exit))
+        × Counts (r .counts) (now (counts .exit)) ⌝ }
 {
     let first = read_part(record, 64);
-    let stays = part_of(index, kept(record, offered));
+    let index_stays = part_of(index, kept(record, indexed));
+    let counts_stay = part_of(counts, kept(record, counted));
     let set_part = next_bytes(SET, record, set, length);
-    let index_part = next_bytes(INDEX, record, index, stays.length);
+    let index_part = next_bytes(INDEX, record, index, index_stays.length);
+    let counts_part = next_bytes(COUNTS, record, counts, counts_stay.length);
     Next {
         set: set_part.length,
         index: index_part.length,
-        whole: first.whole && set_part.whole && index_part.whole,
+        counts: counts_part.length,
+        whole: first.whole && set_part.whole && index_part.whole && counts_part.whole,
     }
 }
 
@@ -177,16 +214,33 @@ fn replay(cases: usize, fill: u8) {
     let mut set_end = 0;
     let mut index = [0u8; MAX_INDEX];
     let mut index_end = 0;
+    let mut counts = [0u8; MAX_COUNT_BYTES];
+    let mut counts_end = 0;
     let mut agree = 0;
     for case in 0..cases {
         let mut record = [0u8; 64];
-        let next = next_case(&mut record, &mut set, set_end, &mut index, index_end);
+        let next = next_case(
+            &mut record,
+            &mut set,
+            set_end,
+            &mut index,
+            index_end,
+            &mut counts,
+            counts_end,
+        );
         if !next.whole {
             return malformed(case);
         }
         set_end = next.set;
         index_end = next.index;
-        match replay_case(&set[..set_end], &index[..index_end], &record, fill) {
+        counts_end = next.counts;
+        match replay_case(
+            &set[..set_end],
+            &index[..index_end],
+            &counts[..counts_end],
+            &record,
+            fill,
+        ) {
             Case::Agrees => agree += 1,
             Case::Differs => print(case, b" differs\n"),
             Case::Malformed => return malformed(case),
@@ -201,7 +255,7 @@ fn replay(cases: usize, fill: u8) {
 
 fn main() {
     let mut head = [0u8; 64];
-    let part = read_part(&mut head, 32);
+    let part = read_part(&mut head, 36);
     if !part.whole || number(&head, 0) != 1 {
         return malformed(0);
     }

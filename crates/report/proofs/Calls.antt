@@ -2,17 +2,19 @@
 use Prim.Native.Nat.{ℕ, suc, _+_, _-_, _≤_, _<_}
 use native.Mathlib.Omega.{arith}
 use borrow.Author.Tests.{lt-ltb, le-ltb}
-use mathlib.Core.Path.{_≡_}
+use mathlib.Core.Path.{_≡_, refl, sym, ap, _∙_}
 use mathlib.Core.Option.{none, some}
 use mathlib.Core.List.{List, [], _∷_, _++_}
 use lib.ListN.{length, replicate}
-use Rattle.rules.specs.Refusal.{Refusal, accepted, refused, Check}
-use Rattle.rules.specs.Set.{KmerSet, opened}
+use Rattle.rules.specs.Refusal.{Refusal, accepted, refused, Check, _orElse_}
+use Rattle.rules.specs.Set.{KmerSet, offering, opened}
+use Rattle.rules.specs.Driver.{weaker}
 use Rattle.rules.specs.Job.{Entry, result, entriesOf}
-use Rattle.rules.specs.Counts.{Fed, sum, passesOf, allPasses}
+use Rattle.rules.specs.Counts.{Fed, sum, passesOf, allPasses, support, supportOver}
 use Rattle.rules.specs.Index.{indexCheck}
 use Rattle.rules.proofs.Offered.{same-corrected}
-use Rattle.rules.specs.Calls.{Given, withoutIndex, unchanged, noRoom, longest, tooLong, results, report, corrected, call}
+use Rattle.rules.proofs.Support.{weaker-assoc}
+use Rattle.rules.specs.Calls.{Given, withoutIndex, unchanged, noRoom, longest, tooLong, results, report, corrected, countsCheck, offerCheck, callBy, call}
 
 -- ---- sums over passes
 
@@ -21,7 +23,18 @@ unfolding sum
 sum-append f [] qs = omega arith
 sum-append f (p ∷ ps) qs = omega (arith, sum-append f ps qs)
 
+support-append : (set : KmerSet) (ps qs : List Fed) → supportOver set (ps ++ qs) ≡ weaker (supportOver set ps) (supportOver set qs)
+unfolding supportOver weaker
+support-append set [] qs = refl
+support-append set (p ∷ ps) qs =
+    ap (weaker (support set p)) (support-append set ps qs) ∙ sym (weaker-assoc (support set p) (supportOver set ps) (supportOver set qs))
+
 module _ (set : KmerSet) (es : List Entry) where
+  pub support-first : (read : List ℕ) (reads : List (List ℕ))
+      → supportOver set (allPasses set es (read ∷ reads)) ≡ weaker (supportOver set (passesOf set es read)) (supportOver set (allPasses set es reads))
+  unfolding allPasses
+  support-first read reads = support-append set (passesOf set es read) (allPasses set es reads)
+
   pub sum-first : (f : Fed → ℕ) (read : List ℕ) (reads : List (List ℕ))
       → sum f (allPasses set es (read ∷ reads)) ≡ sum f (passesOf set es read) + sum f (allPasses set es reads)
   unfolding allPasses
@@ -62,19 +75,25 @@ module _ (set : KmerSet) (es : List Entry) where
 module _ (ending : List ℕ) (reads : List (List ℕ)) (check : Check) (g : Given) where
   pub call-refused : (r : Refusal) → check ≡ some r → call ending reads check g ≡ unchanged g r
   unfolding call
-  call-refused r e = rw (call, e)
+  call-refused r e = rw (callBy, e)
 
   pub call-not-opened : (r : Refusal) → check ≡ none → opened (g .set) ≡ refused r → call ending reads check g ≡ unchanged g r
   unfolding call
-  call-not-opened r e o = rw (call, e, o)
+  call-not-opened r e o = rw (callBy, e, o)
 
   module _ (set : KmerSet) (e : check ≡ none) (o : opened (g .set) ≡ accepted set) where
     pub call-index-wrong : (r : Refusal) → indexCheck set (g .index) ≡ some r → call ending reads check g ≡ unchanged g r
-    unfolding call
-    call-index-wrong r i = rw (call, e, o, i)
+    unfolding call offerCheck _orElse_
+    call-index-wrong r i = rw (callBy, e, o, offerCheck, i)
 
-    -- With an index that passes 15 the call corrects as without one.
-    pub call-opened : indexCheck set (g .index) ≡ none → call ending reads check g ≡ corrected set (entriesOf (g .job)) ending (withoutIndex g) reads
-    unfolding call corrected noRoom withoutIndex
-    call-opened i =
-        rw (call, e, o, i) (same-corrected (g .set) set o (g .index) i (entriesOf (g .job)) ending g reads)
+    module _ (i : indexCheck set (g .index) ≡ none) where
+      pub call-counts-wrong : (r : Refusal) → countsCheck set (g .counts) ≡ some r → call ending reads check g ≡ unchanged g r
+      unfolding call offerCheck _orElse_
+      call-counts-wrong r d = rw (callBy, e, o, offerCheck, i, d)
+
+      -- With an index that passes 15 the call corrects as without one.
+      pub call-opened : countsCheck set (g .counts) ≡ none
+          → call ending reads check g ≡ corrected (offering [] (g .counts) set) (entriesOf (g .job)) ending (withoutIndex g) reads
+      unfolding call offerCheck _orElse_ corrected noRoom withoutIndex
+      call-opened d =
+          rw (callBy, e, o, offerCheck, i, d) (same-corrected (g .set) set o (g .index) (g .counts) i (entriesOf (g .job)) ending g reads)

@@ -1,6 +1,8 @@
 -- What a call's answer means in the papers' terms, and what the calls promise.
 use Prim.Native.Nat.{ℕ}
 use mathlib.Core.Path.{_≡_}
+use mathlib.Core.Bool.{Bool, true, false}
+use mathlib.Core.Option.{Option, none, some}
 use mathlib.Core.List.{List}
 use Rattle.rules.specs.Refusal.{Outcome, accepted, refused}
 use Rattle.rules.specs.Report as Reports
@@ -13,6 +15,11 @@ use Rattle.report.specs.declared.Report.{Report}
 use Rattle.report.specs.declared.Answer.{Answer}
 use Rattle.report.specs.declared.Answer.the-variants.{Report as Reported, Refused}
 
+-- A support as it is told, or none.
+abbrev pub supportTold : Bool → ℕ → Option ℕ
+supportTold true support = some support
+supportTold false support = none
+
 abbrev pub reportOf : Report → Reports.Report
 reportOf r =
     record {
@@ -22,6 +29,7 @@ reportOf r =
       attempts = r .attempts;
       accepted = r .accepted;
       yield = r .«yield_»;
+      support = supportTold (r .supported) (r .support);
     }
 
 -- The rules' outcome for each case.
@@ -30,8 +38,9 @@ answerOf (Reported r) = accepted (reportOf r)
 answerOf (Refused r) = refused (refusalOf r)
 
 -- What a call is given.
-abbrev pub given : List ℕ → List ℕ → List ℕ → List ℕ → List ℕ → List ℕ → Given
-given set index job input output work = record { set = set; index = index; job = job; input = input; output = output; work = work }
+abbrev pub given : List ℕ → List ℕ → List ℕ → List ℕ → List ℕ → List ℕ → List ℕ → Given
+given set index counts job input output work =
+    record { set = set; index = index; counts = counts; job = job; input = input; output = output; work = work }
 
 -- Answer, report and each lent byte are those of the rules.
 pub record Exact (after : After) (r : Answer) (o w : List ℕ) : Type 0 where

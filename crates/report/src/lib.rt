@@ -15,6 +15,9 @@ pub struct Report {
     pub attempts: u64,
     pub accepted: u64,
     pub yield_: u64,
+    // Whether there is a support; where there is none, the number says nothing.
+    pub supported: bool,
+    pub support: u32,
 }
 
 pub enum Answer {
@@ -60,11 +63,11 @@ fn yield_of(accepted: u64, attempts: u64) -> u64
     whole + whole % 2
 }
 
-// Accepted: the report on what was done.
-pub fn accept(done: Counts, output: &mut [u8], work: &mut [u8]) -> Answer
+// Accepted: the report on what was done. There is a support where counts are offered and something was accepted (document 02, W8).
+pub fn accept(done: Counts, offered: bool, output: &mut [u8], work: &mut [u8]) -> Answer
     requires { ⌜ (done .written ≤ length (now output)) × (done .accepted < 2 ^ 54) ⌝ }
     ensures { λ r. ⌜
-        (r ≡ Answer.Report (reportOn done))
+        (r ≡ Answer.Report (reportOn offered done))
         × Cleared (done .written) (now (output .entry)) (length (now (work .entry))) (now (output .exit)) (now (work .exit)) ⌝ }
 {
     clear_rest(done.written, output, work);
@@ -75,5 +78,7 @@ pub fn accept(done: Counts, output: &mut [u8], work: &mut [u8]) -> Answer
         attempts: done.attempts,
         accepted: done.accepted,
         yield_: yield_of(done.accepted, done.attempts),
+        supported: offered & (0 < done.accepted),
+        support: done.support,
     })
 }

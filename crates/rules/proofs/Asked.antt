@@ -7,7 +7,7 @@ use mathlib.Core.Path.{_≡_, refl, ap, _∙_}
 use mathlib.Core.Bool.{Bool, true, false}
 use mathlib.Core.Option.{Option, none, some}
 use mathlib.Core.List.{List, [], _∷_, _++_}
-use Rattle.rules.specs.Letters.{Kmer, same, lastLetter}
+use Rattle.rules.specs.Letters.{Kmer, same}
 use Rattle.rules.specs.Counted.{Try}
 use Rattle.rules.specs.Scan.{ask, sole, alternative}
 use Rattle.rules.specs.Graph.{Walk, start, moved, halt, walk}
@@ -23,7 +23,7 @@ module _ (k : ℕ) (sol : ℕ → Bool) where
   askingCost y = ask sol y .lookups + sole k sol y .lookups
 
   -- 01's walk, `exit` being what it does where the k-mer isn't solid.
-  pub askingWalk : (Walk → Try (List ℕ)) → ℕ → Kmer → Walk → Try (List ℕ)
+  pub askingWalk : (Walk → Try (List Kmer)) → ℕ → Kmer → Walk → Try (List Kmer)
   unfolding askingCost
   askingWalk exit zero t w = halt w 0
   askingWalk exit (suc fuel) t w =
@@ -33,7 +33,7 @@ module _ (k : ℕ) (sol : ℕ → Bool) where
         | true ↦ elim (sole k sol (w .at) .answer) [
           | none ↦ halt w l
           | some y ↦ elim (same y t) [
-            | true ↦ record { answer = some (w .letters ++ (lastLetter y ∷ [])); lookups = w .lookups + l }
+            | true ↦ record { answer = some (w .seen ++ (y ∷ [])); lookups = w .lookups + l }
             | false ↦ elim (same y (w .mark)) [
               | true ↦ halt w l
               | false ↦ askingWalk exit fuel t (moved w y l)
@@ -43,7 +43,7 @@ module _ (k : ℕ) (sol : ℕ → Bool) where
       ]
 
   -- 01's exit: the walk refuses, 1 lookup made.
-  pub refuses : Walk → Try (List ℕ)
+  pub refuses : Walk → Try (List Kmer)
   refuses w = halt w (ask sol (w .at) .lookups)
 
   -- ---- every k-mer from which a walk moves is solid
@@ -59,7 +59,7 @@ module _ (k : ℕ) (sol : ℕ → Bool) where
   reached-solid x h starts = h
   reached-solid x h (moves {w} y l r e) = sole-is k sol (w .at) y e .is-solid
 
-  module _ (exit exit′ : Walk → Try (List ℕ)) where
+  module _ (exit exit′ : Walk → Try (List Kmer)) where
     -- "no" never comes: whatever is done then, the walk is the same.
     never-no : (f : ℕ) (t : Kmer) (w : Walk) → ask sol (w .at) .answer ≡ true → askingWalk exit f t w ≡ askingWalk exit′ f t w
     unfolding askingWalk moved
@@ -98,7 +98,7 @@ module _ (k : ℕ) (sol : ℕ → Bool) where
         mark = w .mark;
         moves = w .moves;
         marks-at = w .marks-at;
-        letters = w .letters;
+        seen = w .seen;
         lookups = w .lookups + d;
       }
 
@@ -112,12 +112,12 @@ module _ (k : ℕ) (sol : ℕ → Bool) where
         mark = moved w y l .mark;
         moves = moved w y l .moves;
         marks-at = moved w y l .marks-at;
-        letters = moved w y l .letters;
+        seen = moved w y l .seen;
         lookups = e i;
       }
 
   -- 01's walk and the walk: the same answer, and one lookup less a move.
-  pub record Spared (old new : Try (List ℕ)) (d m : ℕ) : Type 0 where
+  pub record Spared (old new : Try (List Kmer)) (d m : ℕ) : Type 0 where
     pub same-answer : old .answer ≡ new .answer
     pub less-a-move : old .lookups ≡ new .lookups + d + m
 
@@ -182,7 +182,7 @@ module _ (k : ℕ) (sol : ℕ → Bool) where
     asked-yes r = reached-solid x x-solid r
 
     -- So "no" never comes: 01's walk is the same, whatever it would do then.
-    pub asked-no : (exit : Walk → Try (List ℕ)) (f : ℕ) (t : Kmer) → askingWalk exit f t (start x) ≡ askingWalk refuses f t (start x)
+    pub asked-no : (exit : Walk → Try (List Kmer)) (f : ℕ) (t : Kmer) → askingWalk exit f t (start x) ≡ askingWalk refuses f t (start x)
     unfolding start
     asked-no exit f t = never-no exit refuses f t (start x) x-solid
 

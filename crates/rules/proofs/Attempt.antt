@@ -145,7 +145,7 @@ addAll-known j y (b ∷ ls) h (also p g) = addAll-known j (add (suc j) y (code b
 
 -- ---- a pass
 
-module _ (j : ℕ) (sol : ℕ → Bool) (ce : List ℕ → Kmer → Try Mend) (spelled : (s : List ℕ) (y : Kmer) (m : Mend) → ce s y .answer ≡ some m → Written m) where
+module _ (j : ℕ) (sol : ℕ → Bool) (count : Kmer → ℕ) (ce : List ℕ → Kmer → Try Mend) (spelled : (s : List ℕ) (y : Kmer) (m : Mend) → ce s y .answer ≡ some m → Written m) where
   abbrev k : ℕ
   k = suc j
 
@@ -153,23 +153,23 @@ module _ (j : ℕ) (sol : ℕ → Bool) (ce : List ℕ → Kmer → Try Mend) (s
   abbrev pub Prepared : State → Type 0
   Prepared st = st .previous ≡ true → Known (st .kmer)
 
-  pub begin-prepared : (read : List ℕ) → Prepared (begin k sol ce read)
+  pub begin-prepared : (read : List ℕ) → Prepared (begin k sol count ce read)
   unfolding begin
   begin-prepared read e = ask-known sol (kmer k (take k read)) e
 
-  pub turn-prepared : (st : State) (b : ℕ) (s : List ℕ) → Prepared st → Prepared (turn k sol ce st b s)
+  pub turn-prepared : (st : State) (b : ℕ) (s : List ℕ) → Prepared st → Prepared (turn k sol count ce st b s)
   unfolding keepBase mendBase inPlace
-  turn-prepared st b s h = go (case k sol ce st b s)
+  turn-prepared st b s h = go (case k sol count ce st b s)
     where
       z : Kmer
       z = add k (st .kmer) (code b)
 
-      go : Case k sol ce st b s → Prepared (turn k sol ce st b s)
-      go (is-solid e) = rw (turn-solid k sol ce st b s e) (λ q. ask-known sol z e)
-      go (is-quiet e p) = rw (turn-quiet k sol ce st b s e p) (λ q. absurd (false≢true q))
-      go (is-refused e p a) = rw (turn-refused k sol ce st b s e p a) (λ q. absurd (false≢true q))
+      go : Case k sol count ce st b s → Prepared (turn k sol count ce st b s)
+      go (is-solid e) = rw (turn-solid k sol count ce st b s e) (λ q. ask-known sol z e)
+      go (is-quiet e p) = rw (turn-quiet k sol count ce st b s e p) (λ q. absurd (false≢true q))
+      go (is-refused e p a) = rw (turn-refused k sol count ce st b s e p a) (λ q. absurd (false≢true q))
       go (is-mended m e p a) =
-          rw (turn-mended k sol ce st b s m e p a)
+          rw (turn-mended k sol count ce st b s m e p a)
           (λ q. addAll-known j (dropLast z) (m .letters) (before-known j (st .kmer) (h p) b) (spelled (b ∷ s) z m a))
 
   -- The start of an attempt costs 4 lookups.

@@ -65,7 +65,7 @@ module _ (k n : ℕ) (sol : ℕ → Bool) where
   unfolding graphFrom alternative give
   graphFrom-cost sc y =
       le-trans (bind-cost (alternative k sol y) _ (24 * n) (λ x.
-      le-trans (bind-cost (walkFrom k n sol (sc .end) x) (λ ls. give (record { letters = ls; resume = suc (sc .index) })) 0 (λ ls. le-refl 0))
+      le-trans (bind-cost (walkFrom k n sol (sc .end) x) (λ seen. give (record { letters = spell seen; resume = suc (sc .index); on = seen })) 0 (λ seen. le-refl 0))
       (omega (arith, walkFrom-cost (sc .end) x))))
       (omega (arith, sole-cost k sol (dropLast y)))
 
@@ -73,7 +73,7 @@ module _ (k n : ℕ) (sol : ℕ → Bool) where
   unfolding graphFrom give
   graphFrom-resume sc y m e =
       let w = bind-some (alternative k sol y) _ m e in
-      let v = bind-some (walkFrom k n sol (sc .end) (w .0)) (λ ls. give (record { letters = ls; resume = suc (sc .index) })) m (w .2) in
+      let v = bind-some (walkFrom k n sol (sc .end) (w .0)) (λ seen. give (record { letters = spell seen; resume = suc (sc .index); on = seen })) m (w .2) in
       sym (ap (λ (m′ : Mend). m′ .resume) (Option·some-injective _ m (v .2)))
 
   -- Graph from the scan of an attempt is fair to any F from 6 + 24n on
@@ -114,7 +114,7 @@ distinct-snoc (x ∷ xs) z kz (also-distinct n d) h =
     let w = or-false (same z x) (met z xs) h in
     also-distinct (met-snoc z x xs n (λ e. same-false z x kz (w .0) (sym e))) (distinct-snoc xs z kz d (w .1))
 
-all-snoc : (P : Kmer → Type 0) (xs : List Kmer) (z : Kmer) → All P xs → P z → All P (xs ++ (z ∷ []))
+pub all-snoc : (P : Kmer → Type 0) (xs : List Kmer) (z : Kmer) → All P xs → P z → All P (xs ++ (z ∷ []))
 all-snoc P [] z h p = also p end
 all-snoc P (x ∷ xs) z (also h hs) p = also h (all-snoc P xs z hs p)
 
@@ -155,7 +155,7 @@ module _ (k : ℕ) (sol : ℕ → Bool) where
       let v = bind-some (gap k sol m (x ∷ []) x 0) _ md (w .2) in (
         sym (ap (λ (m′ : Mend). m′ .resume) (Option·some-injective _ md (v .2))) ∙ gap-any m (x ∷ []) x 0 .1 (v .0) (v .1) ∙ omega arith,
         le-trans (bind-cost (alternative k sol y) _ (4 * m) (λ x.
-            le-trans (bind-cost (gap k sol m (x ∷ []) x 0) (λ seen. give (record { letters = spell seen; resume = length seen })) 0 (λ seen. le-refl 0))
+            le-trans (bind-cost (gap k sol m (x ∷ []) x 0) (λ seen. give (record { letters = spell seen; resume = length seen; on = seen })) 0 (λ seen. le-refl 0))
             (omega (arith, gap-any m (x ∷ []) x 0 .0))))
             (omega (arith, sole-cost k sol (dropLast y))),
       )
@@ -192,7 +192,7 @@ module _ (k : ℕ) (sol : ℕ → Bool) where
     gapFrom-cost m y =
         le-trans (bind-cost-some (alternative k sol y) _ (8 * n) (λ x e.
         let g : SolidKmer k sol x = (sole-lt k sol (dropLast y) x e, sole-is k sol (dropLast y) x e .is-solid) in
-        le-trans (bind-cost (gap k sol m (x ∷ []) x 0) (λ seen. give (record { letters = spell seen; resume = length seen })) 0 (λ seen. le-refl 0))
+        le-trans (bind-cost (gap k sol m (x ∷ []) x 0) (λ seen. give (record { letters = spell seen; resume = length seen; on = seen })) 0 (λ seen. le-refl 0))
         (omega (arith, gap-cost m (x ∷ []) x 0 (also-distinct refl end-distinct) (also g end)))))
         (omega (arith, sole-cost k sol (dropLast y)))
 

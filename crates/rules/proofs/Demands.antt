@@ -1,4 +1,4 @@
--- What the papers ask to be proved of the rules: of every set that opens, every index offered with it, every list of entries with confirms from 1, every list of reads.
+-- What the papers ask to be proved of the rules: of every set that opens, every index and counts offered with it, every list of entries with confirms from 1, every list of reads.
 use Prim.Native.Nat.{ℕ, zero, suc, _+_, _*_, _-_, _%_, _≤_, _<_}
 use native.Mathlib.Omega.{arith}
 use borrow.Author.Tests.{ltb-true, ltb-false}
@@ -10,9 +10,10 @@ use lib.ListN.{length, take}
 use lib.Dec.{ltb}
 use Rattle.rules.specs.Letters.{Kmer, allKnown, same, addBase}
 use Rattle.rules.specs.Refusal.{accepted}
-use Rattle.rules.specs.Set.{KmerSet, offering, solid, opened}
+use Rattle.rules.specs.Set.{KmerSet, offering, solid, countOf, opened}
 use Rattle.rules.specs.Counted.{Try, refuse}
 use Rattle.rules.specs.Scan.{ask, alternative, errorLen}
+use Rattle.rules.specs.Exist.{Mend}
 use Rattle.rules.specs.Graph.{All, also, start, walk, walkFrom, Exactly}
 use Rattle.rules.specs.Driver.{State, turn, turnsOf, begin}
 use Rattle.rules.specs.Job.{Method, One, Two, Graph, GapSize, Entry, Confirmed, correctError, pass}
@@ -28,14 +29,14 @@ use Rattle.rules.proofs.Exactly.{no-chain, x-good, graph-exactly, gapSi
 
 -- ---- every method is fair to its F
 
-fair-at : (j : ℕ) (keys index : List ℕ) (c′ : ℕ) (m : Method)
-    → (let set : KmerSet = record { k = suc j; keys = keys; index = index } in Fair (suc j) (solid set) (correctError set (suc c′) m) (F set (suc c′) m))
+fair-at : (j : ℕ) (keys index counts : List ℕ) (c′ : ℕ) (m : Method)
+    → (let set : KmerSet = record { k = suc j; keys = keys; index = index; counts = counts } in Fair (suc j) (solid set) (correctError set (suc c′) m) (F set (suc c′) m))
 unfolding F correctError
-fair-at j keys index c′ One = one-fair j (solid (record { k = suc j; keys = keys; index = index })) c′ _ (omega arith)
-fair-at j keys index c′ Two = two-fair j (solid (record { k = suc j; keys = keys; index = index })) c′ _ (omega arith)
-fair-at j keys index c′ Graph = graph-fair (suc j) (length keys) (solid (record { k = suc j; keys = keys; index = index })) _ (omega arith)
-fair-at j keys index c′ GapSize =
-    gap-fair j (length keys) (solid (record { k = suc j; keys = keys; index = index })) c′ (few (record { k = suc j; keys = keys; index = index })) _ (omega arith)
+fair-at j keys index counts c′ One = one-fair j (solid (record { k = suc j; keys = keys; index = index; counts = counts })) c′ _ (omega arith)
+fair-at j keys index counts c′ Two = two-fair j (solid (record { k = suc j; keys = keys; index = index; counts = counts })) c′ _ (omega arith)
+fair-at j keys index counts c′ Graph = graph-fair (suc j) (length keys) (solid (record { k = suc j; keys = keys; index = index; counts = counts })) _ (omega arith)
+fair-at j keys index counts c′ GapSize =
+    gap-fair j (length keys) (solid (record { k = suc j; keys = keys; index = index; counts = counts })) c′ (few (record { k = suc j; keys = keys; index = index; counts = counts })) _ (omega arith)
 
 pub fair : (set : KmerSet) → 1 ≤ set .k → (c : ℕ) → 1 ≤ c → (m : Method) → Fair (set .k) (solid set) (correctError set c m) (F set c m)
 fair set lk c lc m = go (set .k) c refl refl lk lc
@@ -44,10 +45,10 @@ fair set lk c lc m = go (set .k) c refl refl lk lc
     go zero c₁ e f p q = absurd (omega arith)
     go (suc j) zero e f p q = absurd (omega arith)
     go (suc j) (suc c′) e f p q =
-        let same : set ≡ record { k = suc j; keys = set .keys; index = set .index } = λ i. record { k = e i; keys = set .keys; index = set .index } in
+        let same : set ≡ record { k = suc j; keys = set .keys; index = set .index; counts = set .counts } = λ i. record { k = e i; keys = set .keys; index = set .index; counts = set .counts } in
         subst (λ (s : KmerSet). Fair (s .k) (solid s) (correctError s c m) (F s c m)) (sym same)
-        (subst (λ (d : ℕ). Fair (suc j) (solid (record { k = suc j; keys = set .keys; index = set .index })) (correctError (record { k = suc j; keys = set .keys; index = set .index }) d m)
-        (F (record { k = suc j; keys = set .keys; index = set .index }) d m)) (sym f) (fair-at j (set .keys) (set .index) c′ m))
+        (subst (λ (d : ℕ). Fair (suc j) (solid (record { k = suc j; keys = set .keys; index = set .index; counts = set .counts })) (correctError (record { k = suc j; keys = set .keys; index = set .index; counts = set .counts }) d m)
+        (F (record { k = suc j; keys = set .keys; index = set .index; counts = set .counts }) d m)) (sym f) (fair-at j (set .keys) (set .index) (set .counts) c′ m))
 
 pub steady : (set : KmerSet) → 1 ≤ set .k → (c : ℕ) → 1 ≤ c → (m : Method) → Steady (set .k) (solid set) (correctError set c m)
 steady set lk c lc m = fair-steady (set .k) (solid set) (correctError set c m) (F set c m) (fair set lk c lc m)
@@ -62,10 +63,10 @@ unfolding sum
 sum-twice f [] = refl
 sum-twice f (p ∷ ps) = let i = sum-twice f ps in omega arith
 
--- A set that opens, with whatever index is offered.
-module _ (bytes : List ℕ) (file : KmerSet) (o : opened bytes ≡ accepted file) (index : List ℕ) where
+-- A set that opens, with whatever index and counts are offered.
+module _ (bytes : List ℕ) (file : KmerSet) (o : opened bytes ≡ accepted file) (index counts : List ℕ) where
   abbrev set : KmerSet
-  set = offering index file
+  set = offering index counts file
 
   abbrev k : ℕ
   k = set .k
@@ -88,7 +89,7 @@ module _ (bytes : List ℕ) (file : KmerSet) (o : opened bytes ≡ accepted file
   pass-turns p pos =
       let c = p .entry .confirm in
       let m = p .entry .method in
-      drive-turns k (solid set) (correctError set c m) (steady set k-pos c pos m) (p .bytes)
+      drive-turns k (solid set) (countOf set) (correctError set c m) (steady set k-pos c pos m) (p .bytes)
 
   pass-lookups : (p : Fed) → 1 ≤ p .entry .confirm → lookups set p ≤ ceiling set p
   unfolding lookups pass ceiling W
@@ -100,12 +101,12 @@ module _ (bytes : List ℕ) (file : KmerSet) (o : opened bytes ≡ accepted file
       m : Method
       m = p .entry .method
 
-      ce : List ℕ → Kmer → Try Rattle.rules.specs.Exist.Mend
+      ce : List ℕ → Kmer → Try Mend
       ce = correctError set c m
 
       go : (b : Bool) → ltb (length (p .bytes)) k ≡ b → lookups set p ≤ ceiling set p
-      go true e = rw (e, ceiling) (omega (arith, drive-short k (solid set) ce (F set c m) (p .bytes) (ltb-true _ _ e)))
-      go false e = rw (e, ceiling) (drive-lookups k (solid set) ce (F set c m) (fair set k-pos c pos m) (p .bytes) (ltb-false _ _ e))
+      go true e = rw (e, ceiling) (omega (arith, drive-short k (solid set) (countOf set) ce (F set c m) (p .bytes) (ltb-true _ _ e)))
+      go false e = rw (e, ceiling) (drive-lookups k (solid set) (countOf set) ce (F set c m) (fair set k-pos c pos m) (p .bytes) (ltb-false _ _ e))
 
   pub ceilings : (es : List Entry) → Confirmed es → (reads : List (List ℕ))
       → (let ps : List Fed = allPasses set es reads in Demand3 set es reads (sum (turns set) ps) (sum (lookups set) ps))
@@ -157,28 +158,28 @@ module _ (bytes : List ℕ) (file : KmerSet) (o : opened bytes ≡ accepted file
           rw (e, walkFrom, ← same) (omega (arith, walk-cost k (solid set) (6 * n - 1) t (start x)))
 
   module _ (c : ℕ) (c-pos : 1 ≤ c) (m : Method) where
-    abbrev ce : List ℕ → Kmer → Try Rattle.rules.specs.Exist.Mend
+    abbrev ce : List ℕ → Kmer → Try Mend
     ce = correctError set c m
 
     -- Any larger fuel gives the same pass.
     pub pass-fuel-enough : (read : List ℕ) (f : ℕ) → 2 * (length read - k) ≤ f
-        → turnsOf k (solid set) ce f (begin k (solid set) ce read) ≡ turnsOf k (solid set) ce (2 * (length read - k)) (begin k (solid set) ce read)
-    pass-fuel-enough = turns-fuel k (solid set) ce (steady set k-pos c c-pos m)
+        → turnsOf k (solid set) (countOf set) ce f (begin k (solid set) (countOf set) ce read) ≡ turnsOf k (solid set) (countOf set) ce (2 * (length read - k)) (begin k (solid set) (countOf set) ce read)
+    pass-fuel-enough = turns-fuel k (solid set) (countOf set) ce (steady set k-pos c c-pos m)
 
     -- ---- the theorem `driver`
 
     -- A turn that takes no base is followed by one that does. Serves demands 1 and 3.
-    pub driver-takes : (st : State) (b : ℕ) (s : List ℕ) → turn k (solid set) ce st b s .rest ≡ b ∷ s
-        → turn k (solid set) ce (turn k (solid set) ce st b s) b s .rest ≡ s
-    driver-takes = takes-base k (solid set) ce (steady set k-pos c c-pos m)
+    pub driver-takes : (st : State) (b : ℕ) (s : List ℕ) → turn k (solid set) (countOf set) ce st b s .rest ≡ b ∷ s
+        → turn k (solid set) (countOf set) ce (turn k (solid set) (countOf set) ce st b s) b s .rest ≡ s
+    driver-takes = takes-base k (solid set) (countOf set) ce (steady set k-pos c c-pos m)
 
     -- Bytes put out only grow. Serves refusal 11: what has no room now has none at the end.
-    pub driver-grows : (f : ℕ) (st : State) → (more : List ℕ) × (turnsOf k (solid set) ce f st .done .bytes ≡ st .done .bytes ++ more)
-    driver-grows = turnsOf-grows k (solid set) ce
+    pub driver-grows : (f : ℕ) (st : State) → (more : List ℕ) × (turnsOf k (solid set) (countOf set) ce f st .done .bytes ≡ st .done .bytes ++ more)
+    driver-grows = turnsOf-grows k (solid set) (countOf set) ce
 
     -- A refused attempt with scan index i is followed by i kept bytes, the bad base b among them. Serves refusal 11 under GapSize.
     pub driver-keeps : (st : State) (b : ℕ) (s : List ℕ) → st .rest ≡ b ∷ s
         → ask (solid set) (addBase k (st .kmer) b) .answer ≡ false → st .previous ≡ true → ce (b ∷ s) (addBase k (st .kmer) b) .answer ≡ none
         → (let i : ℕ = errorLen k (solid set) (addBase k (st .kmer) b) (b ∷ s) .index in
-        turnsOf k (solid set) ce i st .done .bytes ≡ st .done .bytes ++ take i (b ∷ s))
-    driver-keeps = refused-kept k (solid set) ce
+        turnsOf k (solid set) (countOf set) ce i st .done .bytes ≡ st .done .bytes ++ take i (b ∷ s))
+    driver-keeps = refused-kept k (solid set) (countOf set) ce

@@ -46,14 +46,14 @@ module _ (k n : ℕ) (sol : ℕ → Bool) (few : Few k n sol) (s : List ℕ) (y 
       record {
         if-chain = λ b.
             bind-is (alternative k sol y) _ (b .x) (b .starts)
-            ∙ bind-is (walkFrom k n sol (sc .end) (b .x)) _ (spell (b .x ∷ b .chain .via))
+            ∙ bind-is (walkFrom k n sol (sc .end) (b .x)) _ (b .x ∷ b .chain .via)
             (chain-found k n sol few (b .x) (x-good k sol y (b .x) (b .starts)) (sc .end) (b .chain));
         only-if = λ m e.
             let w = bind-some (alternative k sol y) _ m e in
             let v = bind-some (walkFrom k n sol (sc .end) (w .0)) _ m (w .2) in
             let c = found-chain k n sol few (w .0) (x-good k sol y (w .0) (w .1)) (sc .end) (v .0) (v .1) in (
               record { x = w .0; starts = w .1; chain = c .0 },
-              sym (Option·some-injective _ m (v .2)) ∙ ap (λ (ls : List ℕ). record { letters = ls; resume = suc (sc .index) }) (c .1),
+              sym (Option·some-injective _ m (v .2)) ∙ ap (λ (ls : List Kmer). record { letters = spell ls; resume = suc (sc .index); on = ls }) (c .1),
             );
       }
     where

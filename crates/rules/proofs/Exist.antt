@@ -148,10 +148,10 @@ module _ (k : ℕ) (sol : ℕ → Bool) where
     -- of a scenario's mend, where its tried k-mer scores c
     unfoldable pub Kept : (Mend → Type 0) → Scenario → Type 0
     Kept P sc =
-        (t : Kmer) → sc .trial .answer ≡ some t → score k sol c s (sc .o) t .answer ≡ c → P (record { letters = sc .letters t; resume = sc .r })
+        (t : Kmer) → sc .trial .answer ≡ some t → score k sol c s (sc .o) t .answer ≡ c → P (record { letters = sc .letters t; resume = sc .r; on = t ∷ [] })
 
     keep-some : (P : Mend → Type 0) (sc : Scenario) (t : Kmer) (m : Mend)
-        → (score k sol c s (sc .o) t .answer ≡ c → P (record { letters = sc .letters t; resume = sc .r }))
+        → (score k sol c s (sc .o) t .answer ≡ c → P (record { letters = sc .letters t; resume = sc .r; on = t ∷ [] }))
         → keep k sol c s sc t .answer ≡ some m → P m
     unfolding keep
     keep-some P sc t m h e = go (eqb (score k sol c s (sc .o) t .answer) c) refl

@@ -13,6 +13,7 @@ use Rattle.rules.specs.Set.{KmerSet, rangeStart, rangeEnd, keysFor, soli
 use Rattle.rules.specs.Scan.{ask}
 use Rattle.rules.specs.Graph.{All, end, also, Distinct, also-distinct}
 use Rattle.rules.proofs.Kmer.{Known, same-code, revcomp-twice}
+use Rattle.rules.proofs.Lookup.{solid-is}
 use Rattle.rules.proofs.Scan.{ask-known, ask-is}
 
 pub or-right : (t : Bool) {q : Bool} → q ≡ true → t || q ≡ true
@@ -118,11 +119,12 @@ unfoldable pub Few : ℕ → ℕ → (ℕ → Bool) → Type 0
 Few k n sol = (ys : List Kmer) → Distinct ys → All (SolidKmer k sol) ys → length ys ≤ 2 * n
 
 -- only keys are looked at
-looked-at : (k : ℕ) (keys index : List ℕ) (y key : ℕ) → among y (keysFor (record { k = k; keys = keys; index = index }) key) ≡ true → among y keys ≡ true
+looked-at : (k : ℕ) (keys index counts : List ℕ) (y key : ℕ)
+    → among y (keysFor (record { k = k; keys = keys; index = index; counts = counts }) key) ≡ true → among y keys ≡ true
 unfolding keysFor
-looked-at k keys [] y key h = h
-looked-at k keys (b ∷ bs) y key h =
-    let s : KmerSet = record { k = k; keys = keys; index = b ∷ bs } in
+looked-at k keys [] counts y key h = h
+looked-at k keys (b ∷ bs) counts y key h =
+    let s : KmerSet = record { k = k; keys = keys; index = b ∷ bs; counts = counts } in
     among-part y (rangeStart s key) (rangeEnd s key) keys h
 
 module _ (set : KmerSet) where
@@ -130,10 +132,10 @@ module _ (set : KmerSet) where
   both : List ℕ
   both = set .keys ++ map (revcomp (set .k)) (set .keys)
 
-  -- a solid code's canonical code is a key, whatever index is offered
+  -- a solid code's canonical code is a key, whatever is offered
   pub solid-among : (y : ℕ) → solid set y ≡ true → among (canonical (set .k) y) (set .keys) ≡ true
-  unfolding solid
-  solid-among y h = looked-at (set .k) (set .keys) (set .index) (canonical (set .k) y) _ h
+  solid-among y h =
+      looked-at (set .k) (set .keys) (set .index) (set .counts) (canonical (set .k) y) (canonical (set .k) y) (sym (solid-is set y) ∙ h)
 
   covers : (y : ℕ) → y < 4 ^ set .k → solid set y ≡ true → among y both ≡ true
   unfolding canonical both

@@ -5,7 +5,7 @@ use native.Mathlib.Nat.{eq-or-lt-of-le, le-trans, div-mul-le-self, le-div-iff-mu
 use native.Mathlib.Decide.{decLt}
 use borrow.Author.Tests.{lt-ltb, le-ltb, eq-eqb, ne-eqb, ltb-true, ltb-false, eqb-true}
 use mathlib.Core.Path.{_≡_, refl, sym, ap, ap₂, _∙_}
-use mathlib.Core.Bool.{Bool, true, false, _||_, or-false, or-assoc, false≢true}
+use mathlib.Core.Bool.{Bool, true, false, false≢true}
 use mathlib.Core.Logic.{_↔_, _⊎_, inl, inr}
 use mathlib.Core.Option.{none, some, Option·some-injective, Option·none-ne-some}
 use mathlib.Core.List.{List, [], _∷_, _++_}
@@ -13,15 +13,16 @@ use lib.Dec.{eqb, ltb, lit<}
 use lib.ListN.{length, getD, take, drop, replicate, length-drop, take-append-drop, List·getD-eq-default}
 use lib.Pow.{pow-add}
 use lib.Seq.{slice, drop-nil, getD-take, getD-drop, take-take, length-take-le, take-at}
-use Rattle.rules.specs.Letters.{among, canonical}
+use Rattle.rules.specs.Letters.{canonical}
 use Rattle.rules.specs.Refusal.{Refusal, Outcome, accepted, refused, unless}
-use Rattle.rules.specs.Set.{KmerSet, offering, firstLetters, firstCode, entryIn, keysFor, solid, blockWord, checkRight, setOf, opened}
+use Rattle.rules.specs.Set.{KmerSet, offering, firstLetters, firstCode, entryIn, numberFrom, firstFor, keysFor, lookup, blockWord, checkRight, setOf, opened}
 use Rattle.rules.specs.Blocks.{blocksFor, unmade}
 use Rattle.rules.specs.MakeSet.{Keys}
 use Rattle.rules.specs.Index.{countBelow, indexEntry, entriesFrom, indexEntries, indexList, indexBlocks, makeIndex, sameBytes, indexCheck}
 use Rattle.rules.proofs.Kmer.{four-pos}
 use Rattle.rules.proofs.Opened.{both, unless-passed, opened-set}
 use Rattle.rules.proofs.Keys.{opened-keys}
+use Rattle.rules.proofs.Lookup.{not-numbered, number-behind, number-before}
 use Rattle.rules.proofs.Blocks.{Bytes, Words, blocks-length, blocks-listed, blocks-checked, blocks-are, Into, into-accepted, into-refused}
 
 -- ---- first letters
@@ -168,29 +169,17 @@ module _ (set : KmerSet) (h : Keys (set .k) (set .keys)) where
 
 -- ---- a lookup with entries
 
-not-among : (x : ℕ) (xs : List ℕ) → ((i : ℕ) → i < length xs → getD xs i 0 ≡ x → ⊥) → among x xs ≡ false
-unfolding among
-not-among x [] f = refl
-not-among x (y ∷ ys) f = rw (ne-eqb x y (λ e. f 0 (omega arith) (sym e))) (not-among x ys (λ i h. f (suc i) (omega arith)))
-
-among-append : (x : ℕ) (a b : List ℕ) → among x (a ++ b) ≡ (among x a || among x b)
-unfolding among
-among-append x [] b = refl
-among-append x (y ∷ a) b = ap (λ (t : Bool). eqb x y || t) (among-append x a b) ∙ sym (or-assoc (eqb x y) (among x a) (among x b))
-
--- A number that is neither before `lo` nor from `hi` on is looked for between them.
-among-slice : (x : ℕ) (keys : List ℕ) (lo hi : ℕ) → lo ≤ hi → hi ≤ length keys → ((i : ℕ) → i < lo → getD keys i 0 ≡ x → ⊥)
-    → ((i : ℕ) → hi ≤ i → i < length keys → getD keys i 0 ≡ x → ⊥) → among x (slice lo hi keys) ≡ among x keys
-among-slice x keys lo hi l g before after =
-    let low : among x (take lo (take hi keys)) ≡ false = not-among x (take lo (take hi keys)) out-before in
-    let high : among x (drop hi keys) ≡ false = not-among x (drop hi keys) out-after in
-    sym (ap (among x) (sym (take-append-drop hi keys))
-    ∙ among-append x (take hi keys) (drop hi keys)
-    ∙ ap (λ (t : Bool). among x (take hi keys) || t) high
-    ∙ or-false (among x (take hi keys))
-    ∙ ap (among x) (sym (take-append-drop lo (take hi keys)))
-    ∙ among-append x (take lo (take hi keys)) (slice lo hi keys)
-    ∙ ap (λ (t : Bool). t || among x (slice lo hi keys)) low)
+-- A key that is neither before `lo` nor from `hi` on is looked for between them.
+number-slice : (x : ℕ) (keys : List ℕ) (lo hi : ℕ) → lo ≤ hi → hi ≤ length keys → ((i : ℕ) → i < lo → getD keys i 0 ≡ x → ⊥)
+    → ((i : ℕ) → hi ≤ i → i < length keys → getD keys i 0 ≡ x → ⊥) → numberFrom lo x (slice lo hi keys) ≡ numberFrom 0 x keys
+number-slice x keys lo hi l g before after =
+    let size : length (take lo (take hi keys)) ≡ lo = ap length (take-take lo hi keys l) ∙ length-take-le lo keys (omega arith) in
+    let start : 0 + length (take lo (take hi keys)) ≡ lo = omega arith in
+    sym (ap (numberFrom 0 x) (sym (take-append-drop hi keys))
+    ∙ number-before 0 x (take hi keys) (drop hi keys) out-after
+    ∙ ap (numberFrom 0 x) (sym (take-append-drop lo (take hi keys)))
+    ∙ number-behind 0 x (take lo (take hi keys)) (slice lo hi keys) out-before
+    ∙ ap (λ (n : ℕ). numberFrom n x (slice lo hi keys)) start)
   where
     out-before : (i : ℕ) → i < length (take lo (take hi keys)) → getD (take lo (take hi keys)) i 0 ≡ x → ⊥
     out-before i h e =
@@ -204,10 +193,11 @@ among-slice x keys lo hi l g before after =
 
 module _ (set : KmerSet) (h : Keys (set .k) (set .keys)) where
   -- A key is found among those of its first letters, and nowhere else.
-  pub found-between : (x : ℕ) → (let v : ℕ = firstCode (set .k) x in among x (slice (indexEntry set v) (indexEntry set (suc v)) (set .keys)) ≡ among x (set .keys))
+  pub found-between : (x : ℕ) → (let v : ℕ = firstCode (set .k) x in
+      numberFrom (indexEntry set v) x (slice (indexEntry set v) (indexEntry set (suc v)) (set .keys)) ≡ numberFrom 0 x (set .keys))
   found-between x =
       let v : ℕ = firstCode (set .k) x in
-      among-slice x (set .keys) (indexEntry set v) (indexEntry set (suc v)) (entries-rise set h v (suc v) (omega arith)) (entry-le set h (suc v))
+      number-slice x (set .keys) (indexEntry set v) (indexEntry set (suc v)) (entries-rise set h v (suc v) (omega arith)) (entry-le set h (suc v))
       (λ i l e. let g : v < v = rw e at (entry-starts set h v .before i l) in omega arith)
       (λ i l g e. let b : suc v ≤ v = rw e at (entry-starts set h (suc v) .after i l g) in omega arith)
 
@@ -255,28 +245,32 @@ module _ (set : KmerSet) (h : Keys (set .k) (set .keys)) where
   spare-read v l = listed v ∙ list-behind set v l
 
   -- Among the keys between the entries that are read: for a code of k letters those of its first letters, for a larger number none.
-  read-between : (x : ℕ) → (let v : ℕ = firstCode (set .k) x in among x (slice (entryIn (indexBlocks set) v) (entryIn (indexBlocks set) (suc v)) (set .keys)) ≡ among x (set .keys))
-  unfolding among indexEntries
+  read-between : (x : ℕ) → (let v : ℕ = firstCode (set .k) x in let lo : ℕ = entryIn (indexBlocks set) v in
+      numberFrom lo x (slice lo (entryIn (indexBlocks set) (suc v)) (set .keys)) ≡ numberFrom 0 x (set .keys))
+  unfolding numberFrom indexEntries
   read-between x = go (decLt v (4 ^ firstLetters (set .k)))
     where
       v : ℕ
       v = firstCode (set .k) x
 
-      go : Dec (v < 4 ^ firstLetters (set .k)) → among x (slice (entryIn (indexBlocks set) v) (entryIn (indexBlocks set) (suc v)) (set .keys)) ≡ among x (set .keys)
+      lo : ℕ
+      lo = entryIn (indexBlocks set) v
+
+      go : Dec (v < 4 ^ firstLetters (set .k)) → numberFrom lo x (slice lo (entryIn (indexBlocks set) (suc v)) (set .keys)) ≡ numberFrom 0 x (set .keys)
       go (yes l) = rw (entry-read v (omega arith), entry-read (suc v) (omega arith)) (found-between set h x)
       go (no f) =
-          rw (spare-read (suc v) (omega arith), drop-nil {A = ℕ} (entryIn (indexBlocks set) v))
-          (sym (not-among x (set .keys) (λ i l e. f (first-lt (set .k) x .0 (rw e at (h .small i l))))))
+          rw (spare-read (suc v) (omega arith), drop-nil {A = ℕ} lo)
+          (sym (not-numbered 0 x (set .keys) (λ i l e. f (first-lt (set .k) x .0 (rw e at (h .small i l))))))
 
-  -- So a lookup that reads its entries there agrees with the direct one, whatever number it is asked for.
-  pub blocks-agree : (y : ℕ) → solid (offering (indexBlocks set) set) y ≡ solid (offering [] set) y
-  unfolding solid keysFor offering
-  blocks-agree y = go (indexBlocks set) refl
+  -- So a lookup that reads its entries there agrees with the direct one, whatever number it is asked for, and whatever counts are offered.
+  pub blocks-agree : (counts : List ℕ) (y : ℕ) → lookup (offering (indexBlocks set) counts set) y ≡ lookup (offering [] counts set) y
+  unfolding lookup firstFor keysFor offering
+  blocks-agree counts y = go (indexBlocks set) refl
     where
       key : ℕ
       key = canonical (set .k) y
 
-      go : (index : List ℕ) → indexBlocks set ≡ index → solid (offering index set) y ≡ among key (set .keys)
+      go : (index : List ℕ) → indexBlocks set ≡ index → lookup (offering index counts set) y ≡ numberFrom 0 key (set .keys)
       go [] e = refl
       go (b ∷ bs) e = rw (← e) (read-between key)
 
@@ -364,25 +358,25 @@ module _ (set : KmerSet) where
 -- ---- of every set that opens
 
 module _ (bytes : List ℕ) (set : KmerSet) (o : opened bytes ≡ accepted set) where
-  -- No index comes with it.
-  pub offering-none : offering [] set ≡ set
+  -- Nothing is offered with it.
+  pub offering-none : offering [] [] set ≡ set
   unfolding offering setOf
-  offering-none = ap (offering []) (opened-set bytes set o) ∙ sym (opened-set bytes set o)
+  offering-none = ap (offering [] []) (opened-set bytes set o) ∙ sym (opened-set bytes set o)
 
-  -- The keys from entry v up to entry v + 1 hold a k-mer's canonical code exactly when it is solid.
+  -- Among the keys from entry v up to entry v + 1 a lookup finds what the direct one does: the key of the same index, or none.
   pub opened-agrees : (y : ℕ) → (let key : ℕ = canonical (set .k) y in let v : ℕ = firstCode (set .k) key in
-      among key (slice (indexEntry set v) (indexEntry set (suc v)) (set .keys)) ≡ solid set y)
-  unfolding solid keysFor offering
+      numberFrom (indexEntry set v) key (slice (indexEntry set v) (indexEntry set (suc v)) (set .keys)) ≡ lookup set y)
+  unfolding lookup firstFor keysFor offering
   opened-agrees y =
-      found-between set (opened-keys bytes set o) (canonical (set .k) y) ∙ ap (λ (s : KmerSet). solid s y) offering-none
+      found-between set (opened-keys bytes set o) (canonical (set .k) y) ∙ ap (λ (s : KmerSet). lookup s y) offering-none
 
   -- A lookup by an offered index that passes 15 answers what the direct one does.
-  pub offered-agrees : (index : List ℕ) → indexCheck set index ≡ none → (y : ℕ) → solid (offering index set) y ≡ solid set y
-  offered-agrees index passes y = go (index-passes set index .0 passes) ∙ ap (λ (s : KmerSet). solid s y) offering-none
+  pub offered-agrees : (index counts : List ℕ) → indexCheck set index ≡ none → (y : ℕ) → lookup (offering index counts set) y ≡ lookup (offering [] counts set) y
+  offered-agrees index counts passes y = go (index-passes set index .0 passes)
     where
-      go : (index ≡ []) ⊎ (index ≡ indexBlocks set) → solid (offering index set) y ≡ solid (offering [] set) y
+      go : (index ≡ []) ⊎ (index ≡ indexBlocks set) → lookup (offering index counts set) y ≡ lookup (offering [] counts set) y
       go (inl e) = rw e
-      go (inr e) = rw e (blocks-agree set (opened-keys bytes set o) y)
+      go (inr e) = rw e (blocks-agree set (opened-keys bytes set o) counts y)
 
   -- An accepted call of the maker: what it leaves.
   pub index-made : (buffer : List ℕ) (size : ℕ) → makeIndex bytes buffer .answer ≡ accepted size

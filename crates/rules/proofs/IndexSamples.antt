@@ -5,20 +5,21 @@ use mathlib.Core.Bool.{true, false}
 use mathlib.Core.Option.{Option, none, some}
 use mathlib.Core.List.{List, [], _∷_, _++_, map}
 use lib.ListN.{length, replicate, set, take}
-use Rattle.rules.specs.Refusal.{accepted, refused}
-use Rattle.rules.specs.Set.{KmerSet, offering, firstCode, entryIn, solid, blockWord}
-use Rattle.rules.specs.Blocks.{blocksFor, Made}
+use Rattle.rules.specs.Refusal.{Outcome, accepted, refused}
+use Rattle.rules.specs.Set.{KmerSet, offering, firstCode, entryIn, lookup, blockWord, opened}
+use Rattle.rules.specs.Blocks.{blocksFor, Made, unmade, laidInto}
 use Rattle.rules.specs.MakeSet.{setBlocks}
 use Rattle.rules.specs.Index.{indexEntry, indexEntries, indexList, indexBlocks, makeIndex, indexCheck}
-use Rattle.rules.specs.Calls.{Given, correctRead, correctBatch}
+use Rattle.rules.specs.Job.{lines}
+use Rattle.rules.specs.Calls.{Given, callBy, givenCheck, batchRight, correctRead, correctBatch}
 use Rattle.rules.specs.Samples.{A, C, T, G, AACCG, AACGTC, AACGCCG, AACTCCG, sampleSet, wordBytes, sampleBytes}
-use Rattle.rules.proofs.Samples.{given, refusalOf}
+use Rattle.rules.proofs.Samples.{sampleOpens, otherOpens, readBy, batchBy, given, refusalOf}
 
 -- ---- entries
 
 -- A set.
 pub withKeys : ℕ → List ℕ → KmerSet
-withKeys k keys = record { k = k; keys = keys; index = [] }
+withKeys k keys = record { k = k; keys = keys; index = []; counts = [] }
 
 -- m is the smaller of 6 and k: how many entries there are at k = 1, 3, 5, 7 and 31, and how many blocks.
 pub sizes :
@@ -84,51 +85,60 @@ words = (refl, refl, refl, refl, refl, refl, refl)
 
 -- ---- lookups
 
--- By the sample's index: ACT and its reverse complement AGT, CCG, CTC, AAC and TCC, whose canonical codes have other first letters than they themselves;
+-- By the sample's index, each with the key's index among all five: ACT and its reverse complement AGT, CCG, CTC, AAC and TCC, whose canonical codes have other first letters than they themselves;
 -- AAA and CCC, which are no keys; 70, which is no code of three letters.
 pub lookups :
-    map (solid (offering sampleIndex sampleSet)) (6 ∷ 14 ∷ 23 ∷ 25 ∷ 1 ∷ 37 ∷ 0 ∷ 21 ∷ 70 ∷ [])
-    ≡ true ∷ true ∷ true ∷ true ∷ true ∷ true ∷ false ∷ false ∷ false ∷ []
-unfolding solid offering sampleIndex sampleSet
+    map (lookup (offering sampleIndex [] sampleSet)) (6 ∷ 14 ∷ 23 ∷ 25 ∷ 1 ∷ 37 ∷ 0 ∷ 21 ∷ 70 ∷ [])
+    ≡ some 0 ∷ some 0 ∷ some 1 ∷ some 2 ∷ some 3 ∷ some 4 ∷ none ∷ none ∷ none ∷ []
+unfolding lookup offering sampleIndex sampleSet
 lookups = refl
 
 -- At k = 7, 5 and 6 are both found among the keys of their first letters; 4, whose canonical code is 11946, and 10 are not.
 pub lookupsOfSeven :
-    (let seven : KmerSet = withKeys 7 (3 ∷ 5 ∷ 6 ∷ 9 ∷ 16383 ∷ []) in map (solid (offering (indexBlocks seven) seven)) (3 ∷ 5 ∷ 6 ∷ 9 ∷ 16383 ∷ 4 ∷ 10 ∷ []))
-    ≡ true ∷ true ∷ true ∷ true ∷ true ∷ false ∷ false ∷ []
-unfolding solid offering indexBlocks withKeys
+    (let seven : KmerSet = withKeys 7 (3 ∷ 5 ∷ 6 ∷ 9 ∷ 16383 ∷ []) in map (lookup (offering (indexBlocks seven) [] seven)) (3 ∷ 5 ∷ 6 ∷ 9 ∷ 16383 ∷ 4 ∷ 10 ∷ []))
+    ≡ some 0 ∷ some 1 ∷ some 2 ∷ some 3 ∷ some 4 ∷ none ∷ none ∷ []
+unfolding lookup offering indexBlocks withKeys
 lookupsOfSeven = refl
 
 -- ---- the maker
+
+-- By what the set's bytes open to.
+madeBy : (bytes buffer : List ℕ) {o : Outcome KmerSet} → opened bytes ≡ o
+    → makeIndex bytes buffer ≡ elim o [ refused r ↦ unmade buffer r | accepted set ↦ laidInto buffer (indexBlocks set) ]
+unfolding makeIndex
+madeBy bytes buffer e = λ i. elim (e i) [ refused r ↦ unmade buffer r | accepted set ↦ laidInto buffer (indexBlocks set) ]
 
 -- The answer is the length of the blocks, not the buffer's; the buffer's rest is zero; a buffer that fits exactly does.
 pub made :
     (makeIndex sampleBytes (replicate 1026 1) ≡ record { answer = accepted 1024; buffer = sampleIndex ++ (0 ∷ 0 ∷ []) })
     × (makeIndex sampleBytes (replicate 1024 1) ≡ record { answer = accepted 1024; buffer = sampleIndex })
     × (makeIndex (setBlocks 1 []) (replicate 513 1) ≡ record { answer = accepted 512; buffer = replicate 504 0 ++ (1 ∷ replicate 8 0) })
-unfolding makeIndex sampleBytes sampleIndex setBlocks
-made = (refl, refl, refl)
+unfolding makeIndex sampleIndex setBlocks sampleSet
+made = (madeBy sampleBytes (replicate 1026 1) (sampleOpens .0), madeBy sampleBytes (replicate 1024 1) (sampleOpens .0), refl)
 
 -- A buffer one byte too short gives 14 and stays as it is.
 pub tooShort : makeIndex sampleBytes (replicate 1023 1) ≡ record { answer = refused (record { number = 14; place = 0 }); buffer = replicate 1023 1 }
-unfolding makeIndex sampleBytes
-tooShort = refl
+unfolding laidInto indexBlocks sampleSet
+tooShort = madeBy sampleBytes (replicate 1023 1) (sampleOpens .0)
 
--- What the maker refuses with a buffer of three bytes, number and place; the three bytes stay.
-pub refusalMade : List ℕ → Option (ℕ × ℕ) × List ℕ
-unfolding makeIndex
-refusalMade bytes =
-    let m : Made = makeIndex bytes (1 ∷ 2 ∷ 3 ∷ []) in
-    (elim (m .answer) [ accepted n ↦ none | refused r ↦ some (r .number, r .place) ], m .buffer)
+-- What the maker refuses, number and place, and the buffer.
+pub refusalMade : Made → Option (ℕ × ℕ) × List ℕ
+refusalMade m = (elim (m .answer) [ accepted n ↦ none | refused r ↦ some (r .number, r .place) ], m .buffer)
 
--- The set's refusals come first: no bytes; a wrong check in block 1; k = 2; key 1 equal to key 0. Then 14.
+-- A buffer of three bytes stays. The set's refusals come first: no bytes; a wrong check in block 1; k = 2; key 1 equal to key 0. Then 14.
 pub refusals :
-    map refusalMade
+    map (λ bytes. refusalMade (makeIndex bytes (1 ∷ 2 ∷ 3 ∷ [])))
     ([] ∷ set sampleBytes 520 7 ∷ set (set sampleBytes 0 2) 504 8 ∷ set (set sampleBytes 520 6) 1016 183 ∷ sampleBytes ∷ [])
     ≡ (some (7, 0), 1 ∷ 2 ∷ 3 ∷ []) ∷ (some (8, 1), 1 ∷ 2 ∷ 3 ∷ []) ∷ (some (9, 0), 1 ∷ 2 ∷ 3 ∷ []) ∷ (some (10, 1), 1 ∷ 2 ∷ 3 ∷ [])
     ∷ (some (14, 0), 1 ∷ 2 ∷ 3 ∷ []) ∷ []
-unfolding refusalMade sampleBytes
-refusals = refl
+unfolding refusalMade laidInto indexBlocks unmade sampleSet
+refusals =
+    λ i. refusalMade (madeBy [] (1 ∷ 2 ∷ 3 ∷ []) (otherOpens .0) i)
+    ∷ refusalMade (madeBy (set sampleBytes 520 7) (1 ∷ 2 ∷ 3 ∷ []) (otherOpens .1) i)
+    ∷ refusalMade (madeBy (set (set sampleBytes 0 2) 504 8) (1 ∷ 2 ∷ 3 ∷ []) (otherOpens .2) i)
+    ∷ refusalMade (madeBy (set (set sampleBytes 520 6) 1016 183) (1 ∷ 2 ∷ 3 ∷ []) (otherOpens .3) i)
+    ∷ refusalMade (madeBy sampleBytes (1 ∷ 2 ∷ 3 ∷ []) (sampleOpens .0) i)
+    ∷ []
 
 -- ---- an index offered with the sample's set
 
@@ -167,55 +177,64 @@ wrong = refl
 
 -- A call with an index offered.
 pub offer : List ℕ → Given → Given
-offer index g = record { set = g .set; index = index; job = g .job; input = g .input; output = g .output; work = g .work }
+offer index g = record { set = g .set; index = index; counts = g .counts; job = g .job; input = g .input; output = g .output; work = g .work }
 
 -- With its index, and with an empty one, which is not offered, the printed case is as it is without: bytes, turns, lookups.
 pub printedCaseIndexed :
     map (λ index. correctBatch (offer index (given sampleBytes (3 ∷ 1 ∷ []) (AACGCCG ++ (10 ∷ A ∷ A ∷ 10 ∷ [])) 12 24))) (sampleIndex ∷ [] ∷ [])
     ≡ replicate 2 (record {
-      answer = accepted (record { written = 11; turns = 1; lookups = 21; attempts = 1; accepted = 1; yield = 1000 });
+      answer = accepted (record { written = 11; turns = 1; lookups = 21; attempts = 1; accepted = 1; yield = 1000; support = none });
       output = AACTCCG ++ (10 ∷ A ∷ A ∷ 10 ∷ 0 ∷ []);
       work = replicate 24 0;
     })
-unfolding correctBatch offer given sampleBytes sampleIndex
-printedCaseIndexed = refl
+unfolding callBy givenCheck batchRight lines offer given sampleSet sampleIndex
+printedCaseIndexed =
+    λ i. map (λ index. batchBy (offer index (given sampleBytes (3 ∷ 1 ∷ []) (AACGCCG ++ (10 ∷ A ∷ A ∷ 10 ∷ [])) 12 24)) (sampleOpens .0) i) (sampleIndex ∷ [] ∷ [])
 
 -- A read through all four methods: Two leaves AACCG at confirm 1 and mends it at confirm 2; One, Graph and GapSize then find it right.
 pub fourMethodsIndexed :
     map (λ index. correctRead (offer index (given sampleBytes (2 ∷ 1 ∷ 2 ∷ 2 ∷ 1 ∷ 1 ∷ 3 ∷ 1 ∷ 4 ∷ 1 ∷ []) AACCG 8 16))) (sampleIndex ∷ [] ∷ [])
     ≡ replicate 2 (record {
-      answer = accepted (record { written = 7; turns = 17; lookups = 89; attempts = 2; accepted = 1; yield = 500 });
+      answer = accepted (record { written = 7; turns = 17; lookups = 89; attempts = 2; accepted = 1; yield = 500; support = none });
       output = AACTCCG ++ (0 ∷ []);
       work = replicate 16 0;
     })
-unfolding correctRead offer given sampleBytes sampleIndex
-fourMethodsIndexed = refl
+unfolding callBy givenCheck offer given sampleSet sampleIndex
+fourMethodsIndexed =
+    λ i. map (λ index. readBy (offer index (given sampleBytes (2 ∷ 1 ∷ 2 ∷ 2 ∷ 1 ∷ 1 ∷ 3 ∷ 1 ∷ 4 ∷ 1 ∷ []) AACCG 8 16)) (sampleOpens .0) i) (sampleIndex ∷ [] ∷ [])
+
+oneOpens : opened (setBlocks 1 (3 ∷ [])) ≡ accepted (withKeys 1 (3 ∷ []))
+unfolding opened setBlocks withKeys
+oneOpens = refl
 
 -- k = 1, key 3: GCAG. C is solid, since its canonical code is that of G. m is 1.
 pub oneLetterIndexed :
     map (λ index. correctRead (offer index (given (setBlocks 1 (3 ∷ [])) (1 ∷ 1 ∷ []) (G ∷ C ∷ A ∷ G ∷ []) 4 8))) (oneIndex ∷ [] ∷ [])
     ≡ replicate 2 (record {
-      answer = accepted (record { written = 4; turns = 3; lookups = 8; attempts = 1; accepted = 0; yield = 0 });
+      answer = accepted (record { written = 4; turns = 3; lookups = 8; attempts = 1; accepted = 0; yield = 0; support = none });
       output = G ∷ C ∷ A ∷ G ∷ [];
       work = replicate 8 0;
     })
-unfolding correctRead offer given setBlocks oneIndex
-oneLetterIndexed = refl
+unfolding callBy givenCheck offer given withKeys oneIndex
+oneLetterIndexed =
+    λ i. map (λ index. readBy (offer index (given (setBlocks 1 (3 ∷ [])) (1 ∷ 1 ∷ []) (G ∷ C ∷ A ∷ G ∷ []) 4 8)) oneOpens i) (oneIndex ∷ [] ∷ [])
 
 -- An index cut by a byte: 15 leaves every lent byte as it is.
 pub fifteen :
     correctRead (offer (take 1023 sampleIndex) (given sampleBytes (1 ∷ 1 ∷ []) AACGTC 9 18))
     ≡ record { answer = refused (record { number = 15; place = 0 }); output = replicate 9 1; work = replicate 18 1 }
-unfolding correctRead offer given sampleBytes sampleIndex
-fifteen = refl
+unfolding callBy givenCheck offer given sampleSet sampleIndex
+fifteen = readBy (offer (take 1023 sampleIndex) (given sampleBytes (1 ∷ 1 ∷ []) AACGTC 9 18)) (sampleOpens .0)
 
 -- Other wrong ones offered with a call: with another byte, longer by a block of zeros, of another set.
 pub offered :
     map (λ index. refusalOf (correctRead (offer index (given sampleBytes (1 ∷ 1 ∷ []) AACGTC 9 18))))
     (set sampleIndex 8 1 ∷ (sampleIndex ++ replicate 512 0) ∷ indexBlocks (withKeys 3 (6 ∷ 23 ∷ 51 ∷ 58 ∷ [])) ∷ [])
     ≡ replicate 3 (some (15, 0))
-unfolding refusalOf correctRead offer given sampleBytes sampleIndex indexBlocks withKeys
-offered = refl
+unfolding refusalOf callBy givenCheck offer given sampleSet sampleIndex indexBlocks withKeys
+offered =
+    λ i. map (λ index. refusalOf (readBy (offer index (given sampleBytes (1 ∷ 1 ∷ []) AACGTC 9 18)) (sampleOpens .0) i))
+    (set sampleIndex 8 1 ∷ (sampleIndex ++ replicate 512 0) ∷ indexBlocks (withKeys 3 (6 ∷ 23 ∷ 51 ∷ 58 ∷ [])) ∷ [])
 
 -- With a wrong index: 5, and 6 of a batch, come before 15, and so do the set's 7 and 10; 15 comes before 11, which the right index meets.
 pub fifteenInTurn :
@@ -229,5 +248,14 @@ pub fifteenInTurn :
     ∷ correctBatch (offer sampleIndex (given sampleBytes [] (A ∷ 10 ∷ 10 ∷ []) 2 6))
     ∷ [])
     ≡ some (5, 0) ∷ some (6, 0) ∷ some (7, 0) ∷ some (10, 1) ∷ some (15, 0) ∷ some (15, 0) ∷ some (11, 1) ∷ []
-unfolding refusalOf correctRead correctBatch offer given sampleBytes sampleIndex
-fifteenInTurn = refl
+unfolding refusalOf callBy givenCheck batchRight lines offer given sampleSet sampleIndex
+fifteenInTurn =
+    λ i. map refusalOf
+    (readBy (offer (0 ∷ []) (given sampleBytes (1 ∷ 1 ∷ []) AACGTC 9 17)) (sampleOpens .0) i
+    ∷ batchBy (offer (0 ∷ []) (given sampleBytes (1 ∷ 1 ∷ []) AACGTC 9 18)) (sampleOpens .0) i
+    ∷ readBy (offer (0 ∷ []) (given [] (1 ∷ 1 ∷ []) AACGTC 9 18)) (otherOpens .0) i
+    ∷ readBy (offer (0 ∷ []) (given (set (set sampleBytes 520 6) 1016 183) (1 ∷ 1 ∷ []) AACGTC 9 18)) (otherOpens .3) i
+    ∷ readBy (offer (0 ∷ []) (given sampleBytes (3 ∷ 1 ∷ []) AACGTC 5 12)) (sampleOpens .0) i
+    ∷ batchBy (offer (0 ∷ []) (given sampleBytes [] (A ∷ 10 ∷ 10 ∷ []) 2 6)) (sampleOpens .0) i
+    ∷ batchBy (offer sampleIndex (given sampleBytes [] (A ∷ 10 ∷ 10 ∷ []) 2 6)) (sampleOpens .0) i
+    ∷ [])

@@ -3,6 +3,7 @@ pub mod Program
 pub mod Kmer
 pub mod Counted
 pub mod Scan
+pub mod Lookup
 pub mod Few
 pub mod Exist
 pub mod Driver
@@ -12,6 +13,7 @@ pub mod Correctors
 pub mod Exactly
 pub mod Attempt
 pub mod Asked
+pub mod Support
 pub mod Opened
 pub mod Report
 pub mod Job
@@ -21,5 +23,7 @@ pub mod MakeSet
 pub mod MakeSamples
 pub mod Index
 pub mod IndexSamples
+pub mod SupportSamples
 pub mod Offered
 pub mod Demands
+pub mod Told

@@ -48,6 +48,7 @@ module _ (k : ℕ) (sol : ℕ → Bool) (ce : List ℕ → Kmer → Try Mend) (F
   unfolding Steady
   fair-steady h b s y m a r = h .at b s y .staying m a r .1
 
+module _ (k : ℕ) (sol : ℕ → Bool) (count : Kmer → ℕ) (ce : List ℕ → Kmer → Try Mend) (F : ℕ) where
   -- ---- the lookups that can still come
 
   -- while no attempt is due
@@ -114,14 +115,14 @@ module _ (k : ℕ) (sol : ℕ → Bool) (ce : List ℕ → Kmer → Try Mend) (F
           omega (arith, ready≤ h y (drop r s), ap (λ (x : ℕ). F * x) e, q r refl .1 (omega arith))
 
   -- at each turn what is done and what can still come do not grow together
-  ahead-step : Fair → (st : State) (b : ℕ) (s : List ℕ)
-      → turn k sol ce st b s .done .lookups + ahead (turn k sol ce st b s .previous) (turn k sol ce st b s .kmer) (turn k sol ce st b s .rest)
+  ahead-step : Fair k sol ce F → (st : State) (b : ℕ) (s : List ℕ)
+      → turn k sol count ce st b s .done .lookups + ahead (turn k sol count ce st b s .previous) (turn k sol count ce st b s .kmer) (turn k sol count ce st b s .rest)
       ≤ st .done .lookups + ahead (st .previous) (st .kmer) (b ∷ s)
   unfolding ahead quiet ready choice keepBase mendBase
-  ahead-step h st b s = go (case k sol ce st b s)
+  ahead-step h st b s = go (case k sol count ce st b s)
     where
       Goal : Type 0
-      Goal = turn k sol ce st b s .done .lookups + ahead (turn k sol ce st b s .previous) (turn k sol ce st b s .kmer) (turn k sol ce st b s .rest)
+      Goal = turn k sol count ce st b s .done .lookups + ahead (turn k sol count ce st b s .previous) (turn k sol count ce st b s .kmer) (turn k sol count ce st b s .rest)
           ≤ st .done .lookups + ahead (st .previous) (st .kmer) (b ∷ s)
 
       z : Kmer
@@ -134,47 +135,47 @@ module _ (k : ℕ) (sol : ℕ → Bool) (ce : List ℕ → Kmer → Try Mend) (F
       prev true e = rw (e, ready)
       prev false e = rw (e, quiet)
 
-      go : Case k sol ce st b s → Goal
-      go (is-solid e) = rw (turn-solid k sol ce st b s e, prev (st .previous) e) (omega (arith, one, ready≤ (h .least) z s))
-      go (is-quiet e p) = rw (turn-quiet k sol ce st b s e p, p, e) (omega (arith, one))
+      go : Case k sol count ce st b s → Goal
+      go (is-solid e) = rw (turn-solid k sol count ce st b s e, prev (st .previous) e) (omega (arith, one, ready≤ (h .least) z s))
+      go (is-quiet e p) = rw (turn-quiet k sol count ce st b s e p, p, e) (omega (arith, one))
       go (is-refused e p a) =
-          rw (turn-refused k sol ce st b s e p a, p, e) (omega (arith, one, h .at b s z .refusal a, quiet-scan (h .least) z s))
+          rw (turn-refused k sol count ce st b s e p a, p, e) (omega (arith, one, h .at b s z .refusal a, quiet-scan (h .least) z s))
       go (is-mended m e p a) =
-          rw (turn-mended k sol ce st b s m e p a, p, e)
+          rw (turn-mended k sol count ce st b s m e p a, p, e)
           (let d = drop-ready (h .least) (inPlace k z (m .letters)) b s (ce (b ∷ s) z .lookups) (m .resume)
           (h .at b s z .staying m a) (λ r e′. h .at b s z .going m r a e′) in omega (arith, one))
 
-  lookups-le : Fair → (f : ℕ) (st : State)
-      → turnsOf k sol ce f st .done .lookups ≤ st .done .lookups + ahead (st .previous) (st .kmer) (st .rest)
+  lookups-le : Fair k sol ce F → (f : ℕ) (st : State)
+      → turnsOf k sol count ce f st .done .lookups ≤ st .done .lookups + ahead (st .previous) (st .kmer) (st .rest)
   unfolding turnsOf
   lookups-le h zero st = omega arith
   lookups-le h (suc f) st = go (lookups-le h f) (st .rest) refl
     where
-      go : ((st′ : State) → turnsOf k sol ce f st′ .done .lookups ≤ st′ .done .lookups + ahead (st′ .previous) (st′ .kmer) (st′ .rest))
+      go : ((st′ : State) → turnsOf k sol count ce f st′ .done .lookups ≤ st′ .done .lookups + ahead (st′ .previous) (st′ .kmer) (st′ .rest))
           → (r : List ℕ) → st .rest ≡ r
-          → turnsOf k sol ce (suc f) st .done .lookups ≤ st .done .lookups + ahead (st .previous) (st .kmer) (st .rest)
-      go ih [] e = rw (turnsOf-end k sol ce (suc f) st e) (omega arith)
+          → turnsOf k sol count ce (suc f) st .done .lookups ≤ st .done .lookups + ahead (st .previous) (st .kmer) (st .rest)
+      go ih [] e = rw (turnsOf-end k sol count ce (suc f) st e) (omega arith)
       go ih (b ∷ s) e =
-          let i = ih (turn k sol ce st b s) in
+          let i = ih (turn k sol count ce st b s) in
           let l = ahead-step h st b s in
           let e′ : ahead (st .previous) (st .kmer) (st .rest) ≡ ahead (st .previous) (st .kmer) (b ∷ s) = ap (ahead (st .previous) (st .kmer)) e in
-          rw (turnsOf-step k sol ce f st b s e) (omega arith)
+          rw (turnsOf-step k sol count ce f st b s e) (omega arith)
 
   -- ---- a pass
 
-  pub drive-lookups : Fair → (read : List ℕ) → k ≤ length read → drive k sol ce read .lookups ≤ 1 + (length read - k) * F
+  pub drive-lookups : Fair k sol ce F → (read : List ℕ) → k ≤ length read → drive k sol count ce read .lookups ≤ 1 + (length read - k) * F
   unfolding drive begin
   drive-lookups h read le =
       rw (drive, le-ltb (length read) k le)
       (let y : Kmer = kmer k (take k read) in
       omega (
         arith,
-        lookups-le h (2 * (length read - k)) (begin k sol ce read),
+        lookups-le h (2 * (length read - k)) (begin k sol count ce read),
         ask-cost sol y,
         ahead≤ (h .least) (ask sol y .answer) y (drop k read),
         ap (λ (x : ℕ). F * x) (length-drop k read),
       ))
 
-  pub drive-short : (read : List ℕ) → length read < k → drive k sol ce read .lookups ≡ 0
+  pub drive-short : (read : List ℕ) → length read < k → drive k sol count ce read .lookups ≡ 0
   unfolding drive
   drive-short read lt = rw (drive, lt-ltb (length read) k lt)

@@ -1,12 +1,12 @@
--- Document 02, W3: what the maker of the set file answers, by computation. Serves W3's readings.
+-- Document 02, W3 and W8: what the maker of the set file answers, by computation. Serves W3's and W8's readings.
 use Prim.Native.Nat.{ℕ}
 use mathlib.Core.Path.{_≡_, refl}
 use mathlib.Core.Option.{Option, none, some}
 use mathlib.Core.List.{List, [], _∷_, _++_, map}
 use lib.ListN.{replicate}
 use Rattle.rules.specs.Refusal.{accepted, refused}
-use Rattle.rules.specs.Blocks.{checkOf, Made}
-use Rattle.rules.specs.MakeSet.{textKeys, setWords, setBlocks, textCheck, makeSet}
+use Rattle.rules.specs.Blocks.{checkOf}
+use Rattle.rules.specs.MakeSet.{textKeys, textCounts, setWords, setBlocks, textCheck, SetMade, makeSet}
 use Rattle.rules.specs.Samples.{A, C, T, G, sampleBytes}
 
 -- A line: letters, a comma, digits, byte 10.
@@ -33,31 +33,48 @@ pub sampleChecks : (checkOf (setWords 3 (6 ∷ 23 ∷ 51 ∷ 58 ∷ 60 ∷ [])) 
 unfolding checkOf setWords
 sampleChecks = (refl, refl)
 
--- The text gives 01's bytes, and the buffer's rest is zero; a buffer that fits exactly does. The answer is the length of the blocks, not the buffer's.
+-- The text gives 01's bytes and the lines' counts, and the rest of both buffers is zero; buffers that fit exactly do. The answer is the length of the blocks, not the
+-- buffer's.
 pub sampleMade :
-    (makeSet sampleText 3 1 (replicate 1026 1) ≡ record { answer = accepted 1024; buffer = sampleBytes ++ (0 ∷ 0 ∷ []) })
-    × (makeSet sampleText 3 1 (replicate 1024 1) ≡ record { answer = accepted 1024; buffer = sampleBytes })
+    (makeSet sampleText 3 1 (replicate 1026 1) (replicate 7 1)
+    ≡ record { answer = accepted 1024; blocks = sampleBytes ++ (0 ∷ 0 ∷ []); counts = 9 ∷ 4 ∷ 7 ∷ 5 ∷ 8 ∷ 0 ∷ 0 ∷ [] })
+    × (makeSet sampleText 3 1 (replicate 1024 1) (replicate 5 1) ≡ record { answer = accepted 1024; blocks = sampleBytes; counts = 9 ∷ 4 ∷ 7 ∷ 5 ∷ 8 ∷ [] })
 unfolding makeSet sampleText sampleBytes
 sampleMade = (refl, refl)
 
--- A buffer one byte too short gives 14 and stays as it is; so does an empty one, even where no key is kept.
+-- What a call leaves that gives 14: both buffers as they were.
+pub short : List ℕ → List ℕ → SetMade
+short blocks counts = record { answer = refused (record { number = 14; place = 0 }); blocks = blocks; counts = counts }
+
+-- Blocks one byte too short give 14, and so does a list one too short, and one of length 0 where a key is kept. Blocks of no byte are too short even where no key is
+-- kept.
 pub tooShort :
-    (makeSet sampleText 3 1 (replicate 1023 1) ≡ record { answer = refused (record { number = 14; place = 0 }); buffer = replicate 1023 1 })
-    × (makeSet [] 3 1 [] ≡ record { answer = refused (record { number = 14; place = 0 }); buffer = [] })
-unfolding makeSet sampleText
-tooShort = (refl, refl)
+    (makeSet sampleText 3 1 (replicate 1023 1) (replicate 5 1) ≡ short (replicate 1023 1) (replicate 5 1))
+    × (makeSet sampleText 3 1 (replicate 1024 1) (replicate 4 1) ≡ short (replicate 1024 1) (replicate 4 1))
+    × (makeSet sampleText 3 1 (replicate 1024 1) [] ≡ short (replicate 1024 1) [])
+    × (makeSet [] 3 1 [] [] ≡ short [] [])
+unfolding makeSet sampleText short
+tooShort = (refl, refl, refl, refl)
 
--- No key is kept, of no line or of five: one block.
+-- No key is kept, of no line or of five: one block, and a list of length 0 is long enough; a longer one is all zero.
 pub noKeys :
-    (makeSet [] 3 1 (replicate 512 1) ≡ record { answer = accepted 512; buffer = setBlocks 3 [] })
-    × (makeSet sampleText 3 10 (replicate 512 1) ≡ record { answer = accepted 512; buffer = setBlocks 3 [] })
+    (makeSet [] 3 1 (replicate 512 1) [] ≡ record { answer = accepted 512; blocks = setBlocks 3 []; counts = [] })
+    × (makeSet sampleText 3 10 (replicate 512 1) [] ≡ record { answer = accepted 512; blocks = setBlocks 3 []; counts = [] })
+    × (makeSet sampleText 3 10 (replicate 512 1) (1 ∷ 1 ∷ []) ≡ record { answer = accepted 512; blocks = setBlocks 3 []; counts = 0 ∷ 0 ∷ [] })
 unfolding makeSet sampleText setBlocks
-noKeys = (refl, refl)
+noKeys = (refl, refl, refl)
 
--- The keys of a text.
+-- The keys and the counts of a text.
 pub keysOf : List ℕ → ℕ → List ℕ
 unfolding textKeys
 keysOf text least = textKeys 3 least text
+
+pub countsOf : List ℕ → ℕ → List ℕ
+unfolding textCounts
+countsOf text least = textCounts 3 least text
+
+abbrev nines : List ℕ
+nines = 57 ∷ 57 ∷ 57 ∷ 57 ∷ 57 ∷ 57 ∷ 57 ∷ 57 ∷ 57 ∷ 57 ∷ []
 
 -- Lines whose count is below the least are passed over, one at the least is kept; one that falls but is passed over is no matter. AGT is ACT. A count has ten digits
 -- at most; leading zeros are digits, and 0 is a count. A least count of 2^64 − 1 keeps none.
@@ -66,17 +83,29 @@ pub readings :
     × (keysOf sampleText 18446744073709551615 ≡ [])
     × (textCheck (row CCG (57 ∷ []) ++ row ACT (52 ∷ []) ++ row (A ∷ A ∷ C ∷ []) (57 ∷ [])) 3 5 ≡ none)
     × (keysOf (row CCG (57 ∷ []) ++ row ACT (52 ∷ []) ++ row (A ∷ A ∷ C ∷ []) (57 ∷ [])) 5 ≡ 23 ∷ 58 ∷ [])
-    × (keysOf (row AGT (57 ∷ 57 ∷ 57 ∷ 57 ∷ 57 ∷ 57 ∷ 57 ∷ 57 ∷ 57 ∷ 57 ∷ [])) 9999999999 ≡ 6 ∷ [])
-    × (keysOf (row AGT (57 ∷ 57 ∷ 57 ∷ 57 ∷ 57 ∷ 57 ∷ 57 ∷ 57 ∷ 57 ∷ 57 ∷ [])) 10000000000 ≡ [])
+    × (keysOf (row AGT nines) 9999999999 ≡ 6 ∷ [])
+    × (keysOf (row AGT nines) 10000000000 ≡ [])
     × (keysOf (row ACT (48 ∷ 48 ∷ 48 ∷ 48 ∷ 48 ∷ 48 ∷ 48 ∷ 48 ∷ 49 ∷ 55 ∷ []) ++ row CCG (48 ∷ [])) 17 ≡ 6 ∷ [])
     × (keysOf (row ACT (48 ∷ 48 ∷ []) ++ row CCG (48 ∷ [])) 0 ≡ 6 ∷ 23 ∷ [])
 unfolding keysOf sampleText row textCheck
 readings = (refl, refl, refl, refl, refl, refl, refl, refl)
 
--- What the maker refuses with no buffer at all, for k and the least count: number and place. 14 comes last.
+-- A line that is passed over, CCG,4 here, has no count in the list. 4,294,967,294 and 4,294,967,295 stay; 4,294,967,296 and 9,999,999,999 are held at
+-- 4,294,967,295, and the least count is compared with the count before it is held. 0 is a count.
+pub countReadings :
+    (countsOf sampleText 5 ≡ 9 ∷ 7 ∷ 5 ∷ 8 ∷ [])
+    × (countsOf sampleText 10 ≡ [])
+    × (countsOf (row ACT (52 ∷ 50 ∷ 57 ∷ 52 ∷ 57 ∷ 54 ∷ 55 ∷ 50 ∷ 57 ∷ 52 ∷ []) ++ row CCG (52 ∷ 50 ∷ 57 ∷ 52 ∷ 57 ∷ 54 ∷ 55 ∷ 50 ∷ 57 ∷ 53 ∷ [])) 0
+    ≡ 4294967294 ∷ 4294967295 ∷ [])
+    × (countsOf (row ACT (52 ∷ 50 ∷ 57 ∷ 52 ∷ 57 ∷ 54 ∷ 55 ∷ 50 ∷ 57 ∷ 54 ∷ []) ++ row CCG nines) 4294967296 ≡ 4294967295 ∷ 4294967295 ∷ [])
+    × (countsOf (row ACT (48 ∷ 48 ∷ 48 ∷ 48 ∷ 48 ∷ 48 ∷ 48 ∷ 48 ∷ 49 ∷ 55 ∷ []) ++ row CCG (48 ∷ [])) 0 ≡ 17 ∷ 0 ∷ [])
+unfolding countsOf sampleText row
+countReadings = (refl, refl, refl, refl, refl)
+
+-- What the maker refuses with no buffers at all, for k and the least count: number and place. 14 comes last.
 pub refusalMade : List ℕ → ℕ → ℕ → Option (ℕ × ℕ)
 unfolding makeSet
-refusalMade text k least = elim (makeSet text k least [] .answer) [ accepted n ↦ none | refused r ↦ some (r .number, r .place) ]
+refusalMade text k least = elim (makeSet text k least [] [] .answer) [ accepted n ↦ none | refused r ↦ some (r .number, r .place) ]
 
 -- 13 on line 1 comes before 12 on line 2. Falling; equal; equal by the reverse complement; falling behind a line that was passed over; CCG and AAC rise though
 -- AAC's own code is below CCG's.

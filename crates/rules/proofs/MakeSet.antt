@@ -1,25 +1,25 @@
--- The blocks of a list of keys open as that set, and so do those that an accepted call writes.
-use Prim.Native.Nat.{ℕ, zero, suc, _+_, _*_, _-_, _/_, _%_, _^_, _≤_, _<_}
+-- The blocks of a list of keys open as that set, and so do those that an accepted call writes; and what it leaves in the list of counts.
+use Prim.Native.Nat.{ℕ, zero, suc, _+_, _*_, _-_, _/_, _%_, _^_, _≤_, _<_, min}
 use native.Mathlib.Omega.{arith}
 use native.Mathlib.Nat.{pow-le-pow-right}
 use native.Mathlib.Decide.{decLt}
 use borrow.Author.Tests.{eq-eqb, lt-ltb, le-ltb, le-leb, eqb-true, leb-true, ne-eqb}
 use mathlib.Core.Path.{_≡_, refl, sym, ap, ap₂, _∙_}
-use mathlib.Core.Bool.{Bool, true, false, _||_, not, false≢true}
+use mathlib.Core.Bool.{Bool, true, false, _&&_, _||_, not, false≢true}
 use mathlib.Core.Option.{Option, none, some}
 use mathlib.Core.List.{List, [], _∷_, _++_}
 use lib.Dec.{eqb, ltb, leb, leb·zero, lit<, lit≤}
 use lib.ListN.{length, getD, take, drop, replicate, length-append, List·getD-append, List·getD-eq-default, drop-of-length-le}
-use lib.Seq.{getD-append-add, drop-cons, take-at}
+use lib.Seq.{getD-append-add, drop-cons, take-at, drop-at}
 use Rattle.rules.specs.Letters.{Kmer, add, addAll, kmer, canonical, evenOnes, revcomp, code}
 use Rattle.rules.specs.Refusal.{Refusal, accepted, refused, Check, _orElse_, unless, atPlace, firstFailing}
 use Rattle.rules.specs.Set.{KmerSet, maxK, maxKeys, kRight, blockWord, blocks, headerK, headerN, keyWord, keysFrom, setOf, lengthRight, checkRight, isNone, headerRight, keyRight, setCheck, opened}
-use Rattle.rules.specs.Blocks.{blocksFrom, blocksFor, unmade}
-use Rattle.rules.specs.MakeSet.{Keys, textLines, kept, keptLines, formRight, lineKey, lineKeys, textKeys, unlessAt, risesFrom, lineCheck, lastKept, linesCheck, setWords, setBlocks, textCheck, makeSet}
+use Rattle.rules.specs.Blocks.{blocksFrom, blocksFor, fits, filled}
+use Rattle.rules.specs.MakeSet.{Keys, textLines, kept, keptLines, formRight, lineCount, lineKey, lineKeys, textKeys, maxCount, lineCounts, textCounts, unlessAt, risesFrom, lineCheck, lastKept, linesCheck, setWords, setBlocks, textCheck, SetMade, setUnmade, bothLaid, makeSet}
 use Rattle.rules.proofs.Kmer.{four-pos, add-lt, revcomp-lt, canonical-one}
 use Rattle.rules.proofs.Opened.{both, passed, unless-passed, checked, opened-check, opened-set}
 use Rattle.rules.proofs.Keys.{none-fails, keys-length, keys-at, the-header, spare-zero, checked-keys}
-use Rattle.rules.proofs.Blocks.{Bytes, Words, zeros-at, blocks-length, blocks-at, blocks-checked, blocks-are, Into, into-accepted, into-refused}
+use Rattle.rules.proofs.Blocks.{Bytes, Words, zeros-at, blocks-length, blocks-at, blocks-checked, blocks-are, Into}
 
 -- Tests that all hold.
 pub none-failing : (ok : ℕ → Bool) (i m : ℕ) → ((j : ℕ) → i ≤ j → j < i + m → ok j ≡ true) → firstFailing ok i m ≡ none
@@ -185,7 +185,7 @@ module _ (k : ℕ) (keys : List ℕ) (h : Keys k keys) where
       let e : 63 * (1 + blocksFor n - 1) ≡ 63 * blocksFor n = omega arith in
       rw (size, e) (none-failing (keyRight bytes) 0 (63 * blocksFor n) (λ i l g. right-key i (omega arith)))
 
-  set-is : setOf bytes ≡ record { k = k; keys = keys; index = [] }
+  set-is : setOf bytes ≡ record { k = k; keys = keys; index = []; counts = [] }
   unfolding setOf n
   set-is =
       rw (k-is, n-is, keys-are bytes keys (λ i l. key-is i (omega arith)) 0 (length keys) (omega arith))
@@ -195,7 +195,7 @@ module _ (k : ℕ) (keys : List ℕ) (h : Keys k keys) where
   checks-none = rw (size-right, checks, header, right-keys)
 
   -- The blocks of rising canonical keys below 4^k open, with exactly that k and those keys.
-  pub set-opens : opened (setBlocks k keys) ≡ accepted (record { k = k; keys = keys; index = [] })
+  pub set-opens : opened (setBlocks k keys) ≡ accepted (record { k = k; keys = keys; index = []; counts = [] })
   unfolding bytes opened
   set-opens = rw (checks-none, opened) (ap accepted set-is)
 
@@ -278,12 +278,19 @@ lines-rise k least place before (line ∷ ls) h =
         (later (some (lineKey k line)) (rw (e, lastKept) at rest))
     go false e t rest later = later before (rw (e, lastKept) at rest)
 
--- Each code is a line's.
-line-keys : (k : ℕ) (ls : List (List ℕ)) (i : ℕ) → i < length (lineKeys k ls) → (line : List ℕ) × (getD (lineKeys k ls) i 0 ≡ lineKey k line)
-unfolding lineKeys
-line-keys k [] i h = absurd (omega arith)
-line-keys k (line ∷ ls) zero h = (line, refl)
-line-keys k (line ∷ ls) (suc i) h = line-keys k ls i (omega arith)
+-- Key i and count i are those of line i.
+line-at : (k : ℕ) (ls : List (List ℕ)) (i : ℕ) → i < length (lineKeys k ls) → let line = getD ls i [] in
+    (getD (lineKeys k ls) i 0 ≡ lineKey k line) × (getD (lineCounts k ls) i 0 ≡ min (lineCount k line) maxCount)
+unfolding lineKeys lineCounts
+line-at k [] i h = absurd (omega arith)
+line-at k (line ∷ ls) zero h = (refl, refl)
+line-at k (line ∷ ls) (suc i) h = line-at k ls i (omega arith)
+
+-- Of a text, they are those of kept line i.
+pub text-line-at : (k least : ℕ) (text : List ℕ) (i : ℕ) → i < length (textKeys k least text) → let line = getD (keptLines k least (textLines text)) i [] in
+    (getD (textKeys k least text) i 0 ≡ lineKey k line) × (getD (textCounts k least text) i 0 ≡ min (lineCount k line) maxCount)
+unfolding textKeys textCounts
+text-line-at k least text = line-at k (keptLines k least (textLines text))
 
 pub line-key-lt : (k : ℕ) (line : List ℕ) → lineKey k line < 4 ^ k
 unfolding lineKey
@@ -310,49 +317,127 @@ text-keys text k least h =
     let a = passed (unless (kRight k) 9) (lines-right orElse few) h in
     let b = passed lines-right few (a .1) in
     let odd = k-odd-of k (unless-passed (kRight k) 9 (a .0)) in
-    let line : (i : ℕ) → i < length keys → (line : List ℕ) × (getD keys i 0 ≡ lineKey k line) = line-keys k (keptLines k least (textLines text)) in
+    let line : (i : ℕ) → List ℕ = λ i. getD (keptLines k least (textLines text)) i [] in
+    let key-is : (i : ℕ) → i < length keys → getD keys i 0 ≡ lineKey k (line i) = λ i l. text-line-at k least text i l .0 in
     record {
       k-odd = odd .0;
       k-high = odd .1;
       few = leb-true (length keys) maxKeys (unless-passed (leb (length keys) maxKeys) 9 (b .1));
-      same = λ i l. rw (line i l .1) (line-key-same k (line i l .0) (odd .0));
-      small = λ i l. rw (line i l .1) (line-key-lt k (line i l .0));
+      same = λ i l. rw (key-is i l) (line-key-same k (line i) (odd .0));
+      small = λ i l. rw (key-is i l) (line-key-lt k (line i));
       rising = rises-at (lines-rise k least 0 none (textLines text) (b .0));
     }
 
+-- ---- the counts that a text gives
+
+counts-length : (k : ℕ) (ls : List (List ℕ)) → length (lineCounts k ls) ≡ length (lineKeys k ls)
+unfolding lineCounts lineKeys
+counts-length k [] = refl
+counts-length k (line ∷ ls) = ap suc (counts-length k ls)
+
+-- There is one count for each key.
+pub text-counts-length : (k least : ℕ) (text : List ℕ) → length (textCounts k least text) ≡ length (textKeys k least text)
+unfolding textCounts textKeys
+text-counts-length k least text = counts-length k (keptLines k least (textLines text))
+
+counts-small : (k : ℕ) (ls : List (List ℕ)) (i : ℕ) → getD (lineCounts k ls) i 0 < 2 ^ 32
+unfolding lineCounts
+counts-small k [] i = lit< tt
+counts-small k (line ∷ ls) zero = omega arith
+counts-small k (line ∷ ls) (suc i) = counts-small k ls i
+
+-- Each is a 32-bit number.
+pub text-counts-small : (k least : ℕ) (text : List ℕ) (i : ℕ) → getD (textCounts k least text) i 0 < 2 ^ 32
+unfolding textCounts
+text-counts-small k least text i = counts-small k (keptLines k least (textLines text)) i
+
 -- ---- the call
 
--- A call that is accepted: no check refused, and what it leaves.
-pub record Laid (text : List ℕ) (k least : ℕ) (buffer : List ℕ) (size : ℕ) : Type 0 where
+-- A call that is accepted: no check refused, and what it leaves in blocks and counts.
+pub record Laid (text : List ℕ) (k least : ℕ) (blocks counts : List ℕ) (size : ℕ) : Type 0 where
   pub checks : textCheck text k least ≡ none
-  pub into : Into buffer (setBlocks k (textKeys k least text)) size (makeSet text k least buffer .buffer)
+  pub into : Into blocks (setBlocks k (textKeys k least text)) size (makeSet text k least blocks counts .blocks)
+  pub into-counts : Into counts (textCounts k least text) (length (textKeys k least text)) (makeSet text k least blocks counts .counts)
 
-pub made-laid : (text : List ℕ) (k least : ℕ) (buffer : List ℕ) (size : ℕ) → makeSet text k least buffer .answer ≡ accepted size
-    → Laid text k least buffer size
-unfolding makeSet unmade
-made-laid text k least buffer size h = go (textCheck text k least) refl
-  where
-    go : (c : Check) → textCheck text k least ≡ c → Laid text k least buffer size
-    go none e = record { checks = e; into = rw (e, makeSet) (into-accepted buffer (setBlocks k (textKeys k least text)) size (rw (e, makeSet) at h)) }
-    go (some r) e = absurd (let a : refused r ≡ accepted size = rw (e, makeSet) at h in let z : _≡_ {A = ℕ} 0 1 = cc in omega arith)
+-- Two lists laid into two buffers.
+module _ (blocks counts bytes list : List ℕ) where
+  both-fit : (size n : ℕ) → length list ≡ n → bothLaid blocks counts bytes list .answer ≡ accepted size
+      → Into blocks bytes size (bothLaid blocks counts bytes list .blocks) × Into counts list n (bothLaid blocks counts bytes list .counts)
+  unfolding bothLaid setUnmade fits filled
+  both-fit size n n-is h = go (leb (length bytes) (length blocks) && leb (length list) (length counts)) refl
+    where
+      go : (t : Bool) → (leb (length bytes) (length blocks) && leb (length list) (length counts)) ≡ t
+          → Into blocks bytes size (bothLaid blocks counts bytes list .blocks) × Into counts list n (bothLaid blocks counts bytes list .counts)
+      go true e =
+          let a : accepted (length bytes) ≡ accepted size = rw (e, bothLaid) at h in
+          let l : length bytes ≡ size = cc in
+          let f = both (leb (length bytes) (length blocks)) (leb (length list) (length counts)) e in (
+            record {
+              long = l;
+              room = omega (arith, leb-true (length bytes) (length blocks) (f .0));
+              buffer-is = rw (e, bothLaid) (ap (λ (m : ℕ). bytes ++ replicate (length blocks - m) 0) l);
+            },
+            record {
+              long = n-is;
+              room = omega (arith, leb-true (length list) (length counts) (f .1));
+              buffer-is = rw (e, bothLaid) (ap (λ (m : ℕ). list ++ replicate (length counts - m) 0) n-is);
+            },
+          )
+      go false e =
+          absurd (let a : refused (record { number = 14; place = 0 }) ≡ accepted size = rw (e, bothLaid) at h in let z : _≡_ {A = ℕ} 0 1 = cc in omega arith)
 
--- What an accepted call writes opens with exactly the kept lines' keys in order.
-pub made-opens : (text : List ℕ) (k least : ℕ) (buffer : List ℕ) (size : ℕ) → makeSet text k least buffer .answer ≡ accepted size
-    → opened (take size (makeSet text k least buffer .buffer)) ≡ accepted (record { k = k; keys = textKeys k least text; index = [] })
-made-opens text k least buffer size h =
-    let l = made-laid text k least buffer size h in
-    rw (l .into .buffer-is, take-at (setBlocks k (textKeys k least text)) (replicate (length buffer - size) 0) size (l .into .long))
-    (set-opens k (textKeys k least text) (text-keys text k least (l .checks)))
+  both-unchanged : (r : Refusal) → bothLaid blocks counts bytes list .answer ≡ refused r
+      → (bothLaid blocks counts bytes list .blocks ≡ blocks) × (bothLaid blocks counts bytes list .counts ≡ counts)
+  unfolding bothLaid setUnmade fits
+  both-unchanged r h = go (leb (length bytes) (length blocks) && leb (length list) (length counts)) refl
+    where
+      go : (t : Bool) → (leb (length bytes) (length blocks) && leb (length list) (length counts)) ≡ t
+          → (bothLaid blocks counts bytes list .blocks ≡ blocks) × (bothLaid blocks counts bytes list .counts ≡ counts)
+      go true e =
+          absurd (let a : accepted (length bytes) ≡ refused r = rw (e, bothLaid) at h in let z : _≡_ {A = ℕ} 0 1 = cc in omega arith)
+      go false e = rw (e, bothLaid) (refl, refl)
 
--- A refusal leaves the buffer unchanged.
-pub refused-unchanged : (text : List ℕ) (k least : ℕ) (buffer : List ℕ) (r : Refusal) → makeSet text k least buffer .answer ≡ refused r
-    → makeSet text k least buffer .buffer ≡ buffer
-unfolding makeSet unmade
-refused-unchanged text k least buffer r h = go (textCheck text k least) refl
-  where
-    go : (c : Check) → textCheck text k least ≡ c → makeSet text k least buffer .buffer ≡ buffer
-    go none e = rw (e, makeSet) (into-refused buffer (setBlocks k (textKeys k least text)) r (rw (e, makeSet) at h))
-    go (some q) e = rw (e, makeSet)
+module _ (text : List ℕ) (k least : ℕ) (blocks counts : List ℕ) where
+  pub made-laid : (size : ℕ) → makeSet text k least blocks counts .answer ≡ accepted size → Laid text k least blocks counts size
+  unfolding makeSet setUnmade
+  made-laid size h = go (textCheck text k least) refl
+    where
+      go : (c : Check) → textCheck text k least ≡ c → Laid text k least blocks counts size
+      go none e =
+          let f = both-fit blocks counts (setBlocks k (textKeys k least text)) (textCounts k least text) size _ (text-counts-length k least text) (rw (e, makeSet) at h) in
+          record { checks = e; into = rw (e, makeSet) (f .0); into-counts = rw (e, makeSet) (f .1) }
+      go (some r) e = absurd (let a : refused r ≡ accepted size = rw (e, makeSet) at h in let z : _≡_ {A = ℕ} 0 1 = cc in omega arith)
+
+  -- What an accepted call writes opens with exactly the kept lines' keys in order.
+  pub made-opens : (size : ℕ) → makeSet text k least blocks counts .answer ≡ accepted size
+      → opened (take size (makeSet text k least blocks counts .blocks)) ≡ accepted (record { k = k; keys = textKeys k least text; index = []; counts = [] })
+  made-opens size h =
+      let l = made-laid size h in
+      rw (l .into .buffer-is, take-at (setBlocks k (textKeys k least text)) (replicate (length blocks - size) 0) size (l .into .long))
+      (set-opens k (textKeys k least text) (text-keys text k least (l .checks)))
+
+  -- The first n numbers of the list are the counts of its n keys in order; so offered with the set they are as many as it has keys (16).
+  pub made-counts : (size : ℕ) → makeSet text k least blocks counts .answer ≡ accepted size
+      → let n = length (textKeys k least text) in
+      (take n (makeSet text k least blocks counts .counts) ≡ textCounts k least text)
+      × (length (take n (makeSet text k least blocks counts .counts)) ≡ n)
+      × (drop n (makeSet text k least blocks counts .counts) ≡ replicate (length counts - n) 0)
+  made-counts size h =
+      let i = made-laid size h .into-counts in
+      let n : ℕ = length (textKeys k least text) in
+      let rest : List ℕ = replicate (length counts - n) 0 in
+      let first : take n (makeSet text k least blocks counts .counts) ≡ textCounts k least text = rw (i .buffer-is, take-at (textCounts k least text) rest n (i .long)) in
+      (first, ap length first ∙ i .long, rw (i .buffer-is, drop-at (textCounts k least text) rest n (i .long)))
+
+  -- A refusal leaves both unchanged.
+  pub refused-unchanged : (r : Refusal) → makeSet text k least blocks counts .answer ≡ refused r
+      → (makeSet text k least blocks counts .blocks ≡ blocks) × (makeSet text k least blocks counts .counts ≡ counts)
+  unfolding makeSet setUnmade
+  refused-unchanged r h = go (textCheck text k least) refl
+    where
+      go : (c : Check) → textCheck text k least ≡ c → (makeSet text k least blocks counts .blocks ≡ blocks) × (makeSet text k least blocks counts .counts ≡ counts)
+      go none e = rw (e, makeSet) (both-unchanged blocks counts (setBlocks k (textKeys k least text)) (textCounts k least text) r (rw (e, makeSet) at h))
+      go (some q) e = rw (e, makeSet) (refl, refl)
 
 -- ---- and back
 

@@ -1,11 +1,14 @@
 -- What document 01 says the program prints, by computation.
 use Prim.Native.Nat.{ℕ}
-use mathlib.Core.Path.{_≡_, refl}
+use mathlib.Core.Path.{_≡_, refl, ap, _∙_}
 use mathlib.Core.Option.{Option, none, some}
 use mathlib.Core.List.{List, [], _∷_, _++_, map}
 use lib.ListN.{replicate}
-use Rattle.rules.specs.Program.{Files, badFile, decimal, printed}
-use Rattle.rules.specs.Samples.{A, C, T, G, sampleBytes}
+use Rattle.rules.specs.Job.{lines}
+use Rattle.rules.specs.Calls.{Given, callBy, givenCheck, batchRight, correctBatch}
+use Rattle.rules.specs.Program.{Files, badFile, decimal, printedFor, callOf, printed}
+use Rattle.rules.specs.Samples.{A, C, T, G, sampleSet, sampleBytes}
+use Rattle.rules.proofs.Samples.{sampleOpens, batchBy}
 
 -- 0 has one digit, and the largest number of 64 bits twenty.
 pub decimals :
@@ -15,6 +18,11 @@ pub decimals :
 unfolding decimal
 decimals = refl
 
+-- By the call that the files make.
+printedBy : (files : Files) (g : Given) → callOf files ≡ some g → printed files ≡ printedFor (correctBatch g)
+unfolding printed
+printedBy files g e = rw (printed, e)
+
 -- The printed case: job 3, 1 with lines AACGCCG and AA, whole.
 pub printedWhole :
     printed (record { set = some sampleBytes; job = some (3 ∷ 1 ∷ []); batch = some (A ∷ A ∷ C ∷ G ∷ C ∷ C ∷ G ∷ 10 ∷ A ∷ A ∷ 10 ∷ []) })
@@ -22,8 +30,8 @@ pub printedWhole :
     ∷ 116 ∷ 117 ∷ 114 ∷ 110 ∷ 115 ∷ 32 ∷ 49 ∷ 32  -- turns 1
     ∷ 108 ∷ 111 ∷ 111 ∷ 107 ∷ 117 ∷ 112 ∷ 115 ∷ 32 ∷ 50 ∷ 49 ∷ 32  -- lookups 21
     ∷ 119 ∷ 114 ∷ 105 ∷ 116 ∷ 116 ∷ 101 ∷ 110 ∷ 32 ∷ 49 ∷ 49 ∷ 10 ∷ []  -- written 11
-unfolding printed sampleBytes
-printedWhole = refl
+unfolding printedFor callOf callBy givenCheck batchRight lines sampleSet sampleBytes
+printedWhole = printedBy _ _ refl ∙ ap printedFor (batchBy _ (sampleOpens .0))
 
 -- The unknown method of job 3, 1, 5, 1: refused 3 place 1, and nothing else.
 pub printedRefusal :
@@ -53,5 +61,5 @@ pub printedCopy :
     ∷ 116 ∷ 117 ∷ 114 ∷ 110 ∷ 115 ∷ 32 ∷ 48 ∷ 32  -- turns 0
     ∷ 108 ∷ 111 ∷ 111 ∷ 107 ∷ 117 ∷ 112 ∷ 115 ∷ 32 ∷ 48 ∷ 32  -- lookups 0
     ∷ 119 ∷ 114 ∷ 105 ∷ 116 ∷ 116 ∷ 101 ∷ 110 ∷ 32 ∷ 51 ∷ 10 ∷ []  -- written 3
-unfolding printed sampleBytes
-printedCopy = refl
+unfolding printedFor callOf callBy givenCheck batchRight lines sampleSet sampleBytes
+printedCopy = printedBy _ _ refl ∙ ap printedFor (batchBy _ (sampleOpens .0))

@@ -5,14 +5,14 @@ use mathlib.Core.Option.{Option, none, some}
 use mathlib.Core.List.{List, [], _∷_, _++_, map}
 use lib.ListN.{replicate, set}
 use Rattle.rules.specs.Letters.{Kmer, code, letter, complement, kmer, inPlace}
-use Rattle.rules.specs.Refusal.{accepted, refused}
+use Rattle.rules.specs.Refusal.{Outcome, accepted, refused, _orElse_, unless}
 use Rattle.rules.specs.Set.{KmerSet, solid, check, opened}
 use Rattle.rules.specs.Scan.{fourCost}
 use Rattle.rules.specs.Solid.{solidsOf}
 use Rattle.rules.specs.Driver.{Pass}
-use Rattle.rules.specs.Job.{Entry, entriesOf, pass, result}
+use Rattle.rules.specs.Job.{Entry, entriesOf, lines, pass, result}
 use Rattle.rules.specs.Counts.{Fed, sum, allPasses, turns, lookups, ceiling}
-use Rattle.rules.specs.Calls.{Given, After, correctRead, correctBatch}
+use Rattle.rules.specs.Calls.{Given, After, callBy, givenCheck, batchRight, correctRead, correctBatch}
 use Rattle.rules.specs.Samples.{A, C, T, G, N, AACGTC, AACGCCG, AACTCCG, sampleSet, sampleBytes, Sample, line, table, unknownTable, JobSample, jobLine, jobTable}
 use Rattle.rules.specs.Scenarios.{OnSet, on, scenarioTable}
 
@@ -93,33 +93,53 @@ pub sampleOpens : (opened sampleBytes ≡ accepted sampleSet) × (check sampleBy
 unfolding opened check sampleBytes sampleSet
 sampleOpens = (refl, refl, refl)
 
+-- What it says of other bytes: none; a wrong check in block 1; k = 2; key 1 equal to key 0.
+pub otherOpens :
+    (opened [] ≡ refused (record { number = 7; place = 0 }))
+    × (opened (set sampleBytes 520 7) ≡ refused (record { number = 8; place = 1 }))
+    × (opened (set (set sampleBytes 0 2) 504 8) ≡ refused (record { number = 9; place = 0 }))
+    × (opened (set (set sampleBytes 520 6) 1016 183) ≡ refused (record { number = 10; place = 1 }))
+unfolding opened sampleBytes
+otherOpens = (refl, refl, refl, refl)
+
 -- ---- calls
+
+-- A call by what its set's bytes open to: the sample's are opened above, and not again for every call below.
+pub readBy : (g : Given) {o : Outcome KmerSet} → opened (g .set) ≡ o → correctRead g ≡ callBy o [] (g .input ∷ []) (givenCheck g) g
+unfolding correctRead
+readBy g e = λ i. callBy (e i) [] (g .input ∷ []) (givenCheck g) g
+
+pub batchBy : (g : Given) {o : Outcome KmerSet} → opened (g .set) ≡ o
+    → correctBatch g ≡ callBy o (10 ∷ []) (lines (g .input)) (givenCheck g orElse unless (batchRight (g .input)) 6) g
+unfolding correctBatch
+batchBy g e = λ i. callBy (e i) (10 ∷ []) (lines (g .input)) (givenCheck g orElse unless (batchRight (g .input)) 6) g
 
 -- A call on a set's bytes: job and input, and the lengths of output and work, both filled with 1.
 unfoldable pub given : List ℕ → List ℕ → List ℕ → ℕ → ℕ → Given
-given bytes job input out work = record { set = bytes; index = []; job = job; input = input; output = replicate out 1; work = replicate work 1 }
+given bytes job input out work =
+    record { set = bytes; index = []; counts = []; job = job; input = input; output = replicate out 1; work = replicate work 1 }
 
 -- Job 3, 1 with lines AACGCCG and AA: both lines, 1 turn, 21 lookups, 11 bytes, and zeros behind them.
 pub printedCase :
     correctBatch (given sampleBytes (3 ∷ 1 ∷ []) (AACGCCG ++ (10 ∷ A ∷ A ∷ 10 ∷ [])) 12 24)
     ≡ record {
-      answer = accepted (record { written = 11; turns = 1; lookups = 21; attempts = 1; accepted = 1; yield = 1000 });
+      answer = accepted (record { written = 11; turns = 1; lookups = 21; attempts = 1; accepted = 1; yield = 1000; support = none });
       output = A ∷ A ∷ C ∷ T ∷ C ∷ C ∷ G ∷ 10 ∷ A ∷ A ∷ 10 ∷ 0 ∷ [];
       work = replicate 24 0;
     }
-unfolding correctBatch given sampleBytes
-printedCase = refl
+unfolding callBy givenCheck batchRight lines given sampleSet
+printedCase = batchBy _ (sampleOpens .0)
 
 -- Every line is corrected, each to a read of its own: AACGC and AACGCCG under One.
 pub bothLines :
     correctBatch (given sampleBytes (1 ∷ 1 ∷ []) (A ∷ A ∷ C ∷ G ∷ C ∷ 10 ∷ (AACGCCG ++ (10 ∷ []))) 14 28)
     ≡ record {
-      answer = accepted (record { written = 14; turns = 6; lookups = 28; attempts = 2; accepted = 2; yield = 1000 });
+      answer = accepted (record { written = 14; turns = 6; lookups = 28; attempts = 2; accepted = 2; yield = 1000; support = none });
       output = A ∷ A ∷ C ∷ T ∷ C ∷ 10 ∷ A ∷ A ∷ C ∷ T ∷ C ∷ C ∷ G ∷ 10 ∷ [];
       work = replicate 28 0;
     }
-unfolding correctBatch given sampleBytes
-bothLines = refl
+unfolding callBy givenCheck batchRight lines given sampleSet
+bothLines = batchBy _ (sampleOpens .0)
 
 -- What a call refuses: number and place.
 unfoldable pub refusalOf : After → Option (ℕ × ℕ)
@@ -161,5 +181,17 @@ pub refusals :
     ∷ [])
     ≡ some (5, 0) ∷ some (6, 0) ∷ some (7, 0) ∷ some (8, 1) ∷ some (9, 0) ∷ some (10, 1)
     ∷ none ∷ some (11, 0) ∷ some (11, 1) ∷ some (11, 0) ∷ []
-unfolding correctRead correctBatch given sampleBytes refusalOf
-refusals = refl
+unfolding callBy givenCheck batchRight lines given sampleSet refusalOf
+refusals =
+    λ i. map refusalOf
+    (readBy (given sampleBytes (1 ∷ 1 ∷ []) AACGTC 9 17) (sampleOpens .0) i
+    ∷ batchBy (given sampleBytes (1 ∷ 1 ∷ []) AACGTC 9 18) (sampleOpens .0) i
+    ∷ readBy (given [] (1 ∷ 1 ∷ []) AACGTC 9 18) (otherOpens .0) i
+    ∷ readBy (given (set sampleBytes 520 7) (1 ∷ 1 ∷ []) AACGTC 9 18) (otherOpens .1) i
+    ∷ readBy (given (set (set sampleBytes 0 2) 504 8) (1 ∷ 1 ∷ []) AACGTC 9 18) (otherOpens .2) i
+    ∷ readBy (given (set (set sampleBytes 520 6) 1016 183) (1 ∷ 1 ∷ []) AACGTC 9 18) (otherOpens .3) i
+    ∷ readBy (given sampleBytes (1 ∷ 1 ∷ []) AACGTC 5 12) (sampleOpens .0) i
+    ∷ readBy (given sampleBytes (3 ∷ 1 ∷ 1 ∷ 1 ∷ []) AACGTC 5 12) (sampleOpens .0) i
+    ∷ batchBy (given sampleBytes [] (A ∷ 10 ∷ 10 ∷ []) 2 6) (sampleOpens .0) i
+    ∷ batchBy (given sampleBytes [] (10 ∷ []) 0 2) (sampleOpens .0) i
+    ∷ [])

@@ -11,10 +11,10 @@ use mathlib.Core.Option.{Option, none, some, Option·some-injective, Option·non
 use mathlib.Core.List.{List, [], _∷_, _++_, append-assoc}
 use lib.ListN.{length}
 use lib.Dec.{eqb}
-use Rattle.rules.specs.Letters.{Kmer, same, met, lastLetter}
+use Rattle.rules.specs.Letters.{Kmer, same, met}
 use Rattle.rules.specs.Counted.{refuse}
 use Rattle.rules.specs.Scan.{ask, sole}
-use Rattle.rules.specs.Graph.{All, end, also, Distinct, end-distinct, also-distinct, spell, OnlySuccessor, Moves, move, more, Chain, Walk, start, moved, halt, walk, walkFrom}
+use Rattle.rules.specs.Graph.{All, end, also, Distinct, end-distinct, also-distinct, OnlySuccessor, Moves, move, more, Chain, Walk, start, moved, halt, walk, walkFrom}
 use Rattle.rules.proofs.Scan.{ask-known, sole-is, sole-found, sole-lt, sole-cost}
 use Rattle.rules.proofs.Kmer.{same-true, same-self, same-ne, same-false}
 use Rattle.rules.proofs.Few.{or-right, or-false, SolidKmer, Few}
@@ -91,7 +91,7 @@ module _ (k : ℕ) (sol : ℕ → Bool) where
 
     module _ (y : Kmer) (e : sole k sol (w .at) .answer ≡ some y) where
       walk-hit : same y t ≡ true
-          → walk k sol (suc f) t w ≡ record { answer = some (w .letters ++ (lastLetter y ∷ [])); lookups = w .lookups + cost }
+          → walk k sol (suc f) t w ≡ record { answer = some (w .seen ++ (y ∷ [])); lookups = w .lookups + cost }
       unfolding walk
       walk-hit h = rw (e, walk, h)
 
@@ -145,8 +145,8 @@ module _ (k : ℕ) (sol : ℕ → Bool) where
 
   -- a chain is found: the mark is behind
   complete : (f : ℕ) (t : Kmer) (w : Walk) (y : Kmer) (zs : List Kmer) → w .at ≡ y → Moves k sol y zs t → Distinct zs → met (w .mark) zs ≡ false
-      → length zs ≤ f → walk k sol f t w .answer ≡ some (w .letters ++ spell zs)
-  unfolding spell met moved
+      → length zs ≤ f → walk k sol f t w .answer ≡ some (w .seen ++ zs)
+  unfolding met moved
   complete zero t w y (z ∷ zs) e m d a h = absurd (omega arith)
   complete (suc f) t w y (z ∷ []) e (move o) d a h =
       rw (walk-hit k sol f z w z (rw e (sole-found k sol y z o)) (same-self z (ask-known sol z (o .is-solid))))
@@ -160,17 +160,17 @@ module _ (k : ℕ) (sol : ℕ → Bool) where
       ⊎-elim (λ c. ap (λ (u : Kmer). met u zs) (c .1) ∙ nz) (λ c. ap (λ (u : Kmer). met u zs) (c .1) ∙ r .1) (q .marks) in
       let i = complete f t v z zs refl m d behind (omega arith) in
       rw (walk-goes k sol f t w z (rw e (sole-found k sol y z o)) (same-ne z t nt) (same-ne z (w .mark) nm))
-      (i ∙ ap {B = Option (List ℕ)} some (append-assoc (w .letters) (lastLetter z ∷ []) (spell zs)))
+      (i ∙ ap {B = Option (List Kmer)} some (append-assoc (w .seen) (z ∷ []) zs))
 
   -- what is accepted is the way to the first t
-  record Found (t : Kmer) (w : Walk) (ls : List ℕ) : Type 0 where
+  record Found (t : Kmer) (w : Walk) (ls : List Kmer) : Type 0 where
     via : List Kmer
     moves : Moves k sol (w .at) via t
     first : First t via
-    spelled : ls ≡ w .letters ++ spell via
+    all : ls ≡ w .seen ++ via
 
-  sound : (f : ℕ) (t : Kmer) (w : Walk) (ls : List ℕ) → walk k sol f t w .answer ≡ some ls → Found t w ls
-  unfolding walk halt spell moved
+  sound : (f : ℕ) (t : Kmer) (w : Walk) (ls : List Kmer) → walk k sol f t w .answer ≡ some ls → Found t w ls
+  unfolding walk halt moved
   sound zero t w ls h = absurd (Option·none-ne-some ls h)
   sound (suc f) t w ls h = go (λ v. sound f t v ls) (sole k sol (w .at) .answer) refl
     where
@@ -189,8 +189,8 @@ module _ (k : ℕ) (sol : ℕ → Bool) where
                 via = t ∷ [];
                 moves = move (subst (λ (z : Kmer). OnlySuccessor k sol (w .at) z) yt o);
                 first = first-one;
-                spelled = sym (Option·some-injective (w .letters ++ (lastLetter y ∷ [])) ls (rw (walk-hit k sol f t w y e e1) at h))
-                    ∙ ap (λ (z : Kmer). w .letters ++ (lastLetter z ∷ [])) yt;
+                all = sym (Option·some-injective (w .seen ++ (y ∷ [])) ls (rw (walk-hit k sol f t w y e e1) at h))
+                    ∙ ap (λ (z : Kmer). w .seen ++ (z ∷ [])) yt;
               }
           on false e1 true e2 = absurd (Option·none-ne-some ls (rw (walk-loop k sol f t w y e e1 e2) at h))
           on false e1 false e2 =
@@ -199,7 +199,7 @@ module _ (k : ℕ) (sol : ℕ → Bool) where
                 via = y ∷ i .via;
                 moves = more o (i .moves);
                 first = first-more (same-false y t (ask-known sol y (o .is-solid)) e1) (i .first);
-                spelled = i .spelled ∙ append-assoc (w .letters) (lastLetter y ∷ []) (spell (i .via));
+                all = i .all ∙ append-assoc (w .seen) (y ∷ []) (i .via);
               }
 
 -- ---- from x on, by sole successors
@@ -299,21 +299,21 @@ module _ (k n : ℕ) (sol : ℕ → Bool) (few : Few k n sol) (x : Kmer) (good :
   moves-good (move {y = y} {t = t} o) = also (sole-lt k sol y t (sole-found k sol y t o), o .is-solid) end
   moves-good (more {y = y} {z = z} o m) = also (sole-lt k sol y z (sole-found k sol y z o), o .is-solid) (moves-good m)
 
-  pub chain-found : (t : Kmer) (c : Chain k sol x t) → walkFrom k n sol t x .answer ≡ some (spell (x ∷ c .via))
-  unfolding walkFrom start spell SolidKmer Few
+  pub chain-found : (t : Kmer) (c : Chain k sol x t) → walkFrom k n sol t x .answer ≡ some (x ∷ c .via)
+  unfolding walkFrom start SolidKmer Few
   chain-found t c = go (c .distinct)
     where
-      go : Distinct (x ∷ c .via) → walkFrom k n sol t x .answer ≡ some (spell (x ∷ c .via))
+      go : Distinct (x ∷ c .via) → walkFrom k n sol t x .answer ≡ some (x ∷ c .via)
       go (also-distinct nx d) =
           let xt : x ≡ t → ⊥ = λ e. true≢false (sym (last-met k sol (c .moves)) ∙ ap (λ (u : Kmer). met u (c .via)) (sym e) ∙ nx) in
           let l = few (x ∷ c .via) (c .distinct) (also good (moves-good (c .moves))) in
           rw (same-ne x t xt, walkFrom) (complete k sol (6 * n) t (start x) x (c .via) refl (c .moves) d nx (omega arith))
 
-  pub found-chain : (t : Kmer) (ls : List ℕ) → walkFrom k n sol t x .answer ≡ some ls → (c : Chain k sol x t) × (ls ≡ spell (x ∷ c .via))
-  unfolding walkFrom refuse start spell SolidKmer
+  pub found-chain : (t : Kmer) (ls : List Kmer) → walkFrom k n sol t x .answer ≡ some ls → (c : Chain k sol x t) × (ls ≡ x ∷ c .via)
+  unfolding walkFrom refuse start SolidKmer
   found-chain t ls h = go (same x t) refl
     where
-      go : (b : Bool) → same x t ≡ b → (c : Chain k sol x t) × (ls ≡ spell (x ∷ c .via))
+      go : (b : Bool) → same x t ≡ b → (c : Chain k sol x t) × (ls ≡ x ∷ c .via)
       go true e = absurd (Option·none-ne-some ls (rw (e, walkFrom) at h))
       go false e =
           let w = sound k sol (6 * n) t (start x) ls (rw (e, walkFrom) at h) in (
@@ -323,7 +323,7 @@ module _ (k n : ℕ) (sol : ℕ → Bool) (few : Few k n sol) (x : Kmer) (good :
               all-solid = also (good .1) (moves-solid k sol (w .moves));
               distinct = distinct-first k sol (same-false x t (ask-known sol x (good .1)) e) (w .moves) (w .first);
             },
-            w .spelled,
+            w .all,
           )
 
   -- ---- the fuel is enough

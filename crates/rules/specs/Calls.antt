@@ -1,5 +1,5 @@
 -- Document 01, refusals 1 to 6 and 11, and what the single-read and the batch call answer and leave in the lent buffers; document 02, W1,
--- W7: an index may be offered with the set (refusal 15).
+-- W7: an index may be offered with the set (refusal 15), W8: and the keys' counts (refusal 16).
 use Prim.Native.Nat.{ℕ, suc, _+_, _*_, _-_, max}
 use mathlib.Core.Bool.{Bool, true, false, _&&_, _||_}
 use mathlib.Core.Option.{Option, none, some}
@@ -12,7 +12,7 @@ use Rattle.rules.specs.Index.{indexCheck}
 use Rattle.rules.specs.Driver.{Pass}
 use Rattle.rules.specs.Job.{Entry, known, methodByte, confirmByte, entryCount, entriesOf, lines, pass, result}
 use Rattle.rules.specs.Report.{Report, yieldOf}
-use Rattle.rules.specs.Counts.{Fed, sum, allPasses, turns, lookups, attempts, corrections}
+use Rattle.rules.specs.Counts.{Fed, sum, allPasses, turns, lookups, attempts, corrections, supportOver}
 
 -- ---- the limits
 
@@ -56,10 +56,12 @@ batchRight batch =
 
 -- ---- the calls
 
--- What a call is given: the set's bytes, an index's bytes (empty: not offered), the job's bytes, a read or a batch, and the two lent buffers.
+-- What a call is given: the set's bytes, an index's bytes and a list of counts (empty: not offered), the job's bytes, a read or a batch, and
+-- the two lent buffers.
 pub record Given : Type 0 where
   pub set : List ℕ
   pub index : List ℕ
+  pub counts : List ℕ
   pub job : List ℕ
   pub input : List ℕ
   pub output : List ℕ
@@ -67,7 +69,12 @@ pub record Given : Type 0 where
 
 -- The same with no index offered.
 unfoldable pub withoutIndex : Given → Given
-withoutIndex g = record { set = g .set; index = []; job = g .job; input = g .input; output = g .output; work = g .work }
+withoutIndex g =
+    record { set = g .set; index = []; counts = g .counts; job = g .job; input = g .input; output = g .output; work = g .work }
+
+-- The same with no counts offered.
+unfoldable pub withoutCounts : Given → Given
+withoutCounts g = record { set = g .set; index = g .index; counts = []; job = g .job; input = g .input; output = g .output; work = g .work }
 
 -- What a call answers, and every byte of the two buffers afterwards.
 pub record After : Type 0 where
@@ -75,7 +82,7 @@ pub record After : Type 0 where
   pub output : List ℕ
   pub work : List ℕ
 
--- Refusals 1 to 10 and 15: no lent byte is changed.
+-- Refusals 1 to 10, 15 and 16: no lent byte is changed.
 unfoldable pub unchanged : Given → Refusal → After
 unchanged g r = record { answer = refused r; output = g .output; work = g .work }
 
@@ -112,9 +119,9 @@ module _ (set : KmerSet) (es : List Entry) (ending : List ℕ) where
   results [] = []
   results (read ∷ reads) = result set es read ++ (ending ++ results reads)
 
-  -- The report: numbers are sums over all passes, yield from the sums.
+  -- The report: numbers are sums over all passes, yield from the sums; support is none where no counts are offered.
   unfoldable pub report : List (List ℕ) → Report
-  unfolding results allPasses sum turns lookups attempts corrections yieldOf
+  unfolding results allPasses sum turns lookups attempts corrections supportOver yieldOf
   report reads =
       let ps : List Fed = allPasses set es reads in
       record {
@@ -124,6 +131,7 @@ module _ (set : KmerSet) (es : List Entry) (ending : List ℕ) where
         attempts = sum (attempts set) ps;
         accepted = sum (corrections set) ps;
         yield = yieldOf (sum (corrections set) ps) (sum (attempts set) ps);
+        support = elim (set .counts) [ [] ↦ none | c ∷ cs ↦ supportOver set ps ];
       }
 
   -- With an opened set: 11, or the result with the rest of the output zero and the whole work buffer zero.
@@ -139,20 +147,36 @@ module _ (set : KmerSet) (es : List Entry) (ending : List ℕ) where
         }
       ]
 
--- After the checks of the input come the set's, 7 to 10, then the index's, 15, then 11. Lookups go by the index, where one is offered.
-unfoldable pub call : List ℕ → List (List ℕ) → Check → Given → After
-unfolding unchanged opened indexCheck offering corrected entriesOf
-call ending reads refusal g =
+-- 16 when an offered count list's length isn't n; an empty one counts as not offered.
+unfoldable pub countsCheck : KmerSet → List ℕ → Check
+unfolding unless
+countsCheck set [] = none
+countsCheck set (c ∷ cs) = unless (eqb (length (c ∷ cs)) (length (set .keys))) 16
+
+-- What is offered with an opened set: the index, 15, then the counts, 16.
+unfoldable pub offerCheck : KmerSet → Given → Check
+unfolding indexCheck countsCheck _orElse_
+offerCheck set g = indexCheck set (g .index) orElse (let c = countsCheck set (g .counts) in c)
+
+-- After the checks of the input come the set's, 7 to 10, then those of what is offered, 15 and 16, then 11. Lookups go by the index, where one
+-- is offered.
+unfoldable pub callBy : Outcome KmerSet → List ℕ → List (List ℕ) → Check → Given → After
+unfolding unchanged offerCheck offering corrected entriesOf
+callBy opening ending reads refusal g =
     elim refusal [
       | some r ↦ unchanged g r
-      | none ↦ elim (opened (g .set)) [
+      | none ↦ elim opening [
         | refused r ↦ unchanged g r
-        | accepted set ↦ elim (indexCheck set (g .index)) [
+        | accepted set ↦ elim (offerCheck set g) [
           | some r ↦ unchanged g r
-          | none ↦ corrected (offering (g .index) set) (entriesOf (g .job)) ending g reads
+          | none ↦ corrected (offering (g .index) (g .counts) set) (entriesOf (g .job)) ending g reads
         ]
       ]
     ]
+
+unfoldable pub call : List ℕ → List (List ℕ) → Check → Given → After
+unfolding callBy opened
+call ending reads refusal g = callBy (opened (g .set)) ending reads refusal g
 
 -- Checks 1 to 5 of what is given.
 unfoldable pub givenCheck : Given → Check

@@ -1,11 +1,14 @@
--- Document 01, "Records", Counts, and demand 3; document 02, W1: the confirm of the pass that is counted, W6: 24n for 30n.
+-- Document 01, "Records", Counts, and demand 3; document 02, W1: the confirm of the pass that is counted, W6: 24n for 30n,
+-- W8: the support over passes.
 use Prim.Native.Nat.{ℕ, _+_, _*_, _-_, _≤_}
 use mathlib.Core.Path.{_≡_}
 use mathlib.Core.Bool.{true, false}
+use mathlib.Core.Option.{Option, none}
 use mathlib.Core.List.{List, [], _∷_, _++_}
 use lib.ListN.{length}
 use lib.Dec.{ltb}
 use Rattle.rules.specs.Set.{KmerSet}
+use Rattle.rules.specs.Driver.{weaker}
 use Rattle.rules.specs.Job.{Method, One, Two, Graph, GapSize, Entry, pass}
 
 -- A pass is one read through one method: its entry of the job and what it is fed.
@@ -51,6 +54,16 @@ module _ (set : KmerSet) where
   unfoldable pub corrections : Fed → ℕ
   unfolding pass
   corrections p = pass set (p .entry) (p .bytes) .accepted
+
+  unfoldable pub support : Fed → Option ℕ
+  unfolding pass
+  support p = pass set (p .entry) (p .bytes) .support
+
+  -- The smallest count behind the corrections of a list of passes, if there are any.
+  unfoldable pub supportOver : List Fed → Option ℕ
+  unfolding support weaker
+  supportOver [] = none
+  supportOver (p ∷ ps) = weaker (support p) (supportOver ps)
 
   -- Demand 3's F, c being a confirm and n the number of keys.
   unfoldable pub F : ℕ → Method → ℕ

@@ -1,7 +1,7 @@
--- Document 01, "Driver"; document 02, W5: no lookup for an unknown letter.
-use Prim.Native.Nat.{ℕ, zero, suc, _+_, _*_, _-_}
+-- Document 01, "Driver"; document 02, W5: no lookup for an unknown letter, W8: the smallest count behind the corrections.
+use Prim.Native.Nat.{ℕ, zero, suc, _+_, _*_, _-_, min}
 use mathlib.Core.Bool.{Bool, true, false}
-use mathlib.Core.Option.{none, some}
+use mathlib.Core.Option.{Option, none, some}
 use mathlib.Core.List.{List, [], _∷_, _++_}
 use lib.ListN.{length, take, drop}
 use lib.Dec.{ltb}
@@ -10,13 +10,26 @@ use Rattle.rules.specs.Counted.{Try}
 use Rattle.rules.specs.Scan.{ask}
 use Rattle.rules.specs.Exist.{Mend}
 
--- What a pass gives: its bytes, and what it counts.
+-- What a pass gives: its bytes, what it counts, and the smallest count behind its corrections, if there are any.
 pub record Pass : Type 0 where
   pub bytes : List ℕ
   pub turns : ℕ
   pub lookups : ℕ
   pub attempts : ℕ
   pub accepted : ℕ
+  pub support : Option ℕ
+
+-- The smaller of two counts, where there are two.
+unfoldable pub weaker : Option ℕ → Option ℕ → Option ℕ
+weaker none b = b
+weaker (some a) none = some a
+weaker (some a) (some b) = some (min a b)
+
+-- The smallest count of a list of k-mers.
+unfoldable pub weakest : (Kmer → ℕ) → List Kmer → Option ℕ
+unfolding weaker
+weakest count [] = none
+weakest count (y ∷ ys) = weaker (some (count y)) (weakest count ys)
 
 -- Where a pass stands: the k-mer, whether the previous one counts as solid, the bases not taken yet, and what is done.
 pub record State : Type 0 where
@@ -38,13 +51,14 @@ keepBase st b s y p a l =
         lookups = st .done .lookups + l;
         attempts = st .done .attempts + a;
         accepted = st .done .accepted;
+        support = st .done .support;
       };
     }
 
 -- An accepted attempt at the bad k-mer y: the letters are written for the base; go on r bases further; previous counts as solid.
-unfoldable pub mendBase : ℕ → State → List ℕ → Kmer → Mend → ℕ → State
-unfolding inPlace
-mendBase k st s y m l =
+unfoldable pub mendBase : ℕ → (Kmer → ℕ) → State → List ℕ → Kmer → Mend → ℕ → State
+unfolding inPlace weaker weakest
+mendBase k count st s y m l =
     record {
       kmer = inPlace k y (m .letters);
       previous = true;
@@ -55,11 +69,12 @@ mendBase k st s y m l =
         lookups = st .done .lookups + l;
         attempts = st .done .attempts + 1;
         accepted = st .done .accepted + 1;
+        support = weaker (st .done .support) (weakest count (m .on));
       };
     }
 
--- The driver over any corrector, given the rest of the read at the bad base and the bad k-mer.
-module _ (k : ℕ) (sol : ℕ → Bool) (correct-error : List ℕ → Kmer → Try Mend) where
+-- The driver over any corrector, given the rest of the read at the bad base and the bad k-mer; count gives the counts of k-mers.
+module _ (k : ℕ) (sol : ℕ → Bool) (count : Kmer → ℕ) (correct-error : List ℕ → Kmer → Try Mend) where
   -- A turn adds one base b, and its k-mer is asked. Not solid while the previous was: attempt.
   unfoldable pub turn : State → ℕ → List ℕ → State
   unfolding keepBase mendBase add code ask
@@ -73,7 +88,7 @@ module _ (k : ℕ) (sol : ℕ → Bool) (correct-error : List ℕ → Kmer → T
           | true ↦ (let t : Try Mend = correct-error (b ∷ s) y in
               elim (t .answer) [
                 | none ↦ keepBase st b s y false 1 (asked + t .lookups)
-                | some m ↦ mendBase k st (b ∷ s) y m (asked + t .lookups)
+                | some m ↦ mendBase k count st (b ∷ s) y m (asked + t .lookups)
               ])
         ]
       ]
@@ -93,7 +108,7 @@ module _ (k : ℕ) (sol : ℕ → Bool) (correct-error : List ℕ → Kmer → T
         kmer = y;
         previous = ask sol y .answer;
         rest = drop k read;
-        done = record { bytes = take k read; turns = 0; lookups = ask sol y .lookups; attempts = 0; accepted = 0 };
+        done = record { bytes = take k read; turns = 0; lookups = ask sol y .lookups; attempts = 0; accepted = 0; support = none };
       }
 
   -- Shorter than k: returned unchanged, counts zero.
@@ -101,6 +116,6 @@ module _ (k : ℕ) (sol : ℕ → Bool) (correct-error : List ℕ → Kmer → T
   unfolding turnsOf begin
   drive read =
       elim (ltb (length read) k) [
-        | true ↦ record { bytes = read; turns = 0; lookups = 0; attempts = 0; accepted = 0 }
+        | true ↦ record { bytes = read; turns = 0; lookups = 0; attempts = 0; accepted = 0; support = none }
         | false ↦ turnsOf (2 * (length read - k)) (begin read) .done
       ]

@@ -9,10 +9,11 @@ use Rattle.rules.specs.Letters.{Kmer, addBase, addAll, add, code, last, 
 use Rattle.rules.specs.Counted.{Counted, Try, after, refuse, give, _>>=_, _>>_}
 use Rattle.rules.specs.Scan.{only, ask, isSolid, notSolid, sole, alternative}
 
--- What an accepted attempt gives: letters written for the bad base, and how many bases further the pass goes on.
+-- What an accepted attempt gives: letters written for the bad base, how many bases further the pass goes on, and the k-mers that it rests on.
 pub record Mend : Type 0 where
   pub letters : List ℕ
   pub resume : ℕ
+  pub on : List Kmer
 
 -- A scenario: least length of s, trial giving the tried k-mer, check start o, letters given (from the tried k-mer), resume r.
 pub record Scenario : Type 0 where
@@ -88,13 +89,13 @@ module _ (k : ℕ) (sol : ℕ → Bool) where
           | false ↦ record { answer = 0; lookups = ask sol t .lookups }
         ]
 
-    -- A scenario scoring c is kept, with its letters and resume.
+    -- A scenario scoring c is kept, with its letters and resume; it rests on its tried k-mer.
     unfoldable pub keep : Scenario → Kmer → Try Mend
     unfolding score
     keep sc t =
         let m : Counted ℕ = score (sc .o) t in
         record {
-          answer = elim (eqb (m .answer) c) [ true ↦ some (record { letters = sc .letters t; resume = sc .r }) | false ↦ none ];
+          answer = elim (eqb (m .answer) c) [ true ↦ some (record { letters = sc .letters t; resume = sc .r; on = t ∷ [] }) | false ↦ none ];
           lookups = m .lookups;
         }
 

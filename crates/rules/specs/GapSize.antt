@@ -25,12 +25,12 @@ module _ (k : ℕ) (sol : ℕ → Bool) where
         ]
       ]
 
-  -- That many moves from x; resume is the count of letters.
+  -- That many moves from x; resume is the count of letters. It rests on every k-mer from x on.
   unfoldable pub gapFrom : ℕ → Kmer → Try Mend
   unfolding alternative gap spell _>>=_ give
   gapFrom moves y =
       alternative k sol y
-      >>= (λ x. gap moves (x ∷ []) x 0 >>= (λ seen. give (record { letters = spell seen; resume = length seen })))
+      >>= (λ x. gap moves (x ∷ []) x 0 >>= (λ seen. give (record { letters = spell seen; resume = length seen; on = seen })))
 
 module _ (k n : ℕ) (sol : ℕ → Bool) where
   -- One scan, counted once. Index below k: Graph from that scan. Equal: One. Above: index − k moves.

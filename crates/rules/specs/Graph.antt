@@ -51,23 +51,21 @@ module _ (k : ℕ) (sol : ℕ → Bool) where
 
 -- ---- the walk
 
--- Where a walk stands: its k-mer, the mark, the moves made, the move that sets the mark next, the letters, the lookups made.
+-- Where a walk stands: its k-mer, the mark, the moves made, the move that sets the mark next, the k-mers from x on, the lookups made.
 pub record Walk : Type 0 where
   pub at : Kmer
   pub mark : Kmer
   pub moves : ℕ
   pub marks-at : ℕ
-  pub letters : List ℕ
+  pub seen : List Kmer
   pub lookups : ℕ
 
 -- The walk at x, which is the first mark.
 unfoldable pub start : Kmer → Walk
-unfolding lastLetter
-start x = record { at = x; mark = x; moves = 0; marks-at = 1; letters = lastLetter x ∷ []; lookups = 0 }
+start x = record { at = x; mark = x; moves = 0; marks-at = 1; seen = x ∷ []; lookups = 0 }
 
 -- After a move to y by l lookups. The mark is the k-mer after moves 1, 2, 4, 8, ..
 unfoldable pub moved : Walk → Kmer → ℕ → Walk
-unfolding lastLetter
 moved w y l =
     let marks : Bool = eqb (suc (w .moves)) (w .marks-at) in
     record {
@@ -75,18 +73,18 @@ moved w y l =
       mark = elim marks [ true ↦ y | false ↦ w .mark ];
       moves = suc (w .moves);
       marks-at = elim marks [ true ↦ 2 * (w .marks-at) | false ↦ w .marks-at ];
-      letters = w .letters ++ (lastLetter y ∷ []);
+      seen = w .seen ++ (y ∷ []);
       lookups = w .lookups + l;
     }
 
 -- The walk refuses after l lookups more.
-unfoldable pub halt : Walk → ℕ → Try (List ℕ)
+unfoldable pub halt : Walk → ℕ → Try (List Kmer)
 halt w l = record { answer = none; lookups = w .lookups + l }
 
 module _ (k : ℕ) (sol : ℕ → Bool) where
   -- Each move: 4 lookups for the successors. No sole successor refuses; T accepts; equal to the mark refuses.
   -- The fuel never runs out where it is 6n (the theorem `fuel`).
-  unfoldable pub walk : ℕ → Kmer → Walk → Try (List ℕ)
+  unfoldable pub walk : ℕ → Kmer → Walk → Try (List Kmer)
   unfolding moved sole halt same
   walk zero t w = halt w 0
   walk (suc fuel) t w =
@@ -94,7 +92,7 @@ module _ (k : ℕ) (sol : ℕ → Bool) where
       elim (sole k sol (w .at) .answer) [
         | none ↦ halt w l
         | some y ↦ elim (same y t) [
-          | true ↦ record { answer = some (w .letters ++ (lastLetter y ∷ [])); lookups = w .lookups + l }
+          | true ↦ record { answer = some (w .seen ++ (y ∷ [])); lookups = w .lookups + l }
           | false ↦ elim (same y (w .mark)) [
             | true ↦ halt w l
             | false ↦ walk fuel t (moved w y l)
@@ -104,16 +102,16 @@ module _ (k : ℕ) (sol : ℕ → Bool) where
 
 module _ (k n : ℕ) (sol : ℕ → Bool) where
   -- T = x refuses without moving. A T that holds an unknown letter is equal to no k-mer of the walk, x included.
-  unfoldable pub walkFrom : Kmer → Kmer → Try (List ℕ)
+  unfoldable pub walkFrom : Kmer → Kmer → Try (List Kmer)
   unfolding walk start refuse same
   walkFrom t x = elim (same x t) [ true ↦ refuse | false ↦ walk k sol (6 * n) t (start x) ]
 
-  -- Graph from a scan: letters are x's last and each move's; resume scan index + 1.
+  -- Graph from a scan: letters are x's last and each move's; resume scan index + 1. It rests on every k-mer from x on.
   unfoldable pub graphFrom : Scan → Kmer → Try Mend
-  unfolding alternative walkFrom _>>=_ give
+  unfolding alternative walkFrom _>>=_ give spell
   graphFrom sc y =
       alternative k sol y
-      >>= (λ x. walkFrom (sc .end) x >>= (λ letters. give (record { letters = letters; resume = suc (sc .index) })))
+      >>= (λ x. walkFrom (sc .end) x >>= (λ seen. give (record { letters = spell seen; resume = suc (sc .index); on = seen })))
 
   -- The scan comes first.
   unfoldable pub graph : List ℕ → Kmer → Try Mend
@@ -128,10 +126,10 @@ pub record ChainAt (k : ℕ) (sol : ℕ → Bool) (s : List ℕ) (y : Kmer) : Ty
   pub starts : alternative k sol y .answer ≡ some x
   pub chain : Chain k sol x (errorLen k sol y s .end)
 
--- Letters are x's last and each move's; resume scan index + 1.
+-- Letters are x's last and each move's; resume scan index + 1. It rests on every k-mer of the chain.
 unfoldable pub chainMend : (k : ℕ) (sol : ℕ → Bool) (s : List ℕ) (y : Kmer) → ChainAt k sol s y → Mend
 unfolding spell errorLen
-chainMend k sol s y at = record { letters = spell (at .x ∷ at .chain .via); resume = suc (errorLen k sol y s .index) }
+chainMend k sol s y at = record { letters = spell (at .x ∷ at .chain .via); resume = suc (errorLen k sol y s .index); on = at .x ∷ at .chain .via }
 
 -- An attempt gives a mend if and only if there is such a chain, and then it is the chain's.
 pub record Exactly (k : ℕ) (sol : ℕ → Bool) (s : List ℕ) (y : Kmer) (t : Try Mend) : Type 0 where

@@ -5,7 +5,7 @@ use mathlib.Core.List.{List, [], _∷_, _++_}
 use lib.ListN.{length, getD}
 use lib.Dec.{eqb, leb}
 use Rattle.rules.specs.Letters.{Kmer}
-use Rattle.rules.specs.Set.{KmerSet, solid}
+use Rattle.rules.specs.Set.{KmerSet, solid, countOf}
 use Rattle.rules.specs.Counted.{Try}
 use Rattle.rules.specs.Exist.{Mend, exist, one, two}
 use Rattle.rules.specs.Graph.{All, graph}
@@ -83,8 +83,8 @@ module _ (set : KmerSet) (c : ℕ) where
 module _ (set : KmerSet) where
   -- A pass: what it is fed through one entry's method, with that entry's confirm.
   unfoldable pub pass : Entry → List ℕ → Pass
-  unfolding correctError drive
-  pass e fed = drive (set .k) (solid set) (correctError set (e .confirm) (e .method)) fed
+  unfolding correctError drive countOf
+  pass e fed = drive (set .k) (solid set) (countOf set) (correctError set (e .confirm) (e .method)) fed
 
   -- Each method reads the bytes of the one before.
   unfoldable pub result : List Entry → List ℕ → List ℕ

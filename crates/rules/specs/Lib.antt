@@ -20,3 +20,4 @@ pub mod MakeSet
 pub mod Index
 pub mod Samples
 pub mod Scenarios
+pub mod Supports

@@ -1,5 +1,5 @@
--- Document 02, W3: the set file made from k-mer counts as text.
-use Prim.Native.Nat.{ℕ, suc, _+_, _*_, _-_, _%_, _^_, _≤_, _<_}
+-- Document 02, W3: the set file made from k-mer counts as text; and W8: the list of the kept keys' counts beside it.
+use Prim.Native.Nat.{ℕ, suc, _+_, _*_, _-_, _%_, _^_, _≤_, _<_, min}
 use mathlib.Core.Path.{_≡_}
 use mathlib.Core.Bool.{Bool, true, false, _&&_, _||_, not}
 use mathlib.Core.Option.{Option, none, some}
@@ -8,9 +8,9 @@ use lib.ListN.{length, getD, take, replicate}
 use lib.Seq.{slice}
 use lib.Dec.{eqb, ltb, leb}
 use Rattle.rules.specs.Letters.{kmer, canonical}
-use Rattle.rules.specs.Refusal.{Check, _orElse_, unless}
+use Rattle.rules.specs.Refusal.{Refusal, Outcome, accepted, refused, Check, _orElse_, unless}
 use Rattle.rules.specs.Set.{maxK, maxKeys, kRight}
-use Rattle.rules.specs.Blocks.{blocksFrom, blocksFor, Made, unmade, laidInto}
+use Rattle.rules.specs.Blocks.{blocksFrom, blocksFor, fits, filled}
 
 -- ---- the text's lines
 
@@ -90,6 +90,21 @@ unfoldable pub textKeys : ℕ → ℕ → List ℕ → List ℕ
 unfolding lineKeys keptLines textLines
 textKeys k least text = lineKeys k (keptLines k least (textLines text))
 
+-- The largest 32-bit number: larger counts are held at it.
+abbrev pub maxCount : ℕ
+maxCount = 4294967295
+
+-- The counts of lines.
+unfoldable pub lineCounts : ℕ → List (List ℕ) → List ℕ
+unfolding lineCount
+lineCounts k [] = []
+lineCounts k (line ∷ rest) = min (lineCount k line) maxCount ∷ lineCounts k rest
+
+-- The counts that a text gives: one for each kept key, in the keys' order.
+unfoldable pub textCounts : ℕ → ℕ → List ℕ → List ℕ
+unfolding lineCounts keptLines textLines
+textCounts k least text = lineCounts k (keptLines k least (textLines text))
+
 -- ---- 12 and 13
 
 -- Refusal r at a place unless the test holds.
@@ -149,11 +164,30 @@ textCheck text k least =
     orElse (let c = linesCheck k least 0 none (textLines text) in c)
     orElse (let c = unless (leb (length (textKeys k least text)) maxKeys) 9 in c)
 
--- The set file made from a text, for k and the least count, in a lent buffer.
-unfoldable pub makeSet : List ℕ → ℕ → ℕ → List ℕ → Made
-unfolding textCheck textKeys setBlocks unmade laidInto
-makeSet text k least buffer =
+-- What the call answers, the length of the blocks in bytes or a refusal; every byte of the lent blocks and every number of the lent counts afterwards.
+pub record SetMade : Type 0 where
+  pub answer : Outcome ℕ
+  pub blocks : List ℕ
+  pub counts : List ℕ
+
+-- A refusal leaves both unchanged.
+unfoldable pub setUnmade : List ℕ → List ℕ → Refusal → SetMade
+setUnmade blocks counts r = record { answer = refused r; blocks = blocks; counts = counts }
+
+-- Bytes laid into the lent blocks and a list into the lent counts, the rest of both zeroed; 14 when either is too short, checked last.
+unfoldable pub bothLaid : List ℕ → List ℕ → List ℕ → List ℕ → SetMade
+unfolding setUnmade fits filled
+bothLaid blocks counts bytes list =
+    elim (fits blocks bytes && fits counts list) [
+      | true ↦ record { answer = accepted (length bytes); blocks = filled blocks bytes; counts = filled counts list }
+      | false ↦ setUnmade blocks counts (record { number = 14; place = 0 })
+    ]
+
+-- The set file and the counts of its keys made from a text, for k and the least count, in lent blocks and a lent list of counts.
+unfoldable pub makeSet : List ℕ → ℕ → ℕ → List ℕ → List ℕ → SetMade
+unfolding textCheck textKeys textCounts setBlocks setUnmade bothLaid
+makeSet text k least blocks counts =
     elim (textCheck text k least) [
-      | some r ↦ unmade buffer r
-      | none ↦ laidInto buffer (setBlocks k (textKeys k least text))
+      | some r ↦ setUnmade blocks counts r
+      | none ↦ bothLaid blocks counts (setBlocks k (textKeys k least text)) (textCounts k least text)
     ]

@@ -101,7 +101,7 @@ unfoldable pub callOn : List ℕ → List ℕ → List ℕ → Option Given
 unfolding zeros
 callOn set job batch =
     elim (eqb (length job % 2) 0) [
-      | true ↦ some (record { set = set; index = []; job = job; input = batch; output = zeros 32768; work = zeros 65536 })
+      | true ↦ some (record { set = set; index = []; counts = []; job = job; input = batch; output = zeros 32768; work = zeros 65536 })
       | false ↦ none
     ]
 

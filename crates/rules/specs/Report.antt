@@ -1,10 +1,11 @@
--- Document 01, "Records", Report; document 02, W4: the yield to the nearest whole.
+-- Document 01, "Records", Report; document 02, W4: the yield to the nearest whole, W8: support.
 use Prim.Native.Nat.{ℕ, _+_, _*_, _/_, _%_, _≤_}
 use mathlib.Core.Path.{_≡_}
 use mathlib.Core.Bool.{true, false}
+use mathlib.Core.Option.{Option}
 use lib.Dec.{eqb, ltb}
 
--- Bytes written, turns, lookups, attempts, accepted, and yield.
+-- Bytes written, turns, lookups, attempts, accepted, yield, and support: the smallest count behind the corrections, or none.
 pub record Report : Type 0 where
   pub written : ℕ
   pub turns : ℕ
@@ -12,6 +13,7 @@ pub record Report : Type 0 where
   pub attempts : ℕ
   pub accepted : ℕ
   pub yield : ℕ
+  pub support : Option ℕ
 
 -- q is the whole number nearest to a / d, an exact half going to the even neighbour: q is at most one half below a / d and at most one half
 -- above it, and where it is just one half, q is even. (All is multiplied by 2d.)

@@ -39,7 +39,7 @@ AACTCCG = A ∷ A ∷ C ∷ T ∷ C ∷ C ∷ G ∷ []
 
 -- k = 3, keys 6, 23, 51, 58, 60.
 unfoldable pub sampleSet : KmerSet
-sampleSet = record { k = 3; keys = 6 ∷ 23 ∷ 51 ∷ 58 ∷ 60 ∷ []; index = [] }
+sampleSet = record { k = 3; keys = 6 ∷ 23 ∷ 51 ∷ 58 ∷ 60 ∷ []; index = []; counts = [] }
 
 -- 64-bit words as bytes.
 unfoldable pub wordBytes : List ℕ → List ℕ

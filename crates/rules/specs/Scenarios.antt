@@ -13,7 +13,7 @@ pub record OnSet : Type 0 where
   pub sample : Sample
 
 unfoldable pub on : ℕ → List ℕ → Sample → OnSet
-on k keys s = record { set = record { k = k; keys = keys; index = [] }; sample = s }
+on k keys s = record { set = record { k = k; keys = keys; index = []; counts = [] }; sample = s }
 
 -- The name behind a line is the scenario's.
 unfoldable pub scenarioTable : List OnSet

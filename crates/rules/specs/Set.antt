@@ -1,12 +1,13 @@
--- Document 01, "Records", Set, and refusals 7 to 10; document 02, W7: a lookup may go by an index.
+-- Document 01, "Records", Set, and refusals 7 to 10; document 02, W7: a lookup may go by an index, W8: it answers the key's index, and keys
+-- may have counts.
 use Prim.Native.Nat.{ℕ, zero, suc, _+_, _*_, _-_, _/_, _%_, _^_, min}
-use mathlib.Core.Bool.{Bool, true, false, _&&_, _||_}
+use mathlib.Core.Bool.{Bool, true, false, not, _&&_, _||_}
 use mathlib.Core.Option.{Option, none, some}
 use mathlib.Core.List.{List, [], _∷_}
 use lib.ListN.{length, getD, drop}
 use lib.Seq.{slice}
 use lib.Dec.{eqb, ltb, leb}
-use Rattle.rules.specs.Letters.{among, canonical}
+use Rattle.rules.specs.Letters.{Kmer, canonical}
 use Rattle.rules.specs.Refusal.{Outcome, accepted, refused, Check, _orElse_, unless, atPlace, firstFailing}
 
 -- The largest k and the largest n.
@@ -35,15 +36,16 @@ blockWord bytes b i = word bytes (64 * b + i)
 
 -- ---- a set and its lookups
 
--- A set: k, its keys, and the bytes of an index offered with it (empty: none is offered).
+-- A set: k, its keys, and what is offered with it: the bytes of an index, and the keys' counts (empty: not offered).
 pub record KmerSet : Type 0 where
   pub k : ℕ
   pub keys : List ℕ
   pub index : List ℕ
+  pub counts : List ℕ
 
--- The set with an index offered.
-unfoldable pub offering : List ℕ → KmerSet → KmerSet
-offering index set = record { k = set .k; keys = set .keys; index = index }
+-- The set with an index and counts offered.
+unfoldable pub offering : List ℕ → List ℕ → KmerSet → KmerSet
+offering index counts set = record { k = set .k; keys = set .keys; index = index; counts = counts }
 
 -- m is the smaller of 6 and k.
 abbrev pub firstLetters : ℕ → ℕ
@@ -67,15 +69,40 @@ unfoldable pub rangeEnd : KmerSet → ℕ → ℕ
 unfolding firstCode entryIn
 rangeEnd s key = entryIn (s .index) (suc (firstCode (s .k) key))
 
--- The keys that a lookup of a canonical code looks at: all; with an index only those numbered from entry v up to, not including, entry v + 1.
+-- The number of the first key that a lookup of a canonical code looks at, and the keys that it looks at: all; with an index only those
+-- numbered from entry v up to, not including, entry v + 1.
+unfoldable pub firstFor : KmerSet → ℕ → ℕ
+unfolding rangeStart
+firstFor s key = elim (s .index) [ [] ↦ 0 | b ∷ bs ↦ rangeStart s key ]
+
 unfoldable pub keysFor : KmerSet → ℕ → List ℕ
 unfolding rangeStart rangeEnd
 keysFor s key = elim (s .index) [ [] ↦ s .keys | b ∷ bs ↦ slice (rangeStart s key) (rangeEnd s key) (s .keys) ]
 
+-- The number of a key in a list whose first has number i, or none.
+unfoldable pub numberFrom : ℕ → ℕ → List ℕ → Option ℕ
+numberFrom i key [] = none
+numberFrom i key (x ∷ xs) = elim (eqb key x) [ true ↦ some i | false ↦ numberFrom (suc i) key xs ]
+
+-- A lookup of a code answers the index among the n of the key that is its canonical code, or that there is none.
+unfoldable pub lookup : KmerSet → ℕ → Option ℕ
+unfolding canonical numberFrom firstFor keysFor
+lookup s y = (let key : ℕ = canonical (s .k) y in numberFrom (firstFor s key) key (keysFor s key))
+
+-- No index was found.
+unfoldable pub isNone : Option ℕ → Bool
+isNone none = true
+isNone (some i) = false
+
 -- A code is solid when its canonical code is a key; asking once is one lookup.
 unfoldable pub solid : KmerSet → ℕ → Bool
-unfolding canonical among keysFor
-solid s y = (let key : ℕ = canonical (s .k) y in among key (keysFor s key))
+unfolding lookup isNone
+solid s y = not (isNone (lookup s y))
+
+-- A k-mer's count is its canonical key's.
+unfoldable pub countOf : KmerSet → Kmer → ℕ
+unfolding lookup
+countOf s y = elim (lookup s (y .code)) [ none ↦ 0 | some i ↦ getD (s .counts) i 0 ]
 
 -- ---- blocks
 
@@ -114,10 +141,10 @@ unfolding keyWord
 keysFrom bytes i zero = []
 keysFrom bytes i (suc m) = keyWord bytes i ∷ keysFrom bytes (suc i) m
 
--- The set that a list of bytes says: k, and the first n words of the key blocks; no index comes with it.
+-- The set that a list of bytes says: k, and the first n words of the key blocks; nothing is offered with it.
 unfoldable pub setOf : List ℕ → KmerSet
 unfolding headerK headerN keysFrom
-setOf bytes = record { k = headerK bytes; keys = keysFrom bytes 0 (headerN bytes); index = [] }
+setOf bytes = record { k = headerK bytes; keys = keysFrom bytes 0 (headerN bytes); index = []; counts = [] }
 
 -- ---- opening
 
@@ -129,11 +156,6 @@ lengthRight bytes = ltb 0 (length bytes) && eqb (length bytes % 512) 0
 unfoldable pub checkRight : List ℕ → ℕ → Bool
 unfolding check
 checkRight bytes b = eqb (blockWord bytes b 63) (check bytes b)
-
--- No index was found.
-unfoldable pub isNone : Option ℕ → Bool
-isNone none = true
-isNone (some i) = false
 
 -- k is odd, from 1 to 31.
 abbrev pub kRight : ℕ → Bool

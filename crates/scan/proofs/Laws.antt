@@ -4,15 +4,16 @@ use native.Mathlib.Omega.{arith}
 use native.Mathlib.Decide.{ℕ-discrete}
 use native.Mathlib.Nat.{zero-mod}
 use native.Mathlib.Numerals.{add-one}
-use mathlib.Core.Path.{_≡_, refl, sym, ap, _∙_}
-use mathlib.Core.Bool.{Bool, true, false}
+use mathlib.Core.Path.{_≡_, refl, sym, ap, ap₂, _∙_}
+use mathlib.Core.Bool.{Bool, true, false, not, false≢true}
 use mathlib.Core.Option.{Option, none, some}
 use mathlib.Core.List.{List, [], _∷_}
-use lib.ListN.{length, drop, getD, drop-of-length-le}
-use lib.Dec.{lit<}
-use lib.Seq.{drop-cons}
+use lib.ListN.{length, drop, getD, set as put, drop-of-length-le}
+use lib.Dec.{lit<, ltb}
+use lib.Seq.{drop-cons, getD-set-same, getD-set-other}
 use mir.Val.{boolByte as bit}
 use Rattle.rules.specs.Letters.{Kmer, add, addBase, addAll, dropLast}
+use Rattle.rules.specs.Set.{KmerSet, lookup, isNone, solid}
 use Rattle.rules.specs.Counted.{Counted, Try, give, _>>=_, next, after, refuse}
 use Rattle.rules.specs.Scan.{ask, only, yesFrom, successor, successors, fourCost, u, sole, alternative, scanFrom}
 use Rattle.rules.proofs.Kmer.{Known, add-unknown, ne-known}
@@ -25,7 +26,9 @@ use Rattle.set.specs.declared.Asked.{Asked}
 use Rattle.set.specs.Asked.{AskedIs}
 use Rattle.scan.specs.declared.Sole.{Sole}
 use Rattle.scan.specs.declared.Sole.the-variants.{Nuc, Refused}
-use Rattle.scan.specs.Scan.{nucOf}
+use Rattle.set.specs.Found.{placeIn}
+use Rattle.set.proofs.Among.{place-solid}
+use Rattle.scan.specs.Scan.{nucOf, placeAt, placesOf}
 
 -- ---- bases added one by one
 
@@ -229,6 +232,74 @@ module _ (k : ℕ) (y : Kmer) (low : 1 ≤ k) where
     sole-none z =
         let u : Known (add k y 0) → ⊥ = λ h. (let q = four-made h in omega arith) in
         ap (λ (t : Try Kmer). t .answer) (sole-is k sol y ∙ ap (λ (l : List Bool). soleBy k sol y (only (yesFrom 0 l))) (four-no u))
+
+-- ---- the places of the four
+
+-- what a lookup of the successor by a, which is the code's z, is told as: the place p among n keys
+module _ (set : KmerSet) (k : ℕ) (y : Kmer) (a : ℕ) {z : KmerOf} (h : HasLetters k (add k y a) z) (n p : ℕ) (n-is : n ≡ length (set .keys))
+    (told : p ≡ placeIn n (lookup set (z .code))) where
+  pub place-at : p ≡ placeAt set k y a
+  place-at = told ∙ ap₂ (λ (m c : ℕ). placeIn m (lookup set c)) n-is (code-is h)
+
+-- the places of the letters before i stand, and v is that of i
+pub placed : (set : KmerSet) (k : ℕ) (y : Kmer) (ps : List ℕ) (i v : ℕ) → i < length ps
+    → ((a : ℕ) → a < i → getD ps a 0 ≡ placeAt set k y a) → v ≡ placeAt set k y i → (a : ℕ) → a < i + 1 → getD (put ps i v) a 0 ≡ placeAt set k y a
+placed set k y ps i v l before here a h = elim (ℕ-discrete a i) [
+  | yes e ↦ rw e (getD-set-same ps i v 0 l ∙ here)
+  | no n ↦ getD-set-other ps i a v 0 n ∙ before a (omega arith)
+]
+
+pub four-listed : (p : List ℕ) → length p ≡ 4 → p ≡ getD p 0 0 ∷ getD p 1 0 ∷ getD p 2 0 ∷ getD p 3 0 ∷ []
+four-listed [] e = absurd (omega arith)
+four-listed (a ∷ []) e = absurd (omega arith)
+four-listed (a ∷ b ∷ []) e = absurd (omega arith)
+four-listed (a ∷ b ∷ c ∷ []) e = absurd (omega arith)
+four-listed (a ∷ b ∷ c ∷ d ∷ []) e = refl
+four-listed (a ∷ b ∷ c ∷ d ∷ f ∷ p) e = absurd (omega arith)
+
+-- a place below the number of keys answers the successor by a
+pub place-solid-at : (set : KmerSet) (k : ℕ) (y : Kmer) (a n p : ℕ) → n ≡ length (set .keys) → p ≡ placeAt set k y a → Known (add k y a)
+    → ltb p n ≡ ask (solid set) (add k y a) .answer
+place-solid-at set k y a n p n-is told known =
+    place-solid set (add k y a .code) n p n-is (told ∙ ap (λ (m : ℕ). placeIn m (lookup set (add k y a .code))) (sym n-is))
+    ∙ sym (ask-is (solid set) (add k y a) known)
+
+-- where the sole successor is the one by a, the place of that letter is its key's
+module _ (set : KmerSet) (k : ℕ) (y z : Kmer) (a : ℕ) (e : sole k (solid set) y .answer ≡ some z) (z-is : z ≡ add k y a) (l : a < 4) where
+  pub sole-place : lookup set (z .code) ≡ some (getD (placesOf set k y) a 0)
+  unfolding solid isNone
+  sole-place = there (lookup set (z .code)) refl
+    where
+      found : solid set (z .code) ≡ true
+      found = (let w = only-is k (solid set) y z e .is-solid in sym (ask-is (solid set) z (ask-known (solid set) z w)) ∙ w)
+
+      at : (b : ℕ) → b < 4 → getD (placesOf set k y) b 0 ≡ placeAt set k y b
+      at zero l = refl
+      at (suc zero) l = refl
+      at (suc (suc zero)) l = refl
+      at (suc (suc (suc zero))) l = refl
+      at (suc (suc (suc (suc b)))) l = absurd (omega arith)
+
+      there : (o : Option ℕ) → lookup set (z .code) ≡ o → lookup set (z .code) ≡ some (getD (placesOf set k y) a 0)
+      there none f = absurd (false≢true (ap (λ (o : Option ℕ). not (isNone o)) (sym f) ∙ found))
+      there (some i) f =
+          f ∙ ap {B = Option ℕ} some (sym (at a l ∙ ap (λ (v : Kmer). placeIn (length (set .keys)) (lookup set (v .code))) (sym z-is) ∙ ap (placeIn (length (set .keys))) f))
+
+-- the code's choice r among the answers f of the alternatives, d being the bad k-mer without its last letter
+module _ (set : KmerSet) (k : ℕ) (y : Kmer) {f : List Bool} (r : Sole) (found : f ≡ successors k (solid set) (dropLast y)) (choice-is : nucOf r ≡ only (yesFrom 0 f)) where
+  pub alt-kmer : (a : ℕ) (d : KmerOf) {x : KmerOf} {ps : List ℕ} → r ≡ Nuc a → kmerOf d ≡ dropLast y → HasLetters k (add k (kmerOf d) a) x
+      → ps ≡ placesOf set k (dropLast y)
+      → (alternative k (solid set) y .answer ≡ some (kmerOf x)) × IsKmer k x × (lookup set (x .code) ≡ some (getD ps a 0))
+  unfolding kmerOf
+  alt-kmer a d {x} {ps} e d-is h ps-is =
+      let z-is : kmerOf x ≡ add k (dropLast y) a = h .is ∙ ap (λ (v : Kmer). add k v a) d-is in
+      let s : sole k (solid set) (dropLast y) .answer ≡ some (kmerOf x) =
+      next-is k (solid set) (dropLast y) r found choice-is a e ∙ ap {B = Option Kmer} some (sym z-is) in (
+        ap (λ (t : Try Kmer). t .answer) (alternative-is k (solid set) y) ∙ s,
+        h .kmer,
+        sole-place set k (dropLast y) (kmerOf x) a s z-is (nuc-lt k (solid set) (dropLast y) r found choice-is a e)
+            ∙ ap (λ (l : List ℕ). some (getD l a 0)) (sym ps-is),
+      )
 
 -- ---- the scan
 

@@ -11,7 +11,7 @@ ghost use Rattle.rules.specs.Set.{solid, setOf};
 ghost use Rattle.rules.specs.Scan as rules;
 ghost use Rattle.kmer.specs.Kmer.{Shifts, kmerOf, IsKmer, HasLetters};
 ghost use Rattle.set.specs.Ready.{Ready};
-ghost use Rattle.scan.specs.Scan.{nucOf, NextIs, scanOf};
+ghost use Rattle.scan.specs.Scan.{nucOf, NextIs, AltIs, placesOf, scanOf};
 
 // The sole solid successor letter.
 pub enum Sole {
@@ -25,6 +25,12 @@ pub enum Next {
     Refused,
 }
 
+// The sole solid alternative, and its key's index.
+pub enum Alt {
+    Kmer(Kmer, usize),
+    Refused,
+}
+
 // Where a scan ends: the index reached, the last k-mer T, and the lookups made.
 pub struct Scan {
     pub index: usize,
@@ -32,10 +38,10 @@ pub struct Scan {
     pub lookups: u64,
 }
 
-// An attempt at a bad base: the letters written at the start of the lent output, the resume and the lookups; or the lookups of a refused
-// one; or no room in the output. This is the source's Option<(Vec<u8>, usize)>.
+// An attempt at a bad base: the letters written at the start of the lent output, the resume, the lookups and the smallest count behind it;
+// or the lookups of a refused one; or no room in the output. This is the source's Option<(Vec<u8>, usize)>.
 pub enum Attempt {
-    Mend(usize, usize, u64),
+    Mend(usize, usize, u64, u32),
     Refused(u64),
     Full,
 }
@@ -58,16 +64,27 @@ pub fn add_all(kmer: Kmer, bases: &[u8], head: Header) -> Kmer
     last
 }
 
-// All letters of the k-mer but its first are known: the four have them in common.
-pub fn next_nucs(set: &[u8], starts: &[u32], head: Header, kmer: Kmer) -> [bool; 4]
+// All letters of the k-mer but its first are known: the four have them in common. The places of their keys go into the lent array. It is a
+// loop so that it is short enough to become part of the walks that call it.
+pub fn next_nucs(
+    set: &[u8],
+    starts: &[u32],
+    head: Header,
+    kmer: Kmer,
+    places: &mut [usize; 4],
+) -> [bool; 4]
     requires { ⌜ Ready (now set) (now starts) head × IsKmer (head .k) kmer × (add (head .k) (kmerOf kmer) 0 .unknown ≡ 0) ⌝ }
-    ensures { λ r. ⌜ r ≡ rules.successors (head .k) (solid (setOf (now (set .entry)))) (kmerOf kmer) ⌝ }
+    ensures { λ r. ⌜
+        (r ≡ rules.successors (head .k) (solid (setOf (now (set .entry)))) (kmerOf kmer))
+        × (now (places .exit) ≡ placesOf (setOf (now (set .entry))) (head .k) (kmerOf kmer)) ⌝ }
 {
-    let a = set::get(set, starts, head, kmer::add_nuc_to_end(kmer, 0, head));
-    let c = set::get(set, starts, head, kmer::add_nuc_to_end(kmer, 1, head));
-    let t = set::get(set, starts, head, kmer::add_nuc_to_end(kmer, 2, head));
-    let g = set::get(set, starts, head, kmer::add_nuc_to_end(kmer, 3, head));
-    [a, c, t, g]
+    *places = [0; 4];
+    for nuc in 0..4usize {
+        let next = kmer::add_nuc_to_end(kmer, nuc as u64, head);
+        places[nuc] = set::place_of(set, starts, head, next);
+    }
+    let n = head.n;
+    [places[0] < n, places[1] < n, places[2] < n, places[3] < n]
 }
 
 // What the four successors of a k-mer cost: 4 lookups if its last k − 1 letters are known, else none.
@@ -79,12 +96,20 @@ pub fn next_cost(kmer: Kmer, head: Header) -> u64
     if first.unknown == 0 { 4 } else { 0 }
 }
 
-fn alt_nucs(set: &[u8], starts: &[u32], head: Header, kmer: Kmer) -> [bool; 4]
+fn alt_nucs(
+    set: &[u8],
+    starts: &[u32],
+    head: Header,
+    kmer: Kmer,
+    places: &mut [usize; 4],
+) -> [bool; 4]
     requires { ⌜ Ready (now set) (now starts) head × IsKmer (head .k) kmer × (add (head .k) (dropLast (kmerOf kmer)) 0 .unknown ≡ 0) ⌝ }
-    ensures { λ r. ⌜ r ≡ rules.successors (head .k) (solid (setOf (now (set .entry)))) (dropLast (kmerOf kmer)) ⌝ }
+    ensures { λ r. ⌜
+        (r ≡ rules.successors (head .k) (solid (setOf (now (set .entry)))) (dropLast (kmerOf kmer)))
+        × (now (places .exit) ≡ placesOf (setOf (now (set .entry))) (head .k) (dropLast (kmerOf kmer))) ⌝ }
 {
     let shifted = kmer::drop_last(kmer, head);
-    next_nucs(set, starts, head, shifted)
+    next_nucs(set, starts, head, shifted, places)
 }
 
 // The letter of the only yes among the four answers: each yes adds 1 to the count and its own code to the sum.
@@ -111,7 +136,8 @@ pub fn sole_next(set: &[u8], starts: &[u32], head: Header, kmer: Kmer) -> Next
     if next_cost(kmer, head) == 0 {
         return Next::Refused;
     }
-    let Sole::Nuc(nuc) = sole_nuc(next_nucs(set, starts, head, kmer)) else {
+    let mut places = [0usize; 4];
+    let Sole::Nuc(nuc) = sole_nuc(next_nucs(set, starts, head, kmer, &mut places)) else {
         return Next::Refused;
     };
     let next = kmer::add_nuc_to_end(kmer, nuc, head);
@@ -128,18 +154,20 @@ pub fn alt_cost(kmer: Kmer, head: Header) -> u64
 }
 
 // The bad k-mer with its last letter replaced by the sole solid alternative.
-pub fn sole_alt(set: &[u8], starts: &[u32], head: Header, kmer: Kmer) -> Next
+pub fn sole_alt(set: &[u8], starts: &[u32], head: Header, kmer: Kmer) -> Alt
     requires { ⌜ Ready (now set) (now starts) head × IsKmer (head .k) kmer ⌝ }
-    ensures { λ r. ⌜ NextIs (head .k) (rules.alternative (head .k) (solid (setOf (now (set .entry)))) (kmerOf kmer) .answer) r ⌝ }
+    ensures { λ r. ⌜ AltIs (head .k) (setOf (now (set .entry))) (rules.alternative (head .k) (solid (setOf (now (set .entry)))) (kmerOf kmer) .answer) r ⌝ }
 {
     if alt_cost(kmer, head) == 0 {
-        return Next::Refused;
+        return Alt::Refused;
     }
-    let Sole::Nuc(nuc) = sole_nuc(alt_nucs(set, starts, head, kmer)) else {
-        return Next::Refused;
+    let mut places = [0usize; 4];
+    let Sole::Nuc(nuc) = sole_nuc(alt_nucs(set, starts, head, kmer, &mut places)) else {
+        return Alt::Refused;
     };
     let shifted = kmer::drop_last(kmer, head);
-    Next::Kmer(kmer::add_nuc_to_end(shifted, nuc, head))
+    let place = places[nuc as usize];
+    Alt::Kmer(kmer::add_nuc_to_end(shifted, nuc, head), place)
 }
 
 // s is the rest of the read at its bad base s0, kmer the bad k-mer: s1, s2, .. are added up to the first solid k-mer or the end.

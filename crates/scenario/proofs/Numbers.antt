@@ -2,7 +2,7 @@
 use Prim.Native.Nat.{ℕ, zero, suc, _+_, _/_, _%_, _≤_, _<_}
 use native.Mathlib.Omega.{arith}
 use native.Mathlib.Nat.{eq-or-lt-of-le}
-use mathlib.Core.Path.{_≡_, refl, ap, _∙_}
+use mathlib.Core.Path.{_≡_, refl, sym, ap, _∙_}
 use mathlib.Core.Logic.{_⊎_, inl, inr}
 use mathlib.Core.Bool.{Bool, true, false, _&&_}
 use mathlib.Core.List.{List, [], _∷_, _++_}
@@ -10,6 +10,7 @@ use lib.Dec.{T, eqb, leb, eqb→eq, leb→le}
 use Rattle.rules.specs.Letters.{Kmer, letter, lastLetter, dropLast, last}
 use Rattle.rules.specs.Exist.{Scenario, two}
 use Rattle.scenario.specs.declared.Row.{Row}
+use Rattle.scenario.specs.declared.Mend.{Mend}
 use Rattle.scenario.specs.Scenario.{nth, RowIs, lettersOf, LettersAre, ofCode, Gives}
 
 left : (a b : Bool) → T (a && b) → T a
@@ -45,26 +46,35 @@ last-code (suc n) y z e =
     ap (λ (ls : List ℕ). ls ++ (lastLetter y ∷ [])) (last-code n (dropLast y) (dropLast z) (ap (λ (c : ℕ). c / 4) e))
     ∙ ap (λ (c : ℕ). last n (dropLast z) ++ (letter (c % 4) ∷ [])) e
 
+-- a k-mer without unknown letters
+of-code : (t : Kmer) → t .unknown ≡ 0 → ofCode (t .code) ≡ t
+of-code t e = λ i. record { code = t .code; unknown = sym e i }
+
 -- what a scenario gives, by its row: the last n letters of y
-pub gives : {sc : Scenario} {row : Row} (t y : Kmer) (n : ℕ) → RowIs sc row → n ≤ 3 → last n y ≡ sc .letters t
-    → Gives sc t (record { code = y .code; letters = n; resume = row .2 })
-gives t y n q h e =
-    let l = last-code n (ofCode (y .code)) y refl ∙ e in
-    record { is = λ i. record { letters = l i; resume = q .resume i }; small = record { letters-le = h; resume-le = q .resume-le } }
+module _ {sc : Scenario} {row : Row} (x t : Kmer) (known : t .unknown ≡ 0) (place n : ℕ) (q : RowIs sc row) where
+  abbrev mend : ℕ → Mend
+  mend code = record { code = code; letters = n; resume = row .2; tried = t .code; place = place }
 
-pub gives-one : {sc : Scenario} {row : Row} (x t : Kmer) (n : ℕ) → RowIs sc row → LettersAre sc x t n → n ≡ 1
-    → Gives sc t (record { code = x .code; letters = n; resume = row .2 })
-gives-one x t n q l e = gives t x n q (l .few) (rw e (rw e at (l .are)))
+  pub gives : (y : Kmer) → n ≤ 3 → last n y ≡ sc .letters t → Gives sc t place (mend (y .code))
+  gives y h e =
+      let l = last-code n (ofCode (y .code)) y refl ∙ e in
+      record {
+        is = λ i. record { letters = l i; resume = q .resume i; on = of-code t known i ∷ [] };
+        place-is = refl;
+        small = record { letters-le = h; resume-le = q .resume-le };
+      }
 
-pub gives-many : {sc : Scenario} {row : Row} (x t : Kmer) (n : ℕ) → RowIs sc row → LettersAre sc x t n → (n ≡ 1 → ⊥)
-    → Gives sc t (record { code = t .code; letters = n; resume = row .2 })
-unfolding last
-gives-many x t n q l e = gives t t n q (l .few) (many n e ∙ l .are)
-  where
-    many : (m : ℕ) → (m ≡ 1 → ⊥) → last m t ≡ lettersOf m x t
-    many zero g = refl
-    many (suc zero) g = absurd (g refl)
-    many (suc (suc m)) g = refl
+  pub gives-one : LettersAre sc x t n → n ≡ 1 → Gives sc t place (mend (x .code))
+  gives-one l e = gives x (l .few) (rw e (rw e at (l .are)))
+
+  pub gives-many : LettersAre sc x t n → (n ≡ 1 → ⊥) → Gives sc t place (mend (t .code))
+  unfolding last
+  gives-many l e = gives t (l .few) (many n e ∙ l .are)
+    where
+      many : (m : ℕ) → (m ≡ 1 → ⊥) → last m t ≡ lettersOf m x t
+      many zero g = refl
+      many (suc zero) g = absurd (g refl)
+      many (suc (suc m)) g = refl
 
 -- n is none of the m numbers from lo on, as a `match` says it after what it said before
 abbrev pub Past : Type 0 → ℕ → ℕ → ℕ → Type 0

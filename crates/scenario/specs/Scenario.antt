@@ -2,7 +2,7 @@
 use Prim.Native.Nat.{ℕ, zero, suc, _≤_}
 use mathlib.Core.Path.{_≡_}
 use mathlib.Core.Bool.{Bool, true, false}
-use mathlib.Core.List.{List, []}
+use mathlib.Core.List.{List, [], _∷_}
 use lib.ListN.{length, getD}
 use lib.Dec.{ltb}
 use Rattle.rules.specs.Letters.{Kmer, addBase, last}
@@ -93,16 +93,18 @@ pub record LettersAre (sc : Scenario) (x t : Kmer) (n : ℕ) : Type 0 where
 abbrev pub ofCode : ℕ → Kmer
 ofCode code = record { code = code; unknown = 0 }
 
--- A mend by the rules: its letters spelled out. A k-mer's last letters depend on its code alone (the law `last-code`).
+-- A mend by the rules: its letters spelled out, and it rests on its tried k-mer. A k-mer's last letters depend on its code alone (the law
+-- `last-code`).
 abbrev pub spelledOut : Mend → rules.Mend
-spelledOut m = record { letters = last (m .letters) (ofCode (m .code)); resume = m .resume }
+spelledOut m = record { letters = last (m .letters) (ofCode (m .code)); resume = m .resume; on = ofCode (m .tried) ∷ [] }
 
 -- At most 3 letters, and a resume of at most 4.
 pub record Small (m : Mend) : Type 0 where
   pub letters-le : m .letters ≤ 3
   pub resume-le : m .resume ≤ 4
 
--- What a scenario gives where t is its tried k-mer.
-pub record Gives (sc : Scenario) (t : Kmer) (m : Mend) : Type 0 where
-  pub is : spelledOut m ≡ record { letters = sc .letters t; resume = sc .r }
+-- What a scenario gives where t is its tried k-mer and place its key's index.
+pub record Gives (sc : Scenario) (t : Kmer) (place : ℕ) (m : Mend) : Type 0 where
+  pub is : spelledOut m ≡ record { letters = sc .letters t; resume = sc .r; on = t ∷ [] }
+  pub place-is : m .place ≡ place
   pub small : Small m

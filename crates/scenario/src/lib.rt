@@ -25,11 +25,13 @@ pub struct Trial {
     pub lookups: u64,
 }
 
-// What a scenario gives: the last letters of a k-mer, and the resume.
+// What a scenario gives: the last letters of a k-mer, the resume, and the code of its tried k-mer with its key's index.
 pub struct Mend {
     pub code: u64,
     pub letters: usize,
     pub resume: usize,
+    pub tried: u64,
+    pub place: usize,
 }
 
 pub fn number_of(two: bool) -> usize
@@ -71,13 +73,14 @@ pub fn apply(
     }
 }
 
-pub fn correct(two: bool, number: usize, x: Kmer, tried: Kmer) -> Mend
-    requires { ⌜ number < numberOf two ⌝ }
-    ensures { λ r. ⌜ ((k : ℕ) (sol : ℕ → Bool) (s : List ℕ) → Gives (nth (scenarios two k sol (kmerOf x) s) number) (kmerOf tried) r) ⌝ }
+// A tried k-mer that scores is solid, and so has no unknown letter; place is its key's index.
+pub fn correct(two: bool, number: usize, x: Kmer, tried: Kmer, place: usize) -> Mend
+    requires { ⌜ (number < numberOf two) × (tried .unknown ≡ 0) ⌝ }
+    ensures { λ r. ⌜ ((k : ℕ) (sol : ℕ → Bool) (s : List ℕ) → Gives (nth (scenarios two k sol (kmerOf x) s) number) (kmerOf tried) place r) ⌝ }
 {
     if two {
-        two::correct(number, x, tried)
+        two::correct(number, x, tried, place)
     } else {
-        one::correct(number, x)
+        one::correct(number, x, tried, place)
     }
 }

@@ -4,6 +4,7 @@ use super::Row;
 use kmer::Kmer;
 ghost use mathlib.Core.Bool.{Bool};
 ghost use mathlib.Core.List.{List};
+ghost use mathlib.Core.Path.{_≡_};
 ghost use Prim.Native.Nat.{ℕ, _<_};
 ghost use Rattle.rules.specs.Letters as letters;
 ghost use Rattle.rules.specs.Exist as rules;
@@ -21,13 +22,15 @@ pub fn row_of(number: usize) -> Row
     }
 }
 
-pub fn correct(number: usize, x: Kmer) -> Mend
-    requires { ⌜ number < 3 ⌝ }
-    ensures { λ r. ⌜ ((k : ℕ) (sol : ℕ → Bool) (s : List ℕ) (t : letters.Kmer) → Gives (nth (rules.one k sol (kmerOf x) s) number) t r) ⌝ }
+pub fn correct(number: usize, x: Kmer, tried: Kmer, place: usize) -> Mend
+    requires { ⌜ (number < 3) × (tried .unknown ≡ 0) ⌝ }
+    ensures { λ r. ⌜ ((k : ℕ) (sol : ℕ → Bool) (s : List ℕ) → Gives (nth (rules.one k sol (kmerOf x) s) number) (kmerOf tried) place r) ⌝ }
 {
     Mend {
         code: x.code,
         letters: 1,
         resume: row_of(number).2,
+        tried: tried.code,
+        place,
     }
 }

@@ -8,6 +8,7 @@ use kmer::Kmer;
 use scan::Next;
 ghost use mathlib.Core.Bool.{Bool};
 ghost use mathlib.Core.List.{List};
+ghost use mathlib.Core.Path.{_≡_};
 ghost use Prim.Native.Nat.{ℕ, _<_};
 ghost use lib.ListN.{length};
 ghost use Rattle.rules.specs.Letters as letters;
@@ -56,24 +57,19 @@ fn letters(number: usize) -> usize
 }
 
 // A single letter is x's last; more are the tried k-mer's.
-pub fn correct(number: usize, x: Kmer, tried: Kmer) -> Mend
-    requires { ⌜ number < 13 ⌝ }
-    ensures { λ r. ⌜ ((k : ℕ) (sol : ℕ → Bool) (s : List ℕ) → Gives (nth (rules.two k sol (kmerOf x) s) number) (kmerOf tried) r) ⌝ }
+pub fn correct(number: usize, x: Kmer, tried: Kmer, place: usize) -> Mend
+    requires { ⌜ (number < 13) × (tried .unknown ≡ 0) ⌝ }
+    ensures { λ r. ⌜ ((k : ℕ) (sol : ℕ → Bool) (s : List ℕ) → Gives (nth (rules.two k sol (kmerOf x) s) number) (kmerOf tried) place r) ⌝ }
 {
     let letters = letters(number);
     let resume = row_of(number).2;
-    if letters == 1 {
-        Mend {
-            code: x.code,
-            letters,
-            resume,
-        }
-    } else {
-        Mend {
-            code: tried.code,
-            letters,
-            resume,
-        }
+    let code = if letters == 1 { x.code } else { tried.code };
+    Mend {
+        code,
+        letters,
+        resume,
+        tried: tried.code,
+        place,
     }
 }
 

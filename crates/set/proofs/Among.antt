@@ -1,42 +1,75 @@
 -- From a search's answer to the lookup's.
-use Prim.Native.Nat.{ℕ, zero, suc, _+_, _≤_, _<_}
+use Prim.Native.Nat.{ℕ, _+_, _≤_, _<_}
 use native.Mathlib.Omega.{arith}
-use native.Mathlib.Nat.{eq-or-lt-of-le}
-use mathlib.Core.Path.{_≡_, refl, sym, ap, ap₂, _∙_}
-use mathlib.Core.Bool.{Bool, true, false, _||_}
-use mathlib.Core.Logic.{_⊎_, inl, inr}
-use mathlib.Core.List.{List}
-use borrow.Author.Tests.{eq-eqb, ne-eqb}
-use lib.Dec.{eqb}
-use Rattle.rules.specs.Letters.{among}
-use Rattle.rules.specs.Set.{keyWord, keysFrom}
+use mathlib.Core.Path.{_≡_, refl, sym, ap, _∙_}
+use mathlib.Core.Bool.{Bool, true, false, not}
+use mathlib.Core.Option.{Option, none, some}
+use mathlib.Core.List.{List, []}
+use borrow.Author.Tests.{ltb-true, ltb-false}
+use lib.Dec.{ltb}
+use lib.ListN.{length, getD}
+use Rattle.rules.specs.Letters.{canonical}
+use Rattle.rules.specs.Set.{KmerSet, headerK, headerN, keyWord, setOf, setCheck, lookup, isNone, solid}
+use Rattle.rules.proofs.Keys.{keys-length, keys-at}
+use Rattle.rules.proofs.Lookup.{lookup-at, lookup-is, lookup-none}
 use Rattle.keys.specs.declared.Found.{Found}
 use Rattle.keys.specs.declared.Found.the-variants.{At, Nothing}
 use Rattle.keys.specs.Find.{Answers}
 use Rattle.keys.proofs.Part.{key-whole}
-use Rattle.set.specs.Found.{isKey}
+use Rattle.set.specs.Found.{indexOf, isKey, placeIn}
+use Rattle.set.proofs.Opened.{opened-keys-rising}
 
-not-from : (bytes : List ℕ) (x i n : ℕ) → ((j : ℕ) → i ≤ j → j < i + n → keyWord bytes j ≡ x → ⊥) → among x (keysFrom bytes i n) ≡ false
-unfolding among keysFrom
-not-from bytes x i zero f = refl
-not-from bytes x i (suc n) f =
-    ap₂ (λ (a b : Bool). a || b)
-    (ne-eqb x (keyWord bytes i) (λ e. f i (omega arith) (omega arith) (sym e)))
-    (not-from bytes x (suc i) n (λ j l h. f j (omega arith) (omega arith)))
+module _ (bytes : List ℕ) (opens : setCheck bytes ≡ none) where
+  -- The keys of the set are the words of the key blocks.
+  count-is : length (setOf bytes .keys) ≡ headerN bytes
+  unfolding setOf
+  count-is = keys-length bytes 0 (headerN bytes)
 
-one-from : (bytes : List ℕ) (x i n j : ℕ) → i ≤ j → j < i + n → keyWord bytes j ≡ x → among x (keysFrom bytes i n) ≡ true
-unfolding among keysFrom
-one-from bytes x i zero j l h e = absurd (omega arith)
-one-from bytes x i (suc n) j l h e = go (eq-or-lt-of-le l) (λ g. one-from bytes x (suc i) n j g (omega arith) e)
-  where
-    or-true : (a b : Bool) → b ≡ true → (a || b) ≡ true
-    or-true true b d = refl
-    or-true false b d = d
+  key-is : (i : ℕ) → i < headerN bytes → getD (setOf bytes .keys) i 0 ≡ keyWord bytes i
+  unfolding setOf
+  key-is i l = keys-at bytes 0 (headerN bytes) i l ∙ (let e : 0 + i ≡ i = omega arith in ap (keyWord bytes) e)
 
-    go : (i ≡ j) ⊎ (i < j) → (i < j → among x (keysFrom bytes (suc i) n) ≡ true) → (eqb x (keyWord bytes i) || among x (keysFrom bytes (suc i) n)) ≡ true
-    go (inl d) later = let here : eqb x (keyWord bytes i) ≡ true = eq-eqb x (keyWord bytes i) (sym (ap (keyWord bytes) d ∙ e)) in rw here
-    go (inr g) later = or-true (eqb x (keyWord bytes i)) _ (later g)
+  rising : (a b : ℕ) → a < b → b < length (setOf bytes .keys) → getD (setOf bytes .keys) a 0 < getD (setOf bytes .keys) b 0
+  rising a b l h =
+      let g : b < headerN bytes = omega (arith, count-is) in
+      rw (key-is a (omega arith), key-is b g) (opened-keys-rising bytes opens a b l g)
 
-pub answers-among : (bytes : List ℕ) (x n : ℕ) (r : Found) → Answers 0 bytes x 0 n r → isKey r ≡ among x (keysFrom bytes 0 n)
-answers-among bytes x n (At i) h = sym (one-from bytes x 0 n i (h .0) (omega (arith, h .1)) (sym (key-whole bytes i) ∙ h .2))
-answers-among bytes x n Nothing h = sym (not-from bytes x 0 n (λ j l g e. h j l (omega arith) (key-whole bytes j ∙ e)))
+  -- What is answered about the canonical code among all keys is what a lookup answers.
+  pub answers-lookup : (y : ℕ) (r : Found) → Answers 0 bytes (canonical (headerK bytes) y) 0 (headerN bytes) r → indexOf r ≡ lookup (setOf bytes) y
+  unfolding setOf
+  answers-lookup y (At i) h =
+      sym (lookup-is (setOf bytes) y refl rising i (omega (arith, count-is, h .1)) (key-is i (h .1) ∙ sym (key-whole bytes i) ∙ h .2))
+  answers-lookup y Nothing h =
+      sym (lookup-none (setOf bytes) y refl
+      (λ i l e. let g : i < headerN bytes = omega (arith, count-is) in h i (omega arith) g (key-whole bytes i ∙ sym (key-is i g) ∙ e)))
+
+-- A code is solid where its lookup finds a key.
+pub found-solid : (r : Found) (s : KmerSet) (y : ℕ) → indexOf r ≡ lookup s y → isKey r ≡ solid s y
+unfolding solid isNone
+found-solid (At i) s y h = ap (λ (o : Option ℕ). not (isNone o)) h
+found-solid Nothing s y h = ap (λ (o : Option ℕ). not (isNone o)) h
+
+-- A lookup told as a number p: the key's index, below the number of keys n, or n.
+module _ (s : KmerSet) (y n p : ℕ) (n-is : n ≡ length (s .keys)) (told : p ≡ placeIn n (lookup s y)) where
+  pub place-found : p < n → lookup s y ≡ some p
+  place-found l = go (lookup s y) refl
+    where
+      go : (o : Option ℕ) → lookup s y ≡ o → lookup s y ≡ some p
+      go none e = absurd (let q : p ≡ n = told ∙ ap (placeIn n) e in omega arith)
+      go (some i) e = e ∙ ap {B = Option ℕ} some (sym (told ∙ ap (placeIn n) e))
+
+  pub place-none : n ≤ p → lookup s y ≡ none
+  place-none f = go (lookup s y) refl
+    where
+      go : (o : Option ℕ) → lookup s y ≡ o → lookup s y ≡ none
+      go none e = e
+      go (some i) e = absurd (let q : p ≡ i = told ∙ ap (placeIn n) e in omega (arith, f, lookup-at s y i e .0))
+
+  -- So the number is below n where the code is solid.
+  pub place-solid : ltb p n ≡ solid s y
+  unfolding solid isNone
+  place-solid = go (ltb p n) refl
+    where
+      go : (t : Bool) → ltb p n ≡ t → t ≡ solid s y
+      go true e = sym (ap (λ (o : Option ℕ). not (isNone o)) (place-found (ltb-true p n e)))
+      go false e = sym (ap (λ (o : Option ℕ). not (isNone o)) (place-none (ltb-false p n e)))

@@ -4,3 +4,4 @@ pub mod Table
 pub mod Ends
 pub mod Part
 pub mod Indexed
+pub mod Counted

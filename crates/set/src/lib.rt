@@ -1,4 +1,5 @@
-// The lookup, port of src/set.rs: whether a k-mer is solid. A table says where the keys of each prefix start; a search among those decides.
+// The lookup, port of src/set.rs: the index of a k-mer's key, or that there is none (document 02, W8). A table says where the keys of each
+// prefix start; a search among those decides.
 use keys::Found;
 use kmer::Header;
 use kmer::Kmer;
@@ -6,7 +7,7 @@ ghost use mathlib.Core.Path.{_≡_};
 ghost use mathlib.Core.Option.{none};
 ghost use Prim.Native.Nat.{ℕ, _+_, _-_, _*_, _/_, _^_, _≤_, _<_, max};
 ghost use lib.ListN.{length, getD};
-ghost use Rattle.rules.specs.Set.{maxK, maxKeys, headerK, headerN, keyWord, setCheck, setOf, firstLetters, entryIn, solid};
+ghost use Rattle.rules.specs.Set.{maxK, maxKeys, headerK, headerN, keyWord, setCheck, setOf, firstLetters, entryIn, lookup, solid};
 ghost use Rattle.rules.specs.Index.{indexBlocks, indexCheck};
 ghost use Rattle.rules.specs.Letters.{canonical};
 ghost use Rattle.rules.specs.Scan as rules;
@@ -16,7 +17,7 @@ ghost use lib.Dec.{eqb};
 ghost use Rattle.set.specs.Ready as table;
 ghost use Rattle.set.specs.Ready.{tableLength, prefix, Below, Filled, InPrefix, LineOf, Table, Ready, Ranged};
 ghost use Rattle.set.specs.Ends.{Marked, Run, highest};
-ghost use Rattle.set.specs.Found.{isKey};
+ghost use Rattle.set.specs.Found.{indexOf, placeIn};
 ghost use Rattle.set.specs.Asked.{AskedIs};
 
 // The entries of the table that `prepare` fills.
@@ -36,12 +37,13 @@ fn prefix_of(key: u64, shift: u32) -> usize
     (key >> shift) as usize
 }
 
-fn is_key(found: Found) -> bool
-    ensures { λ r. ⌜ r ≡ isKey found ⌝ }
+// The index of the key that was found, or n.
+fn index_or(found: Found, n: usize) -> usize
+    ensures { λ r. ⌜ r ≡ placeIn n (indexOf found) ⌝ }
 {
     match found {
-        Found::At(_) => true,
-        Found::Nothing => false,
+        Found::At(i) => i,
+        Found::Nothing => n,
     }
 }
 
@@ -121,10 +123,11 @@ fn in_many(set: &[u8], shift: u32, range: Range, span: Span) -> Found
 
 // A lookup is made only of a k-mer without unknown letters. Of the header it takes what it needs: a struct that is handed over is laid into
 // memory for each lookup, and so is a seventh number, hence the last is the one that is seldom used. Since `get` and `ask` both call it, it
-// stays a function of its own.
-fn look_up(set: &[u8], starts: &[u32], kmer: Kmer, n: usize, shift: u32, finer: u32) -> bool
+// stays a function of its own. It answers n where there is no key: an enum would go through memory, and its case be a branch that is often
+// guessed wrong.
+fn look_up(set: &[u8], starts: &[u32], kmer: Kmer, n: usize, shift: u32, finer: u32) -> usize
     requires { ⌜ Table (now set) (now starts) shift finer × IsKmer (headerK (now set)) kmer × (kmer .unknown ≡ 0) ⌝ }
-    ensures { λ r. ⌜ r ≡ solid (setOf (now (set .entry))) (kmer .code) ⌝ }
+    ensures { λ r. ⌜ r ≡ placeIn n (lookup (setOf (now (set .entry))) (kmer .code)) ⌝ }
 {
     // Both codes are read here: the compiler then chooses between them without a branch.
     let both = Kmer {
@@ -134,20 +137,33 @@ fn look_up(set: &[u8], starts: &[u32], kmer: Kmer, n: usize, shift: u32, finer: 
     };
     let range = range_of(set, starts, shift, finer, both);
     if range.end <= range.from {
-        return false;
+        return n;
     }
     if range.end - range.from <= 4 {
-        return is_key(in_few(set, n, range));
+        return index_or(in_few(set, n, range), n);
     }
     let span = span_of(set, starts, shift, finer, range.key);
-    is_key(in_many(set, shift, range, span))
+    index_or(in_many(set, shift, range, span), n)
 }
 
-pub fn get(set: &[u8], starts: &[u32], head: Header, kmer: Kmer) -> bool
+// The index of a k-mer's key, or n, the number of keys, if there is none.
+pub fn place_of(set: &[u8], starts: &[u32], head: Header, kmer: Kmer) -> usize
     requires { ⌜ Ready (now set) (now starts) head × IsKmer (head .k) kmer × (kmer .unknown ≡ 0) ⌝ }
-    ensures { λ r. ⌜ r ≡ solid (setOf (now (set .entry))) (kmer .code) ⌝ }
+    ensures { λ r. ⌜ r ≡ placeIn (head .n) (lookup (setOf (now (set .entry))) (kmer .code)) ⌝ }
 {
     look_up(set, starts, kmer, head.n, head.shift, head.finer)
+}
+
+pub fn get(set: &[u8], starts: &[u32], head: Header, kmer: Kmer) -> Found
+    requires { ⌜ Ready (now set) (now starts) head × IsKmer (head .k) kmer × (kmer .unknown ≡ 0) ⌝ }
+    ensures { λ r. ⌜ indexOf r ≡ lookup (setOf (now (set .entry))) (kmer .code) ⌝ }
+{
+    let place = look_up(set, starts, kmer, head.n, head.shift, head.finer);
+    if place < head.n {
+        Found::At(place)
+    } else {
+        Found::Nothing
+    }
 }
 
 // A k-mer asked: whether it is solid, and the lookups made.
@@ -167,8 +183,11 @@ pub fn ask(set: &[u8], starts: &[u32], head: Header, kmer: Kmer) -> Asked
             lookups: 0,
         };
     }
-    let solid = look_up(set, starts, kmer, head.n, head.shift, head.finer);
-    Asked { solid, lookups: 1 }
+    let place = look_up(set, starts, kmer, head.n, head.shift, head.finer);
+    Asked {
+        solid: place < head.n,
+        lookups: 1,
+    }
 }
 
 // The first of the lines that a lookup of the k-mer reads first, none that it may not read.

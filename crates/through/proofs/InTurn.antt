@@ -10,10 +10,11 @@ use mathlib.Core.List.{List, [], _∷_}
 use lib.ListN.{length}
 use lib.Dec.{eqb}
 use Rattle.rules.specs.Set.{KmerSet}
-use Rattle.rules.specs.Driver.{Pass}
+use Rattle.rules.specs.Driver.{Pass, weaker}
 use Rattle.rules.specs.Job.{Entry, entryAt, entryCount, entriesFrom, entriesOf, pass, result}
-use Rattle.rules.specs.Counts.{sum, passesOf, turns, lookups, attempts, corrections}
+use Rattle.rules.specs.Counts.{sum, passesOf, turns, lookups, attempts, corrections, support, supportOver}
 use Rattle.rules.specs.Calls.{longest}
+use Rattle.rules.proofs.Support.{weaker-none, weaker-assoc}
 use Rattle.correct.specs.Pass.{Small}
 use Rattle.through.specs.Through.{through, held}
 
@@ -64,6 +65,7 @@ both p q =
       lookups = p .lookups + q .lookups;
       attempts = p .attempts + q .attempts;
       accepted = p .accepted + q .accepted;
+      support = weaker (p .support) (q .support);
     }
 
 pub add-small : (i j : ℕ) (p q : Pass) → Small i p → Small j q → Small (i + j) (both p q)
@@ -81,11 +83,11 @@ module _ (set : KmerSet) where
   goOn p es = both p (through set es (p .bytes))
 
   pub begun : (e : Entry) (es : List Entry) (read : List ℕ) → goOn (pass set e read) es ≡ through set (e ∷ es) read
-  unfolding through passesOf sum turns lookups attempts corrections result
+  unfolding through passesOf sum turns lookups attempts corrections support supportOver result
   begun e es read = refl
 
   pub next : (p : Pass) (e : Entry) (es : List Entry) → goOn (both p (pass set e (p .bytes))) es ≡ goOn p (e ∷ es)
-  unfolding through passesOf sum turns lookups attempts corrections result
+  unfolding through passesOf sum turns lookups attempts corrections support supportOver result
   next p e es =
       let q = pass set e (p .bytes) in
       let r = through set es (q .bytes) in
@@ -95,10 +97,11 @@ module _ (set : KmerSet) where
         lookups = add-assoc (p .lookups) (q .lookups) (r .lookups) i;
         attempts = add-assoc (p .attempts) (q .attempts) (r .attempts) i;
         accepted = add-assoc (p .accepted) (q .accepted) (r .accepted) i;
+        support = weaker-assoc (p .support) (q .support) (r .support) i;
       }
 
   pub over : (p : Pass) → goOn p [] ≡ p
-  unfolding through passesOf sum result
+  unfolding through passesOf sum supportOver result
   over p =
       λ i. record {
         bytes = p .bytes;
@@ -106,6 +109,7 @@ module _ (set : KmerSet) where
         lookups = add-zero (p .lookups) i;
         attempts = add-zero (p .attempts) i;
         accepted = add-zero (p .accepted) i;
+        support = weaker-none (p .support) i;
       }
 
   -- ---- refusal 11

@@ -8,14 +8,14 @@ use lib.Seq.{length-take-le}
 use Rattle.rules.specs.Set.{KmerSet}
 use Rattle.rules.specs.Driver as Rules
 use Rattle.rules.specs.Job.{Entry, entryAt, entryCount, entriesOf, pass, result}
-use Rattle.rules.specs.Counts.{sum, passesOf}
+use Rattle.rules.specs.Counts.{sum, passesOf, supportOver}
 use Rattle.rules.specs.Calls.{maxRead, longest}
 use Rattle.rules.proofs.Job.{entriesOf-length}
 use Rattle.correct.specs.declared.Counts.{Counts}
 use Rattle.correct.specs.declared.Pass.{Pass}
 use Rattle.correct.specs.declared.Pass.the-variants.{Done, Full}
 use Rattle.correct.specs.Pass.{passOf, returned, PassIs, Small}
-use Rattle.through.specs.Through.{joined, through, held, ThroughIs}
+use Rattle.through.specs.Through.{joined, JoinIs, through, held, ThroughIs}
 use Rattle.through.proofs.InTurn.{held-even, held-length, entriesLeft, entries-all, entries-next, entries-over, both, add-small, goOn, begun, next, over, fits, long, longest-end}
 
 module _ (set : KmerSet) (job read : List ℕ) where
@@ -28,7 +28,7 @@ module _ (set : KmerSet) (job read : List ℕ) where
   -- without entries
   pub none-done : (output output′ : List ℕ) (r : Pass) → n ≡ 0 → length output′ ≡ length output
       → PassIs (length output) output′ (returned read) r → ThroughIs set es read (length output) output′ r
-  unfolding through passesOf sum result longest
+  unfolding through passesOf sum supportOver result longest
   none-done output output′ (Done r) none o d =
       let end : es ≡ [] = entries-all job ∙ entries-over job 0 (omega arith) in
       let len = ap (λ (p : Rules.Pass). length (p .bytes)) (d .0) in
@@ -89,12 +89,17 @@ module _ (set : KmerSet) (job read : List ℕ) where
     abbrev fed : List ℕ
     fed = take (p .written) h
 
+    -- what one pass more counts
+    pub next-small : (out : List ℕ) (r : Counts) → Small 1 (pass set e fed) → passOf r out ≡ pass set e fed
+        → Small (i + 1) (both (passOf p h) (passOf r out))
+    next-small out r one d = add-small i 1 (passOf p h) (passOf r out) (u .small) (subst (Small 1) (sym d) one)
+
     -- one pass more
-    pub next-done : (output′ work′ : List ℕ) (r : Counts) → length output′ ≡ length output → length work′ ≡ length work
+    pub next-done : (output′ work′ : List ℕ) (r j : Counts) → JoinIs p r j → length output′ ≡ length output → length work′ ≡ length work
         → Small 1 (pass set e fed)
         → PassIs (length output) (held (n - i - 1) output′ work′) (pass set e fed) (Done r)
-        → Underway output′ work′ (joined p r) (i + 1)
-    next-done output′ work′ r o w one told =
+        → Underway output′ work′ j (i + 1)
+    next-done output′ work′ r j joins o w one told =
         let l = entriesLeft job (i + 1) in
         let split = entries-next job i more in
         let one-less : n - i - 1 ≡ n - (i + 1) = omega arith in
@@ -105,13 +110,24 @@ module _ (set : KmerSet) (job read : List ℕ) where
         let room′ = held-length (n - (i + 1)) output′ work′ rooms in
         let bytes = ap (λ (q : Rules.Pass). q .bytes) (d .0) in
         let len : length (pass set e fed .bytes) ≤ length output = omega (arith, ap length bytes, length-take-le (r .written) h′ (d .1), d .1) in
-        record {
+        let joint : passOf (joined p r (joins .support)) h′ ≡ both (passOf p h) (passOf r h′) =
+        λ v. record {
+          bytes = take (r .written) h′;
+          turns = p .turns + r .turns;
+          lookups = p .lookups + r .lookups;
+          attempts = p .attempts + r .attempts;
+          accepted = p .accepted + r .accepted;
+          support = joins .weighed v;
+        } in
+        subst (λ (q : Counts). Underway output′ work′ q (i + 1)) (sym (joins .is))
+        (record {
           low = omega arith;
           high = omega arith;
           rooms = rooms;
           short = omega (arith, u .short);
           written = omega (arith, d .1);
-          counts = ap (λ (q : Rules.Pass). goOn set (both (passOf p h) q) l) (d .0)
+          counts = ap (λ (q : Rules.Pass). goOn set q l) joint
+              ∙ ap (λ (q : Rules.Pass). goOn set (both (passOf p h) q) l) (d .0)
               ∙ next set (passOf p h) e l
               ∙ ap (goOn set (passOf p h)) (sym split)
               ∙ u .counts;
@@ -120,8 +136,8 @@ module _ (set : KmerSet) (job read : List ℕ) where
               ∙ fits set (length output) e l fed len
               ∙ ap (λ (x : List Entry). max (length output) (longest set x fed)) (sym split)
               ∙ u .longs);
-          small = add-small i 1 (passOf p h) (passOf r h′) (u .small) (subst (Small 1) (sym (d .0)) one);
-        }
+          small = subst (Small (i + 1)) (sym joint) (next-small h′ r one (d .0));
+        })
 
     -- a pass that does not fit
     pub next-full : length output < length (pass set e fed .bytes) → length output < longest set es read

@@ -1,4 +1,4 @@
--- Document 01, "Records", Job and Counts, and refusal 11: a read through the entries of a job.
+-- Document 01, "Records", Job and Counts, and refusal 11, and document 02, W8: a read through the entries of a job.
 use Prim.Native.Nat.{ℕ, _+_, _≤_, _<_, _%_}
 use mathlib.Core.Path.{_≡_}
 use mathlib.Core.Bool.{true, false}
@@ -8,8 +8,9 @@ use lib.Dec.{eqb}
 use Rattle.rules.specs.Set.{KmerSet}
 use Rattle.rules.specs.Driver as rules
 use Rattle.rules.specs.Job.{Entry, entriesOf, result}
-use Rattle.rules.specs.Counts.{Fed, sum, passesOf, turns, lookups, attempts, corrections}
+use Rattle.rules.specs.Counts.{Fed, sum, passesOf, turns, lookups, attempts, corrections, supportOver}
 use Rattle.rules.specs.Calls.{longest}
+use Rattle.support.specs.Support.{supportOf}
 use Rattle.correct.specs.declared.Pass.{Pass}
 use Rattle.correct.specs.declared.Pass.the-variants.{Done, Full}
 use Rattle.correct.specs.declared.Counts.{Counts}
@@ -17,7 +18,7 @@ use Rattle.correct.specs.Pass.{passOf, PassIs, Small}
 
 -- The entries' result, and what their passes count.
 unfoldable pub through : KmerSet → List Entry → List ℕ → rules.Pass
-unfolding result sum passesOf turns lookups attempts corrections
+unfolding result sum passesOf turns lookups attempts corrections supportOver
 through set es read =
     let ps : List Fed = passesOf set es read in
     record {
@@ -26,6 +27,7 @@ through set es read =
       lookups = sum (lookups set) ps;
       attempts = sum (attempts set) ps;
       accepted = sum (corrections set) ps;
+      support = supportOver set ps;
     }
 
 -- The answer to a read through a list of entries: the result with its counts; Full exactly where a pass result (the read, if no
@@ -49,13 +51,21 @@ pub record PassInto (room : ℕ) (out : List ℕ) (n : rules.Pass) (r : Pass) : 
 unfoldable pub held : ℕ → List ℕ → List ℕ → List ℕ
 held n output work = elim (eqb (n % 2) 0) [ true ↦ output | false ↦ work ]
 
--- The counts of passes so far and of the next.
-abbrev pub joined : Counts → Counts → Counts
-joined a b =
+-- The counts of passes so far and of the next, with a support.
+abbrev pub joined : Counts → Counts → ℕ → Counts
+joined a b support =
     record {
       written = b .written;
       turns = a .turns + b .turns;
       lookups = a .lookups + b .lookups;
       attempts = a .attempts + b .attempts;
       accepted = a .accepted + b .accepted;
+      support = support;
     }
+
+-- The support is the smaller one, where there are two.
+pub record JoinIs (a b r : Counts) : Type 0 where
+  pub support : ℕ
+  pub weighed : supportOf (a .accepted + b .accepted) support
+      ≡ rules.weaker (supportOf (a .accepted) (a .support)) (supportOf (b .accepted) (b .support))
+  pub is : r ≡ joined a b support

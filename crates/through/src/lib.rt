@@ -1,22 +1,23 @@
 // A read through the entries of a job: pass after pass, each reading the bytes of the one before. Document 01, "Records", Job, and
-// document 02, W1.
+// document 02, W1 and W8.
 use correct::Counts;
 use correct::Pass;
 use kmer::Header;
 ghost use mathlib.Core.Path.{_≡_};
 ghost use Prim.Native.Nat.{_+_, _-_, _≤_, _<_, _^_};
 ghost use lib.ListN.{length, take};
-ghost use Rattle.rules.specs.Set.{setOf};
 ghost use Rattle.rules.specs.Job.{entryAt, entryCount, entriesOf, Confirmed, pass};
 ghost use Rattle.set.specs.Ready.{Ready};
+ghost use Rattle.set.specs.Counted.{setWith};
 ghost use Rattle.rules.specs.Calls.{maxRead, maxOutput, maxMethods};
-ghost use Rattle.through.specs.Through.{held, PassInto, Through, joined};
+ghost use Rattle.through.specs.Through.{held, PassInto, Through, JoinIs};
 
 // The first pass, entry 0, from the read.
 fn first_pass(
     set: &[u8],
     starts: &[u32],
     head: Header,
+    counts: &[u32],
     job: &[u8],
     read: &[u8],
     output: &mut [u8],
@@ -27,16 +28,16 @@ fn first_pass(
         × (length (now work) ≡ length (now output)) ⌝ }
     ensures { λ r. ⌜
         PassInto (length (now (output .entry))) (held (entryCount (now (job .entry)) - 1) (now (output .exit)) (now (work .exit)))
-        (pass (setOf (now (set .entry))) (entryAt (now (job .entry)) 0) (now (read .entry)))
+        (pass (setWith (now (set .entry)) (now (counts .entry))) (entryAt (now (job .entry)) 0) (now (read .entry)))
         r ⌝ }
 {
     let method = entries::method_of(job, 0);
     let c = entries::confirm_of(job, 0);
     let left = entries::count(job);
     if left % 2 == 1 {
-        correct::correct(set, starts, head, method, c, read, output)
+        correct::correct(set, starts, head, counts, method, c, read, output)
     } else {
-        correct::correct(set, starts, head, method, c, read, work)
+        correct::correct(set, starts, head, counts, method, c, read, work)
     }
 }
 
@@ -45,6 +46,7 @@ fn next_pass(
     set: &[u8],
     starts: &[u32],
     head: Header,
+    counts: &[u32],
     job: &[u8],
     i: usize,
     written: usize,
@@ -56,7 +58,7 @@ fn next_pass(
         × (length (now output) ≤ maxOutput) × (length (now work) ≡ length (now output)) ⌝ }
     ensures { λ r. ⌜
         PassInto (length (now (output .entry))) (held (entryCount (now (job .entry)) - i - 1) (now (output .exit)) (now (work .exit)))
-        (pass (setOf (now (set .entry))) (entryAt (now (job .entry)) i)
+        (pass (setWith (now (set .entry)) (now (counts .entry))) (entryAt (now (job .entry)) i)
         (take written (held (entryCount (now (job .entry)) - i) (now (output .entry)) (now (work .entry)))))
         r ⌝ }
 {
@@ -64,18 +66,36 @@ fn next_pass(
     let c = entries::confirm_of(job, i);
     let left = entries::count(job) - i;
     if left % 2 == 0 {
-        correct::correct(set, starts, head, method, c, &output[..written], work)
+        correct::correct(
+            set,
+            starts,
+            head,
+            counts,
+            method,
+            c,
+            &output[..written],
+            work,
+        )
     } else {
-        correct::correct(set, starts, head, method, c, &work[..written], output)
+        correct::correct(
+            set,
+            starts,
+            head,
+            counts,
+            method,
+            c,
+            &work[..written],
+            output,
+        )
     }
 }
 
-// The counts of the passes so far and of the next.
+// The counts of the passes so far and of the next, and the smaller support.
 fn join(done: Counts, next: Counts) -> Counts
     requires { ⌜
         (done .turns + next .turns < 2 ^ 64) × (done .lookups + next .lookups < 2 ^ 64)
         × (done .attempts + next .attempts < 2 ^ 64) × (done .accepted + next .accepted < 2 ^ 64) ⌝ }
-    ensures { λ r. ⌜ r ≡ joined done next ⌝ }
+    ensures { λ r. ⌜ JoinIs done next r ⌝ }
 {
     Counts {
         written: next.written,
@@ -83,6 +103,7 @@ fn join(done: Counts, next: Counts) -> Counts
         lookups: done.lookups + next.lookups,
         attempts: done.attempts + next.attempts,
         accepted: done.accepted + next.accepted,
+        support: support::weaker(done.accepted, done.support, next.accepted, next.support),
     }
 }
 
@@ -93,6 +114,7 @@ pub fn through(
     set: &[u8],
     starts: &[u32],
     head: Header,
+    counts: &[u32],
     job: &[u8],
     read: &[u8],
     output: &mut [u8],
@@ -102,7 +124,7 @@ pub fn through(
         Ready (now set) (now starts) head × (entryCount (now job) ≤ maxMethods) × Confirmed (entriesOf (now job)) × (length (now read) ≤ maxRead) ⌝ }
     requires { ⌜ (length (now output) ≤ maxOutput) × (length (now work) ≡ length (now output)) ⌝ }
     ensures { λ r. ⌜
-        Through (setOf (now (set .entry))) (now (job .entry)) (now (read .entry))
+        Through (setWith (now (set .entry)) (now (counts .entry))) (now (job .entry)) (now (read .entry))
         (now (output .entry)) (now (output .exit)) (now (work .entry)) (now (work .exit))
         r ⌝ }
 {
@@ -110,17 +132,17 @@ pub fn through(
     if n == 0 {
         return correct::copied(read, output);
     }
-    let Pass::Done(first) = first_pass(set, starts, head, job, read, output, work) else {
+    let Pass::Done(first) = first_pass(set, starts, head, counts, job, read, output, work) else {
         return Pass::Full;
     };
-    let mut counts = first;
+    let mut done = first;
     for i in 1..n {
-        let written = counts.written;
-        let passed = next_pass(set, starts, head, job, i, written, output, work);
+        let written = done.written;
+        let passed = next_pass(set, starts, head, counts, job, i, written, output, work);
         let Pass::Done(next) = passed else {
             return Pass::Full;
         };
-        counts = join(counts, next);
+        done = join(done, next);
     }
-    Pass::Done(counts)
+    Pass::Done(done)
 }

@@ -11,11 +11,17 @@ use lib.ListN.{length, take, drop, getD, drop-of-length-le}
 use lib.Seq.{drop-cons, slice, slice-cons, slice-empty, take-add, drop-at, length-take-le}
 use borrow.Author.Tests.{lt-ltb, le-ltb, eq-eqb, ne-eqb}
 use Rattle.rules.specs.Letters.{Kmer, addBase}
+use Rattle.rules.specs.Set.{KmerSet, lookup, solid}
 use Rattle.rules.specs.Counted.{Counted, after, refuse, _>>=_}
 use Rattle.rules.specs.Scan.{ask}
 use Rattle.rules.specs.Exist.{Scenario, Mend, cons, one, two, solidRun, score, keep, tried, kept}
+use Rattle.rules.proofs.Kmer.{Known, ne-known}
+use Rattle.rules.proofs.Scan.{ask-is, ask-one, ask-none}
+use Rattle.keys.specs.declared.Found.{Found}
 use Rattle.set.specs.declared.Asked.{Asked}
 use Rattle.set.specs.Asked.{AskedIs}
+use Rattle.set.specs.Found.{indexOf, isKey}
+use Rattle.set.proofs.Among.{found-solid}
 use Rattle.scenario.specs.Scenario.{numberOf, scenarios, nth, trialOf}
 use Rattle.scenario.proofs.Trials.{asked-is, solid-one, refused-bind, given-bind}
 use Rattle.trials.specs.Trials.{confirm}
@@ -39,31 +45,48 @@ module _ (k : ℕ) (sol : ℕ → Bool) (c : ℕ) (s : List ℕ) (pos : 1 ≤ c)
     pub eligible-none : trialOf s sc ≡ record { answer = none; lookups = l } → tried k sol c s sc ≡ record { answer = none; lookups = l }
     eligible-none e = tried-by ∙ refused-bind (keep k sol c s sc) e
 
-    -- the tried k-mer t asked, and answered by r
-    module _ {t : Kmer} {r : Asked} (e : trialOf s sc ≡ record { answer = some t; lookups = l }) (asked : AskedIs (ask sol t) r) where
-      pub eligible-weak : r .solid ≡ false → tried k sol c s sc ≡ record { answer = none; lookups = l + r .lookups }
-      unfolding score after
-      eligible-weak f =
-          tried-by
-          ∙ given-bind (keep k sol c s sc) e
-          ∙ rw (keep-none {n = r .lookups} t (rw (asked-is sol t asked f, score, asked .lookups)))
+    -- the tried k-mer t asked
+    module _ {t : Kmer} {a : Bool} {n : ℕ} (e : trialOf s sc ≡ record { answer = some t; lookups = l }) (asked : ask sol t ≡ record { answer = a; lookups = n }) where
+      by : {b : Bool} → a ≡ b → ask sol t .answer ≡ b
+      by f = ap (λ (r : Counted Bool). r .answer) asked ∙ f
 
-      pub eligible-short : r .solid ≡ true → length s < sc .o + c → tried k sol c s sc ≡ record { answer = none; lookups = l + r .lookups }
+      asks : ask sol t .lookups ≡ n
+      asks = ap (λ (r : Counted Bool). r .lookups) asked
+
+      pub eligible-weak : a ≡ false → tried k sol c s sc ≡ record { answer = none; lookups = l + n }
+      unfolding score after
+      eligible-weak f = tried-by ∙ given-bind (keep k sol c s sc) e ∙ rw (keep-none {n = n} t (rw (by f, score, asks)))
+
+      pub eligible-short : a ≡ true → length s < sc .o + c → tried k sol c s sc ≡ record { answer = none; lookups = l + n }
       unfolding score after
       eligible-short f h =
           tried-by
           ∙ given-bind (keep k sol c s sc) e
-          ∙ rw (keep-none {n = r .lookups} t (rw (asked-is sol t asked f, score, lt-ltb (length s) (sc .o + c) h, asked .lookups)))
+          ∙ rw (keep-none {n = n} t (rw (by f, score, lt-ltb (length s) (sc .o + c) h, asks)))
 
-      pub eligible-on : r .solid ≡ true → sc .o + c ≤ length s → tried k sol c s sc ≡ after (l + r .lookups) (confirm k sol c s sc t)
+      pub eligible-on : a ≡ true → sc .o + c ≤ length s → tried k sol c s sc ≡ after (l + n) (confirm k sol c s sc t)
       unfolding score after confirm keep
       eligible-on f h =
           tried-by
           ∙ given-bind (keep k sol c s sc) e
-          ∙ rw (asked-is sol t asked f, keep, score, le-ltb (length s) (sc .o + c) h, asked .lookups)
-          (let n = solidRun k sol t (take c (drop (sc .o) s)) .lookups in
-          let z : l + (ask sol t .lookups + n) ≡ l + ask sol t .lookups + n = omega arith in
+          ∙ rw (by f, keep, score, le-ltb (length s) (sc .o + c) h, asks)
+          (let m = solidRun k sol t (take c (drop (sc .o) s)) .lookups in
+          let z : l + (n + m) ≡ l + n + m = omega arith in
           λ i. record { answer = confirm k sol c s sc t .answer; lookups = z i })
+
+    -- a tried k-mer that holds an unknown letter
+    pub eligible-unknown : {t : Kmer} → trialOf s sc ≡ record { answer = some t; lookups = l } → (t .unknown ≡ 0 → ⊥) → tried k sol c s sc ≡ record { answer = none; lookups = l }
+    eligible-unknown {t} e f =
+        let z : l + 0 ≡ l = omega arith in
+        eligible-weak e (ask-none sol t (ne-known t f)) refl ∙ (λ i. record { answer = none; lookups = z i })
+
+-- a k-mer without unknown letters looked up, and answered by r
+pub looked-up : (set : KmerSet) (y : Kmer) → Known y → (r : Found) → indexOf r ≡ lookup set (y .code)
+    → ask (solid set) y ≡ record { answer = isKey r; lookups = 1 }
+looked-up set y known r found =
+    let a = ask-is (solid set) y known ∙ sym (found-solid r set (y .code) found) in
+    let p = ask-one (solid set) y known in
+    λ i. record { answer = a i; lookups = p i }
 
 -- ---- the bases added
 
@@ -134,7 +157,7 @@ module _ (k : ℕ) (sol : ℕ → Bool) (c : ℕ) (s : List ℕ) (sc : Scenario)
   unfolding confirm after
   tried-bad h = left ∙ rw (bases, confirm, ne-eqb a c (λ e. omega arith))
 
-  pub tried-all : a ≡ c → tried k sol c s sc ≡ record { answer = some (record { letters = sc .letters t; resume = sc .r }); lookups = l + n }
+  pub tried-all : a ≡ c → tried k sol c s sc ≡ record { answer = some (record { letters = sc .letters t; resume = sc .r; on = t ∷ [] }); lookups = l + n }
   unfolding confirm after
   tried-all h = left ∙ rw (bases, confirm, eq-eqb a c h)
 

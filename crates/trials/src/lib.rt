@@ -1,10 +1,10 @@
 // Document 01, "Correctors", One and Two: the trials of src/correct/exist/mod.rs. A scenario is its number in the source's order. A k-mer that
 // holds an unknown letter isn't solid, and no lookup is made or counted for it (document 02, W5).
+use keys::Found;
 use kmer::Header;
 use kmer::Kmer;
 use scan::Next;
 use scenario::Mend;
-use scenario::Trial;
 ghost use Prim.Native.Nat.{_≤_, _<_};
 ghost use Rattle.rules.specs.Set.{solid, setOf};
 ghost use Rattle.rules.specs.Exist as rules;
@@ -20,6 +20,18 @@ pub struct Scenarii {
     pub lookups: u64,
 }
 
+// A solid tried k-mer and its key's index.
+enum Tried {
+    Kmer(Kmer, usize),
+    Refused,
+}
+
+// A trial as far as its first confirm base, and the lookups made.
+struct Candidate {
+    tried: Tried,
+    lookups: u64,
+}
+
 // The tried k-mer, unless the score is 0 from the outset: the trial refuses, its k-mer isn't solid, or o + c exceeds the length of s.
 fn eligible(
     set: &[u8],
@@ -30,33 +42,44 @@ fn eligible(
     c: usize,
     x: Kmer,
     s: &[u8],
-) -> Trial
+) -> Candidate
     requires { ⌜ Ready (now set) (now starts) head × IsKmer (head .k) x × (number < numberOf two) × (1 ≤ c) × (c < 256) ⌝ }
-    ensures { λ r. ⌜ Eligible (head .k) (solid (setOf (now (set .entry)))) c (now (s .entry))
+    ensures { λ r. ⌜ Eligible (head .k) (setOf (now (set .entry))) c (now (s .entry))
         (nth (scenarios two (head .k) (solid (setOf (now (set .entry)))) (kmerOf x) (now (s .entry))) number) r ⌝ }
 {
     let trial = scenario::apply(set, starts, head, two, number, x, s);
+    let mut lookups = trial.lookups;
     let tried = trial.tried;
     let Next::Kmer(kmer) = tried else {
-        return trial;
+        return Candidate {
+            tried: Tried::Refused,
+            lookups,
+        };
+    };
+    if kmer.unknown != 0 {
+        return Candidate {
+            tried: Tried::Refused,
+            lookups,
+        };
+    }
+    lookups += 1;
+    let Found::At(place) = set::get(set, starts, head, kmer) else {
+        return Candidate {
+            tried: Tried::Refused,
+            lookups,
+        };
     };
     let start = scenario::check_start(two, number);
-    let asked = set::ask(set, starts, head, kmer);
-    let own = asked.lookups;
-    let lookups = trial.lookups + own;
-    if !asked.solid {
-        return Trial {
-            tried: Next::Refused,
-            lookups,
-        };
-    }
     if s.len() < start + c {
-        return Trial {
-            tried: Next::Refused,
+        return Candidate {
+            tried: Tried::Refused,
             lookups,
         };
     }
-    Trial { tried, lookups }
+    Candidate {
+        tried: Tried::Kmer(kmer, place),
+        lookups,
+    }
 }
 
 // The scenarios that score c: the c bases of s from o are added, and the trial ends at the first base whose k-mer isn't solid.
@@ -70,22 +93,24 @@ pub fn get_scenarii(
     s: &[u8],
 ) -> Scenarii
     requires { ⌜ Ready (now set) (now starts) head × IsKmer (head .k) x × (1 ≤ c) × (c < 256) ⌝ }
-    ensures { λ r. ⌜ KeptIs (rules.kept (head .k) (solid (setOf (now (set .entry)))) c (now (s .entry))
+    ensures { λ r. ⌜ KeptIs (setOf (now (set .entry))) (rules.kept (head .k) (solid (setOf (now (set .entry)))) c (now (s .entry))
         (scenarios two (head .k) (solid (setOf (now (set .entry)))) (kmerOf x) (now (s .entry)))) r ⌝ }
 {
     let mut kept = [Mend {
         code: 0,
         letters: 0,
         resume: 0,
+        tried: 0,
+        place: 0,
     }; 13];
     let mut count = 0;
     let mut lookups = 0;
     let end = scenario::number_of(two);
     'scenarios: for number in 0..end {
-        let trial = eligible(set, starts, head, two, number, c, x, s);
-        lookups += trial.lookups;
-        let tried = trial.tried;
-        let Next::Kmer(first) = tried else {
+        let candidate = eligible(set, starts, head, two, number, c, x, s);
+        lookups += candidate.lookups;
+        let tried = candidate.tried;
+        let Tried::Kmer(first, place) = tried else {
             continue 'scenarios;
         };
         let start = scenario::check_start(two, number);
@@ -99,7 +124,7 @@ pub fn get_scenarii(
                 continue 'scenarios;
             }
         }
-        kept[count] = scenario::correct(two, number, x, first);
+        kept[count] = scenario::correct(two, number, x, first, place);
         count += 1;
     }
     Scenarii {

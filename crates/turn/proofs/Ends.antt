@@ -24,31 +24,31 @@ pub record Within (a b : Pass) : Type 0 where
   pub attempts : a .attempts ≤ b .attempts
   pub accepted : a .accepted ≤ b .accepted
 
-module _ (k : ℕ) (sol : ℕ → Bool) (ce : List ℕ → Kmer → Try Mend) where
+module _ (k : ℕ) (sol : ℕ → Bool) (count : Kmer → ℕ) (ce : List ℕ → Kmer → Try Mend) where
   -- a property that each way of a turn keeps holds from a state to what its turns lead to
   module _ (P : Pass → Type 0)
       (keeps : (st : State) (b : ℕ) (s : List ℕ) (y : Kmer) (p : Bool) (a l : ℕ) → a ≤ 1 → P (st .done) → P (keepBase st b s y p a l .done))
-      (mends : (st : State) (s : List ℕ) (y : Kmer) (m : Mend) (l : ℕ) → P (st .done) → P (mendBase k st s y m l .done)) where
-    turn-keeps : (st : State) (b : ℕ) (s : List ℕ) → P (st .done) → P (turn k sol ce st b s .done)
-    turn-keeps st b s h = go (case k sol ce st b s)
+      (mends : (st : State) (s : List ℕ) (y : Kmer) (m : Mend) (l : ℕ) → P (st .done) → P (mendBase k count st s y m l .done)) where
+    turn-keeps : (st : State) (b : ℕ) (s : List ℕ) → P (st .done) → P (turn k sol count ce st b s .done)
+    turn-keeps st b s h = go (case k sol count ce st b s)
       where
-        go : Case k sol ce st b s → P (turn k sol ce st b s .done)
-        go (is-solid e) = rw (turn-solid k sol ce st b s e) (keeps st b s _ true 0 _ (omega arith) h)
-        go (is-quiet e p) = rw (turn-quiet k sol ce st b s e p) (keeps st b s _ false 0 _ (omega arith) h)
-        go (is-refused e p a) = rw (turn-refused k sol ce st b s e p a) (keeps st b s _ false 1 _ (omega arith) h)
-        go (is-mended m e p a) = rw (turn-mended k sol ce st b s m e p a) (mends st (b ∷ s) _ m _ h)
+        go : Case k sol count ce st b s → P (turn k sol count ce st b s .done)
+        go (is-solid e) = rw (turn-solid k sol count ce st b s e) (keeps st b s _ true 0 _ (omega arith) h)
+        go (is-quiet e p) = rw (turn-quiet k sol count ce st b s e p) (keeps st b s _ false 0 _ (omega arith) h)
+        go (is-refused e p a) = rw (turn-refused k sol count ce st b s e p a) (keeps st b s _ false 1 _ (omega arith) h)
+        go (is-mended m e p a) = rw (turn-mended k sol count ce st b s m e p a) (mends st (b ∷ s) _ m _ h)
 
-    pub turnsOf-keeps : (f : ℕ) (st : State) → P (st .done) → P (turnsOf k sol ce f st .done)
+    pub turnsOf-keeps : (f : ℕ) (st : State) → P (st .done) → P (turnsOf k sol count ce f st .done)
     unfolding turnsOf
     turnsOf-keeps zero st h = h
     turnsOf-keeps (suc f) st h = go (turnsOf-keeps f) (st .rest) refl
       where
-        go : ((st′ : State) → P (st′ .done) → P (turnsOf k sol ce f st′ .done)) → (r : List ℕ) → st .rest ≡ r → P (turnsOf k sol ce (suc f) st .done)
-        go ih [] e = rw (turnsOf-end k sol ce (suc f) st e) h
-        go ih (b ∷ s) e = rw (turnsOf-step k sol ce f st b s e) (ih (turn k sol ce st b s) (turn-keeps st b s h))
+        go : ((st′ : State) → P (st′ .done) → P (turnsOf k sol count ce f st′ .done)) → (r : List ℕ) → st .rest ≡ r → P (turnsOf k sol count ce (suc f) st .done)
+        go ih [] e = rw (turnsOf-end k sol count ce (suc f) st e) h
+        go ih (b ∷ s) e = rw (turnsOf-step k sol count ce f st b s e) (ih (turn k sol count ce st b s) (turn-keeps st b s h))
 
   -- what is done only grows
-  pub turnsOf-within : (f : ℕ) (st : State) → Within (st .done) (turnsOf k sol ce f st .done)
+  pub turnsOf-within : (f : ℕ) (st : State) → Within (st .done) (turnsOf k sol count ce f st .done)
   unfolding keepBase mendBase
   turnsOf-within f st =
       turnsOf-keeps (Within (st .done))
@@ -69,29 +69,29 @@ module _ (k : ℕ) (sol : ℕ → Bool) (ce : List ℕ → Kmer → Try Mend) wh
       f st (record { bytes = omega arith; turns = omega arith; lookups = omega arith; attempts = omega arith; accepted = omega arith })
 
   -- what a turn has done is done at the end
-  pub turn-within : Steady k sol ce → (st : State) (b : ℕ) (s : List ℕ) → st .rest ≡ b ∷ s → Within (turn k sol ce st b s .done) (finish k sol ce st .done)
+  pub turn-within : Steady k sol ce → (st : State) (b : ℕ) (s : List ℕ) → st .rest ≡ b ∷ s → Within (turn k sol count ce st b s .done) (finish k sol count ce st .done)
   unfolding finish
   turn-within h st b s e =
-      let t = turn k sol ce st b s in
-      rw (finish-step k sol ce h st b s e) (turnsOf-within (2 * length (t .rest)) t)
+      let t = turn k sol count ce st b s in
+      rw (finish-step k sol count ce h st b s e) (turnsOf-within (2 * length (t .rest)) t)
 
-  turnsOf-add : (n f : ℕ) (st : State) → turnsOf k sol ce (n + f) st ≡ turnsOf k sol ce f (turnsOf k sol ce n st)
+  turnsOf-add : (n f : ℕ) (st : State) → turnsOf k sol count ce (n + f) st ≡ turnsOf k sol count ce f (turnsOf k sol count ce n st)
   unfolding turnsOf
   turnsOf-add zero f st = rw (zero-add f)
   turnsOf-add (suc n) f st = go (turnsOf-add n f) (st .rest) refl
     where
-      go : ((st′ : State) → turnsOf k sol ce (n + f) st′ ≡ turnsOf k sol ce f (turnsOf k sol ce n st′))
-          → (r : List ℕ) → st .rest ≡ r → turnsOf k sol ce (suc n + f) st ≡ turnsOf k sol ce f (turnsOf k sol ce (suc n) st)
-      go ih [] e = turnsOf-end k sol ce (suc n + f) st e ∙ sym (turnsOf-end k sol ce f st e) ∙ ap (turnsOf k sol ce f) (sym (turnsOf-end k sol ce (suc n) st e))
+      go : ((st′ : State) → turnsOf k sol count ce (n + f) st′ ≡ turnsOf k sol count ce f (turnsOf k sol count ce n st′))
+          → (r : List ℕ) → st .rest ≡ r → turnsOf k sol count ce (suc n + f) st ≡ turnsOf k sol count ce f (turnsOf k sol count ce (suc n) st)
+      go ih [] e = turnsOf-end k sol count ce (suc n + f) st e ∙ sym (turnsOf-end k sol count ce f st e) ∙ ap (turnsOf k sol count ce f) (sym (turnsOf-end k sol count ce (suc n) st e))
       go ih (b ∷ s) e =
           let more : suc n + f ≡ suc (n + f) = omega arith in
-          ap (λ (g : ℕ). turnsOf k sol ce g st) more ∙ turnsOf-step k sol ce (n + f) st b s e ∙ ih (turn k sol ce st b s)
-          ∙ ap (turnsOf k sol ce f) (sym (turnsOf-step k sol ce n st b s e))
+          ap (λ (g : ℕ). turnsOf k sol count ce g st) more ∙ turnsOf-step k sol count ce (n + f) st b s e ∙ ih (turn k sol count ce st b s)
+          ∙ ap (turnsOf k sol count ce f) (sym (turnsOf-step k sol count ce n st b s e))
 
   -- after a refused attempt the bases that its scan passed are put out
   pub refused-within : (st : State) (b : ℕ) (s : List ℕ) → st .rest ≡ b ∷ s
       → ask sol (addBase k (st .kmer) b) .answer ≡ false → st .previous ≡ true → ce (b ∷ s) (addBase k (st .kmer) b) .answer ≡ none
-      → length (st .done .bytes) + errorLen k sol (addBase k (st .kmer) b) (b ∷ s) .index ≤ length (finish k sol ce st .done .bytes)
+      → length (st .done .bytes) + errorLen k sol (addBase k (st .kmer) b) (b ∷ s) .index ≤ length (finish k sol count ce st .done .bytes)
   unfolding finish errorLen
   refused-within st b s e f p a =
       let y : Kmer = addBase k (st .kmer) b in
@@ -100,7 +100,7 @@ module _ (k : ℕ) (sol : ℕ → Bool) (ce : List ℕ → Kmer → Try Mend) wh
       let n = 2 * length (st .rest) in
       let n-is : length (st .rest) ≡ length (b ∷ s) = ap length e in
       let split : n ≡ i + (n - i) = omega arith in
-      let kept = ap length (refused-kept k sol ce st b s e f p a) ∙ length-append (st .done .bytes) (take i (b ∷ s)) in
+      let kept = ap length (refused-kept k sol count ce st b s e f p a) ∙ length-append (st .done .bytes) (take i (b ∷ s)) in
       let taken = length-take-le i (b ∷ s) high in
-      let more = turnsOf-within (n - i) (turnsOf k sol ce i st) .bytes in
+      let more = turnsOf-within (n - i) (turnsOf k sol count ce i st) .bytes in
       rw (split, turnsOf-add i (n - i) st) (omega arith)

@@ -2,11 +2,12 @@
 use Prim.Native.Nat.{ℕ, _+_, _≤_, _<_, _^_, min}
 use mathlib.Core.Path.{_≡_}
 use mathlib.Core.Bool.{Bool, true, false}
+use mathlib.Core.Option.{some}
 use mathlib.Core.List.{List}
 use lib.ListN.{length, getD, take, drop, set}
 use Rattle.rules.specs.Letters as letters
 use Rattle.rules.specs.Letters.{addBase, inPlace}
-use Rattle.rules.specs.Set.{setOf, solid}
+use Rattle.rules.specs.Set.{setOf, solid, countOf}
 use Rattle.rules.specs.Counted.{Try}
 use Rattle.rules.specs.Scan.{ask}
 use Rattle.rules.specs.Exist.{Mend}
@@ -18,13 +19,23 @@ use Rattle.kmer.specs.declared.Header.{Header}
 use Rattle.kmer.specs.declared.Kmer.{Kmer}
 use Rattle.kmer.specs.Kmer.{kmerOf, IsKmer, HasLetters}
 use Rattle.set.specs.Ready.{Ready}
+use Rattle.set.specs.Counted.{setWith}
+use Rattle.support.specs.Support.{supportOf}
 use Rattle.turn.specs.declared.Place.{Place}
 use Rattle.turn.specs.declared.Turned.{Turned}
 use Rattle.turn.specs.declared.Turned.the-variants.{To, Full}
 
 -- What is done at a place, as the rules' pass so far.
 abbrev pub doneOf : Place → List ℕ → rules.Pass
-doneOf p out = record { bytes = take (p .written) out; turns = p .turns; lookups = p .lookups; attempts = p .attempts; accepted = p .accepted }
+doneOf p out =
+    record {
+      bytes = take (p .written) out;
+      turns = p .turns;
+      lookups = p .lookups;
+      attempts = p .attempts;
+      accepted = p .accepted;
+      support = supportOf (p .accepted) (p .support);
+    }
 
 -- A place as the rules' state.
 unfoldable pub stateOf : Place → List ℕ → List ℕ → State
@@ -43,19 +54,21 @@ pub record Countable (n : rules.Pass) : Type 0 where
   pub attempts : n .attempts < 2 ^ 63
   pub accepted : n .accepted < 2 ^ 63
 
--- The rules' attempt, turn and end of a pass, under a set's bytes, a method byte and a confirm.
-abbrev pub attemptOf : List ℕ → ℕ → ℕ → List ℕ → letters.Kmer → Try Mend
-attemptOf bytes method c = correctError (setOf bytes) c (methodOf method)
+-- The rules' attempt, turn and end of a pass, under a set's bytes, its keys' counts, a method byte and a confirm.
+abbrev pub attemptOf : List ℕ → List ℕ → ℕ → ℕ → List ℕ → letters.Kmer → Try Mend
+attemptOf bytes counts method c = correctError (setWith bytes counts) c (methodOf method)
 
-abbrev pub turnOf : List ℕ → Header → ℕ → ℕ → State → ℕ → List ℕ → State
-turnOf bytes head method c = rules.turn (head .k) (solid (setOf bytes)) (attemptOf bytes method c)
+abbrev pub turnOf : List ℕ → Header → List ℕ → ℕ → ℕ → State → ℕ → List ℕ → State
+turnOf bytes head counts method c =
+    rules.turn (head .k) (solid (setWith bytes counts)) (countOf (setWith bytes counts)) (attemptOf bytes counts method c)
 
-abbrev pub endOf : List ℕ → Header → ℕ → ℕ → State → rules.Pass
-endOf bytes head method c st = finish (head .k) (solid (setOf bytes)) (attemptOf bytes method c) st .done
+abbrev pub endOf : List ℕ → Header → List ℕ → ℕ → ℕ → State → rules.Pass
+endOf bytes head counts method c st =
+    finish (head .k) (solid (setWith bytes counts)) (countOf (setWith bytes counts)) (attemptOf bytes counts method c) st .done
 
--- One turn more: where it leads, and what it adds: w bytes written, l lookups, a attempts made and b accepted.
-abbrev pub placeOf : Place → Kmer → Bool → ℕ → ℕ → ℕ → ℕ → ℕ → Place
-placeOf p kmer previous at w l a b =
+-- One turn more: where it leads, what it adds: w bytes written, l lookups, a attempts made and b accepted, and the support from there on.
+abbrev pub placeOf : Place → Kmer → Bool → ℕ → ℕ → ℕ → ℕ → ℕ → ℕ → Place
+placeOf p kmer previous at w l a b support =
     record {
       kmer = kmer;
       previous = previous;
@@ -65,6 +78,7 @@ placeOf p kmer previous at w l a b =
       lookups = p .lookups + l;
       attempts = p .attempts + a;
       accepted = p .accepted + b;
+      support = support;
     }
 
 -- What it adds fits.
@@ -78,22 +92,24 @@ pub record Fits (p : Place) (w l a b : ℕ) : Type 0 where
 -- A base kept, as `keepBase` of the rules has it; Full where the output has no room for it.
 abbrev pub Kept : Place → ℕ → Kmer → Bool → ℕ → ℕ → List ℕ → List ℕ → Turned → Type 0
 Kept p base kmer solid a l out out′ (To r) =
-    (r ≡ placeOf p kmer solid (p .at + 1) 1 l a 0) × (out′ ≡ set out (p .written) base) × (p .written < length out)
+    (r ≡ placeOf p kmer solid (p .at + 1) 1 l a 0 (p .support)) × (out′ ≡ set out (p .written) base) × (p .written < length out)
 Kept p base kmer solid a l out out′ Full = length out ≤ p .written
 
--- An accepted attempt at the bad k-mer y, as `mendBase` of the rules has it, in a read of length n.
-pub record Mended (k : ℕ) (p : Place) (y : letters.Kmer) (given : List ℕ) (resume l n : ℕ) (r : Place) : Type 0 where
+-- An accepted attempt at the bad k-mer y, as `mendBase` of the rules has it, in a read of length n; v is the smallest count that it rests on.
+pub record Mended (k : ℕ) (p : Place) (y : letters.Kmer) (given : List ℕ) (resume l v n : ℕ) (r : Place) : Type 0 where
   pub kmer : Kmer
   pub placed : HasLetters k (inPlace k y given) kmer
-  pub is : r ≡ placeOf p kmer true (min (p .at + resume) n) (length given) l 1 1
+  pub support : ℕ
+  pub weighed : supportOf (p .accepted + 1) support ≡ rules.weaker (supportOf (p .accepted) (p .support)) (some v)
+  pub is : r ≡ placeOf p kmer true (min (p .at + resume) n) (length given) l 1 1 support
 
 -- What a turn asks: a base is left, and the counts of the whole pass fit.
-pub record Turning (bytes starts : List ℕ) (head : Header) (method c : ℕ) (p : Place) (read out : List ℕ) : Type 0 where
+pub record Turning (bytes starts : List ℕ) (head : Header) (counts : List ℕ) (method c : ℕ) (p : Place) (read out : List ℕ) : Type 0 where
   pub ready : Ready bytes starts head
   pub confirm : 1 ≤ c
   pub stands : Stands (head .k) p read out
   pub more : p .at < length read
-  pub counts : Countable (endOf bytes head method c (stateOf p read out))
+  pub countable : Countable (endOf bytes head counts method c (stateOf p read out))
 
 -- The next base gives the k-mer `bad`, which is not solid, by that many lookups, while the previous one counts as solid.
 pub record BadAt (bytes : List ℕ) (head : Header) (p : Place) (bad : Kmer) (asked : ℕ) (read : List ℕ) : Type 0 where
@@ -103,8 +119,8 @@ pub record BadAt (bytes : List ℕ) (head : Header) (p : Place) (bad : Kmer) (as
   pub previous : p .previous ≡ true
 
 -- A turn of the code is one of the rules; Full where the pass's result is longer than the output.
-abbrev pub TurnIs : List ℕ → Header → ℕ → ℕ → Place → List ℕ → List ℕ → List ℕ → Turned → Type 0
-TurnIs bytes head method c p read out out′ (To r) =
-    (stateOf r read out′ ≡ turnOf bytes head method c (stateOf p read out) (getD read (p .at) 0) (drop (p .at + 1) read))
+abbrev pub TurnIs : List ℕ → Header → List ℕ → ℕ → ℕ → Place → List ℕ → List ℕ → List ℕ → Turned → Type 0
+TurnIs bytes head counts method c p read out out′ (To r) =
+    (stateOf r read out′ ≡ turnOf bytes head counts method c (stateOf p read out) (getD read (p .at) 0) (drop (p .at + 1) read))
     × Stands (head .k) r read out′
-TurnIs bytes head method c p read out out′ Full = length out < length (endOf bytes head method c (stateOf p read out) .bytes)
+TurnIs bytes head counts method c p read out out′ Full = length out < length (endOf bytes head counts method c (stateOf p read out) .bytes)

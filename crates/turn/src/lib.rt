@@ -1,19 +1,21 @@
 // One turn of the driver, `Corrector::correct` of src/correct/mod.rs: a base is taken, its k-mer looked up and, where that is not solid
-// while the previous was, an attempt made. Document 01, "Driver", and document 02, W5.
+// while the previous was, an attempt made. Document 01, "Driver", and document 02, W5 and W8.
 use kmer::Header;
 use kmer::Kmer;
 use scan::Attempt;
 ghost use mathlib.Core.Path.{_≡_};
 ghost use Prim.Native.Nat.{_+_, _≤_, _<_, _^_};
 ghost use lib.ListN.{length};
-ghost use Rattle.rules.specs.Set.{setOf, solid};
+ghost use Rattle.rules.specs.Set.{setOf, solid, countOf};
 ghost use Rattle.rules.specs.Scan.{errorLen};
 ghost use Rattle.kmer.specs.Kmer.{Shifts, kmerOf, IsKmer};
 ghost use Rattle.set.specs.Ready.{Ready};
+ghost use Rattle.set.specs.Counted.{setWith};
 ghost use Rattle.scan.specs.Attempt.{Attempted};
 ghost use Rattle.turn.specs.Turn.{attemptOf, Fits, placeOf, Kept, Mended, Turning, BadAt, TurnIs};
 
-// Where a pass stands: the k-mer, whether the previous one counts as solid, the index of the next base, and what is done.
+// Where a pass stands: the k-mer, whether the previous one counts as solid, the index of the next base, and what is done; support is the
+// smallest count behind the accepted corrections, if there are any.
 pub struct Place {
     pub kmer: Kmer,
     pub previous: bool,
@@ -23,6 +25,7 @@ pub struct Place {
     pub lookups: u64,
     pub attempts: u64,
     pub accepted: u64,
+    pub support: u32,
 }
 
 // Full: what the turn has to write, or what is certain to come after it, does not fit.
@@ -36,6 +39,7 @@ fn correct_error(
     set: &[u8],
     starts: &[u32],
     head: Header,
+    counts: &[u32],
     method: u8,
     c: u8,
     kmer: Kmer,
@@ -44,19 +48,20 @@ fn correct_error(
 ) -> Attempt
     requires { ⌜ Ready (now set) (now starts) head × IsKmer (head .k) kmer × (1 ≤ length (now s)) × (1 ≤ c) ⌝ }
     ensures { λ r. ⌜
-        Attempted (errorLen (head .k) (solid (setOf (now (set .entry)))) (kmerOf kmer) (now (s .entry)) .index) (now (out .entry)) (now (out .exit))
-        (attemptOf (now (set .entry)) method c (now (s .entry)) (kmerOf kmer))
+        Attempted (countOf (setWith (now (set .entry)) (now (counts .entry))))
+        (errorLen (head .k) (solid (setOf (now (set .entry)))) (kmerOf kmer) (now (s .entry)) .index) (now (out .entry)) (now (out .exit))
+        (attemptOf (now (set .entry)) (now (counts .entry)) method c (now (s .entry)) (kmerOf kmer))
         r ⌝ }
 {
     match method {
-        1 => exist::correct_error(set, starts, head, false, c, 0, kmer, s, out),
-        2 => exist::correct_error(set, starts, head, true, c, 0, kmer, s, out),
-        3 => graph::correct_error(set, starts, head, kmer, s, out),
-        _ => gap_size::correct_error(set, starts, head, c, kmer, s, out),
+        1 => exist::correct_error(set, starts, head, counts, false, c, 0, kmer, s, out),
+        2 => exist::correct_error(set, starts, head, counts, true, c, 0, kmer, s, out),
+        3 => graph::correct_error(set, starts, head, counts, kmer, s, out),
+        _ => gap_size::correct_error(set, starts, head, counts, c, kmer, s, out),
     }
 }
 
-// One turn more: where it leads, and what it adds: bytes written, lookups, attempts made and accepted.
+// One turn more: where it leads, what it adds: bytes written, lookups, attempts made and accepted, and the support from there on.
 fn moved(
     p: Place,
     kmer: Kmer,
@@ -66,9 +71,10 @@ fn moved(
     lookups: u64,
     attempts: u64,
     accepted: u64,
+    support: u32,
 ) -> Place
     requires { ⌜ Fits p written lookups attempts accepted ⌝ }
-    ensures { λ r. ⌜ r ≡ placeOf p kmer previous at written lookups attempts accepted ⌝ }
+    ensures { λ r. ⌜ r ≡ placeOf p kmer previous at written lookups attempts accepted support ⌝ }
 {
     Place {
         kmer,
@@ -79,6 +85,7 @@ fn moved(
         lookups: p.lookups + lookups,
         attempts: p.attempts + attempts,
         accepted: p.accepted + accepted,
+        support,
     }
 }
 
@@ -100,22 +107,23 @@ fn keep(
         return Turned::Full;
     }
     out[w] = base;
-    Turned::To(moved(p, kmer, solid, p.at + 1, 1, lookups, attempts, 0))
+    Turned::To(moved(p, kmer, solid, p.at + 1, 1, lookups, attempts, 0, p.support))
 }
 
 // The letters of an accepted attempt stand in the output already. The bad k-mer takes them in place of its last letter, and the pass
-// goes on `resume` bases further, or stops at the read's end, `len`.
+// goes on `resume` bases further, or stops at the read's end, `len`; support is the smallest count that the attempt rests on.
 fn mend(
     p: Place,
     bad: Kmer,
     letters: &[u8],
     resume: usize,
     lookups: u64,
+    support: u32,
     len: usize,
     head: Header,
 ) -> Place
     requires { ⌜ Shifts head × IsKmer (head .k) bad × (p .at ≤ len) × Fits p (length (now letters)) lookups 1 1 ⌝ }
-    ensures { λ r. ⌜ Mended (head .k) p (kmerOf bad) (now (letters .entry)) resume lookups len r ⌝ }
+    ensures { λ r. ⌜ Mended (head .k) p (kmerOf bad) (now (letters .entry)) resume lookups support len r ⌝ }
 {
     let mut at = len;
     if resume < len - p.at {
@@ -123,7 +131,8 @@ fn mend(
     }
     let shifted = kmer::drop_last(bad, head);
     let kmer = scan::add_all(shifted, letters, head);
-    moved(p, kmer, true, at, letters.len(), lookups, 1, 1)
+    let weakest = support::weaker(p.accepted, p.support, 1, support);
+    moved(p, kmer, true, at, letters.len(), lookups, 1, 1, weakest)
 }
 
 // A turn at a base whose k-mer, asked by that many lookups, is not solid while the previous was.
@@ -131,6 +140,7 @@ fn bad_base(
     set: &[u8],
     starts: &[u32],
     head: Header,
+    counts: &[u32],
     method: u8,
     c: u8,
     p: Place,
@@ -139,9 +149,9 @@ fn bad_base(
     read: &[u8],
     out: &mut [u8],
 ) -> Turned
-    requires { ⌜ Turning (now set) (now starts) head method c p (now read) (now out) ⌝ }
+    requires { ⌜ Turning (now set) (now starts) head (now counts) method c p (now read) (now out) ⌝ }
     requires { ⌜ BadAt (now set) head p bad asked (now read) ⌝ }
-    ensures { λ r. ⌜ TurnIs (now (set .entry)) head method c p (now (read .entry)) (now (out .entry)) (now (out .exit)) r ⌝ }
+    ensures { λ r. ⌜ TurnIs (now (set .entry)) head (now (counts .entry)) method c p (now (read .entry)) (now (out .entry)) (now (out .exit)) r ⌝ }
 {
     let at = p.at;
     let w = p.written;
@@ -149,13 +159,14 @@ fn bad_base(
         set,
         starts,
         head,
+        counts,
         method,
         c,
         bad,
         &read[at..],
         &mut out[w..],
     );
-    let Attempt::Mend(n, resume, lookups) = tried else {
+    let Attempt::Mend(n, resume, lookups, support) = tried else {
         let Attempt::Refused(lookups) = tried else {
             return Turned::Full;
         };
@@ -168,6 +179,7 @@ fn bad_base(
         &out[w..end],
         resume,
         asked + lookups,
+        support,
         read.len(),
         head,
     ))
@@ -177,14 +189,15 @@ pub fn turn(
     set: &[u8],
     starts: &[u32],
     head: Header,
+    counts: &[u32],
     method: u8,
     c: u8,
     p: Place,
     read: &[u8],
     out: &mut [u8],
 ) -> Turned
-    requires { ⌜ Turning (now set) (now starts) head method c p (now read) (now out) ⌝ }
-    ensures { λ r. ⌜ TurnIs (now (set .entry)) head method c p (now (read .entry)) (now (out .entry)) (now (out .exit)) r ⌝ }
+    requires { ⌜ Turning (now set) (now starts) head (now counts) method c p (now read) (now out) ⌝ }
+    ensures { λ r. ⌜ TurnIs (now (set .entry)) head (now (counts .entry)) method c p (now (read .entry)) (now (out .entry)) (now (out .exit)) r ⌝ }
 {
     let at = p.at;
     let base = read[at];
@@ -201,6 +214,7 @@ pub fn turn(
         set,
         starts,
         head,
+        counts,
         method,
         c,
         p,

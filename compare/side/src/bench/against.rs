@@ -15,12 +15,35 @@ extern "C" {
 const RTLD_NOW: c_int = 2;
 const BATCH: &CStr = c"corrector_batch";
 
-/// `corrector_batch` as corrector.h has it.
+/// What the other build's `corrector_batch` takes between the set and the job: nothing before document 02's W7, an index before W8, then counts too.
+#[derive(Clone, Copy, Debug, PartialEq, Eq)]
+pub enum Offers {
+    Nothing,
+    Index,
+    Counts,
+}
+
+impl Offers {
+    pub const ALL: [Offers; 3] = [Offers::Nothing, Offers::Index, Offers::Counts];
+}
+
+/// `corrector_batch` as corrector.h had it at that time: set, what is offered, job, batch, output, work, answer.
 #[rustfmt::skip]
-type BatchCall = unsafe extern "C" fn(
-    set: *const u8, set_length: usize, job: *const u8, job_length: usize, batch: *const u8, batch_length: usize,
-    output: *mut u8, output_length: usize, work: *mut u8, work_length: usize, answer: *mut u64, answer_length: usize,
-) -> u64;
+mod calls {
+    type In = *const u8;
+    type Out = *mut u8;
+    type Answer = *mut u64;
+    pub type Plain = unsafe extern "C" fn(In, usize, In, usize, In, usize, Out, usize, Out, usize, Answer, usize) -> u64;
+    pub type Indexed = unsafe extern "C" fn(In, usize, In, usize, In, usize, In, usize, Out, usize, Out, usize, Answer, usize) -> u64;
+    pub type Counted =
+        unsafe extern "C" fn(In, usize, In, usize, *const u32, usize, In, usize, In, usize, Out, usize, Out, usize, Answer, usize) -> u64;
+}
+
+enum BatchCall {
+    Plain(calls::Plain),
+    Indexed(calls::Indexed),
+    Counted(calls::Counted),
+}
 
 pub struct Against {
     batch: BatchCall,
@@ -28,41 +51,50 @@ pub struct Against {
 
 impl Against {
     /// Loads a static library, for as long as the program runs.
-    pub fn load(library: &str) -> Result<Self, String> {
+    pub fn load(library: &str, offers: Offers) -> Result<Self, String> {
         let shared = std::env::temp_dir().join(format!("compare-against-{}.so", std::process::id()));
         let batch = share(library, &shared).and_then(|()| symbol(&shared, BATCH));
         let _ = std::fs::remove_file(&shared);
         let batch = batch.map_err(|error| format!("{library}: {error}"))?;
-        // SAFETY: the symbol is the function that corrector.h declares so, and is not unloaded.
-        Ok(Against { batch: unsafe { std::mem::transmute::<*mut c_void, BatchCall>(batch) } })
+        // SAFETY: the symbol is the function that the library's corrector.h declares so, if `offers` is right, and is not unloaded.
+        let batch = unsafe {
+            match offers {
+                Offers::Nothing => BatchCall::Plain(std::mem::transmute::<*mut c_void, calls::Plain>(batch)),
+                Offers::Index => BatchCall::Indexed(std::mem::transmute::<*mut c_void, calls::Indexed>(batch)),
+                Offers::Counts => BatchCall::Counted(std::mem::transmute::<*mut c_void, calls::Counted>(batch)),
+            }
+        };
+        Ok(Against { batch })
     }
 
     pub fn correct_batch(&self, set: &[u8], job: &Job, output: &mut [u8], work: &mut [u8]) -> Answer {
         match self.call(set, job, output, work) {
-            [0, _, written, turns, lookups, attempts, accepted, yields] => Ok(Report { written, turns, lookups, attempts, accepted, yields }),
+            [0, _, written, turns, lookups, attempts, accepted, yields] => {
+                Ok(Report { written, turns, lookups, attempts, accepted, yields, support: None })
+            }
             [number, place, ..] => Err(Refusal { number, place }),
         }
     }
 
-    /// The only call of the other library: what it takes stands here and in `BatchCall`.
+    /// The only call of the other library; it is offered nothing. The first numbers of its answer are those of every build.
     fn call(&self, set: &[u8], job: &Job, output: &mut [u8], work: &mut [u8]) -> [u64; 8] {
-        let (entries, input, mut answer) = (&job.entries, &job.input, [0; 8]);
-        // SAFETY: each pointer and length are a live slice's; `output`, `work` and `answer` are lent to this call alone.
-        unsafe {
-            (self.batch)(
-                set.as_ptr(),
-                set.len(),
-                entries.as_ptr(),
-                entries.len(),
-                input.as_ptr(),
-                input.len(),
-                output.as_mut_ptr(),
-                output.len(),
-                work.as_mut_ptr(),
-                work.len(),
-                answer.as_mut_ptr(),
-                answer.len(),
-            )
+        let (entries, input, mut answer) = (&job.entries[..], &job.input[..], [0; 8]);
+        let (index, counts): (&[u8], &[u32]) = (&[], &[]);
+        macro_rules! with {
+            ($batch:expr, $($slice:expr),*) => {
+                // SAFETY: each pointer and length are a live slice's; `output`, `work` and `answer` are lent to this call alone.
+                unsafe {
+                    $batch(
+                        $($slice.as_ptr(), $slice.len(),)*
+                        output.as_mut_ptr(), output.len(), work.as_mut_ptr(), work.len(), answer.as_mut_ptr(), answer.len(),
+                    )
+                }
+            };
+        }
+        match self.batch {
+            BatchCall::Plain(batch) => with!(batch, set, entries, input),
+            BatchCall::Indexed(batch) => with!(batch, set, index, entries, input),
+            BatchCall::Counted(batch) => with!(batch, set, index, counts, entries, input),
         };
         answer
     }

@@ -2,7 +2,7 @@
 use super::against::Against;
 use super::inputs::World;
 use super::measure::Batch;
-use super::page::{before_by_after, before_head, figure, short, NONE};
+use super::page::{beside, beside_head, figure, short, NONE};
 use super::rounds::{Part, Rounds};
 use super::{symbols, system};
 use crate::library::Library;
@@ -102,10 +102,10 @@ pub fn section(all: &[Aligned]) -> String {
          median of the one's times by the median of the other's, so more than 1 says that the aligned one is faster; in brackets the lowest and the highest of the rounds. This can't be had for natir/br: it does \
          not read the set where it lies but fills a table of its own. *Ratio* is its time by ours over the aligned set.\n"
     );
-    let (before, rule) = before_head(all.iter().map(|aligned| &aligned.rounds));
+    let (beside, rule) = beside_head(all.iter().map(|aligned| &aligned.rounds));
     let _ = writeln!(
         page,
-        "| keys | asked for | set on huge pages | reads × rounds | aligned Mb/s | off Mb/s | off by aligned | Rust Mb/s | ratio{before} |\n|--:|---|--:|--:|--:|--:|--:|--:|--:|{rule}"
+        "| keys | asked for | set on huge pages | reads × rounds | aligned Mb/s | off Mb/s | off by aligned | Rust Mb/s | ratio{beside} |\n|--:|---|--:|--:|--:|--:|--:|--:|--:|{rule}"
     );
     for aligned in all {
         let _ = writeln!(page, "{}", row(aligned));
@@ -127,6 +127,6 @@ fn row(aligned: &Aligned) -> String {
         rounds.by_ours(Part::Off).map_or(NONE.to_string(), |spread| spread.to_string()),
         speed(Part::Rust),
         rounds.ratio(),
-        before_by_after(rounds)
+        beside(rounds)
     )
 }

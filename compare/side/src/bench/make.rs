@@ -1,4 +1,4 @@
-//! The set file made from text: both walks of the call together, beside a plain loop in Rust over the same text.
+//! The set file and its counts made from text: both walks of the call together, beside a plain loop in Rust over the same text.
 use super::rounds::{timed, Part, Rounds};
 use crate::library::Library;
 use crate::referee::letters::{letter, mask};
@@ -38,9 +38,9 @@ fn text(rng: &mut Rng, k: usize) -> Vec<u8> {
     text
 }
 
-/// One pass that reads each line, keeps the codes in a list, and judges as W3 does: what a host would write.
-fn plain(text: &[u8], k: usize, least: u64) -> Option<Vec<u64>> {
-    let mut keys: Vec<u64> = Vec::new();
+/// One pass that reads each line, keeps codes and counts in lists, and judges as W3 does: what a host would write.
+fn plain(text: &[u8], k: usize, least: u64) -> Option<(Vec<u64>, Vec<u32>)> {
+    let (mut keys, mut counts): (Vec<u64>, Vec<u32>) = (Vec::new(), Vec::new());
     let mut at = 0;
     while at < text.len() {
         let (mut code, mut turned) = (0, 0);
@@ -68,20 +68,21 @@ fn plain(text: &[u8], k: usize, least: u64) -> Option<Vec<u64>> {
                 return None;
             }
             keys.push(key);
+            counts.push(count.min(u32::MAX as u64) as u32);
         }
     }
-    Some(keys)
+    Some((keys, counts))
 }
 
 fn measure(library: &dyn Library, k: usize) -> Make {
     let text = text(&mut Rng::of_unit(k as u64, 3), k);
-    let keys = plain(&text, k, LEAST).expect("a right text");
+    let (keys, listed) = plain(&text, k, LEAST).expect("a right text");
     let set = set_file::make(k as u64, &keys);
-    let mut blocks = vec![1; set.len()];
+    let (mut blocks, mut counts) = (vec![1; set.len()], vec![1; keys.len()]);
     let mut ours = || {
-        let (answer, seconds) = timed(|| library.make_set(&text, k as u64, LEAST, &mut blocks));
+        let (answer, seconds) = timed(|| library.make_set(&text, k as u64, LEAST, &mut blocks, &mut counts));
         assert_eq!(answer, Ok(set.len() as u64));
-        assert!(blocks == set);
+        assert!(blocks == set && counts == listed);
         seconds
     };
     let rounds = Rounds::run(&[Part::Rust, Part::Ours], |part| match part {
@@ -120,7 +121,7 @@ pub fn section(makes: &[Make]) -> String {
     let _ = writeln!(
         page,
         "\n## A set from text\n\n`make_set` over {} million lines, one in {PASSED} passed over (all of them at k = 1); both walks, clearing and sealing. *Plain* is one pass of \
-         plain Rust over the same text, which judges as much and pushes the codes to a list. Million bytes of text a second; the ratio as above.\n",
+         plain Rust over the same text, which judges as much and pushes codes and counts to lists. Million bytes of text a second; the ratio as above.\n",
         LINES / 1_000_000
     );
     let _ = writeln!(page, "| k | text, MB | keys | ours | plain | ratio |\n|--:|--:|--:|--:|--:|:--|");

@@ -4,7 +4,7 @@ use super::inputs::{World, READ};
 use super::rounds::{median, timed, Part, Rounds};
 use super::symbols::on_huge_pages;
 use super::system::sampled;
-use crate::cases::batch_of;
+use crate::cases::{batch_of, job};
 use crate::library::Library;
 use crate::oracle;
 use crate::referee::calls::{Answer, Call, Job, Report};
@@ -22,6 +22,8 @@ pub const MOST_ASKED: u64 = 6_000_000;
 pub const LOOP: usize = 1_000_000;
 /// Rounds of what is measured beside the cells.
 const ROUNDS: usize = 5;
+/// A unit number that no reads have.
+const COUNTS: u64 = u64::MAX;
 
 /// One method on a set at a rate of errors.
 pub struct Cell {
@@ -83,6 +85,8 @@ pub struct Batch<'a> {
     pub report: Option<Report>,
     library: &'a dyn Library,
     against: Option<&'a Against>,
+    /// Counts of the set's keys, while no call offers them; none where they are not measured.
+    counts: Vec<u32>,
     world: &'a World,
     set: BoxKmerSet<'a>,
     method: Method,
@@ -116,9 +120,10 @@ impl<'a> Batch<'a> {
         (call, input, expected): (Call, Vec<u8>, Vec<u8>),
     ) -> Self {
         let output = MOST_BYTES.min(input.len().max(expected.len()) * 5 / 4);
-        let job = Job { call, index: Vec::new(), entries: vec![method.byte(), CONFIRM], input, output, work: 2 * output };
+        let job = Job { input, output, work: 2 * output, ..job(call, &[method.byte(), CONFIRM], &[]) };
         let (output, work) = (vec![0; job.output], vec![0; job.work]);
-        Batch { reads, report: None, library, against: None, world, set: Box::new(&world.rust), method, job, expected, output, work }
+        let (set, counts) = (Box::new(&world.rust), Vec::new());
+        Batch { reads, report: None, library, against: None, counts, world, set, method, job, expected, output, work }
     }
 
     /// A read with errors by a read call, cut to so many bases.
@@ -138,6 +143,13 @@ impl<'a> Batch<'a> {
     /// The same, beside another build of ours where there is one.
     pub fn against(self, against: Option<&'a Against>) -> Self {
         Batch { against, ..self }
+    }
+
+    /// The same, with counts beside it where they are asked for.
+    pub fn counted(self, asked: bool) -> Self {
+        let mut rng = Rng::of_unit(self.world.keys as u64, COUNTS);
+        let counts = if asked { (0..self.world.keys).map(|_| rng.word() as u32).collect() } else { Vec::new() };
+        Batch { counts, ..self }
     }
 
     pub fn bases(&self) -> usize {
@@ -181,6 +193,15 @@ impl<'a> Batch<'a> {
         seconds
     }
 
+    /// One call of ours that offers counts, which are not copied. It tells a support exactly where something was accepted.
+    pub fn ours_counted(&mut self) -> f64 {
+        std::mem::swap(&mut self.job.counts, &mut self.counts);
+        let seconds = self.ours();
+        std::mem::swap(&mut self.job.counts, &mut self.counts);
+        assert!(self.report.is_some_and(|report| report.support.is_some() == (report.accepted > 0)), "a support where there is none, or none");
+        seconds
+    }
+
     /// One batch call of the other build over a copy of the set; no time without one.
     pub fn before_over(&mut self, set: &[u8]) -> f64 {
         let Some(against) = self.against else { return 0.0 };
@@ -196,15 +217,18 @@ impl<'a> Batch<'a> {
     }
 
     fn rounds(&mut self) -> Rounds {
-        let parts: &[Part] = match self.against {
-            Some(_) => &[Part::Ours, Part::Rust, Part::Before, Part::Opening],
-            None => &[Part::Rust, Part::Ours, Part::Opening],
+        let parts: &[Part] = match (self.against, self.counts.is_empty()) {
+            (Some(_), false) => &[Part::Ours, Part::Rust, Part::Before, Part::Counted, Part::Opening],
+            (Some(_), true) => &[Part::Ours, Part::Rust, Part::Before, Part::Opening],
+            (None, false) => &[Part::Ours, Part::Rust, Part::Counted, Part::Opening],
+            (None, true) => &[Part::Rust, Part::Ours, Part::Opening],
         };
         let world = self.world;
         Rounds::run(parts, |part| match part {
             Part::Rust => self.rust(),
             Part::Opening => open(self.library, world),
             Part::Before => self.before_over(&world.set),
+            Part::Counted => self.ours_counted(),
             _ => self.ours(),
         })
     }
@@ -223,14 +247,21 @@ pub fn open(library: &dyn Library, world: &World) -> f64 {
 
 /// Seconds of a batch call without a line: opening the set and filling the table of starts.
 pub fn empty_batch(library: &dyn Library, world: &World, method: Method) -> f64 {
-    let job = Job { call: Call::Batch, index: Vec::new(), entries: vec![method.byte(), CONFIRM], input: Vec::new(), output: 0, work: 0 };
+    let job = Job { output: 0, work: 0, ..job(Call::Batch, &[method.byte(), CONFIRM], &[]) };
     let (answer, seconds) = timed(|| library.correct(&world.set, &job, &mut [], &mut []));
     assert!(answer.is_ok(), "an empty batch is accepted");
     seconds
 }
 
-pub fn cell(library: &dyn Library, against: Option<&Against>, world: &World, method: Method, errors: usize, a_lookup: Loops) -> Cell {
-    let mut batch = Batch::of_cell(library, world, method, errors).against(against);
+/// What a cell is measured beside: another build, and calls with counts.
+#[derive(Clone, Copy)]
+pub struct Beside<'a> {
+    pub against: Option<&'a Against>,
+    pub counts: bool,
+}
+
+pub fn cell(library: &dyn Library, beside: Beside, world: &World, method: Method, errors: usize, a_lookup: Loops) -> Cell {
+    let mut batch = Batch::of_cell(library, world, method, errors).against(beside.against).counted(beside.counts);
     let rounds = batch.rounds();
     let lookups = batch.report.as_ref().map_or(0, |report| report.lookups);
     Cell { method, keys: world.keys, k: world.k, huge: world.huge, errors, reads: batch.reads.len(), bases: batch.bases(), lookups, rounds, a_lookup }

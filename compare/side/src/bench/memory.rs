@@ -1,5 +1,6 @@
 //! Peak memory: each side in a process of its own, which reads the set file, corrects a batch and says the most that it held.
 use super::measure::CONFIRM;
+use crate::cases::job;
 use crate::library::library;
 use crate::oracle::{correct, Keys};
 use crate::referee::calls::{reads, Call, Job};
@@ -22,7 +23,7 @@ pub fn run(side: &str, set: &str, batch: &str) -> Result<(), String> {
     let say = |error: std::io::Error| error.to_string();
     let input = std::fs::read(batch).map_err(say)?;
     let output = input.len() * 5 / 4;
-    let job = Job { call: Call::Batch, index: Vec::new(), entries: vec![Method::One.byte(), CONFIRM], input, output, work: 2 * output };
+    let job = Job { input, output, work: 2 * output, ..job(Call::Batch, &[Method::One.byte(), CONFIRM], &[]) };
     match side {
         "ours" => {
             let set = std::fs::read(set).map_err(say)?;

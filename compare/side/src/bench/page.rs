@@ -22,6 +22,8 @@ pub struct Results {
     pub library: &'static str,
     /// The other build's file.
     pub against: Option<String>,
+    /// Whether calls were timed with counts, too.
+    pub counts: bool,
     pub cells: Vec<Cell>,
     pub huge: Vec<Cell>,
     pub placings: Vec<Placing>,
@@ -67,6 +69,12 @@ pub fn write(results: &Results, chart: &str) -> String {
              is faster now; in brackets the lowest and the highest of the rounds.\n"
         );
     }
+    if results.counts {
+        let _ = writeln!(
+            page,
+            "*With counts* is the same call with a count for each key, in the same rounds, whose order then rotates too; *without by with counts* is the one median by the other.\n"
+        );
+    }
     summary(&mut page, &results.cells, &results.huge);
     let _ = writeln!(
         page,
@@ -103,18 +111,43 @@ pub fn figure(value: f64) -> String {
     format!("{value:.places$}")
 }
 
-/// The column of a run beside another build, if it is one.
-pub fn before_by_after(rounds: &Rounds) -> String {
-    rounds.by_ours(Part::Before).map_or(String::new(), |spread| format!(" | {spread}"))
+/// What stands beside a cell of ours, each with the parts of which it is the one's time by the other's: more than 1 says that the second is faster.
+pub const BESIDE: [(&str, Part, Part); 3] = [
+    ("before by after", Part::Before, Part::Ours),
+    ("without by with counts", Part::Ours, Part::Counted),
+    ("before by with counts", Part::Before, Part::Counted),
+];
+
+/// The columns of a run beside another build or with counts, those that it has.
+pub fn beside(rounds: &Rounds) -> String {
+    BESIDE.iter().filter_map(|(_, part, by)| rounds.by_median(*part, *by)).map(|spread| format!(" | {spread}")).collect()
 }
 
-/// The head of that column, and the rule below it.
-pub fn before_head<'a>(mut rounds: impl Iterator<Item = &'a Rounds>) -> (&'static str, &'static str) {
-    if rounds.any(|rounds| rounds.by_ours(Part::Before).is_some()) {
-        (" | before by after", "--:|")
-    } else {
-        ("", "")
+/// The heads of those columns, and the rules below them.
+pub fn beside_head<'a>(mut rounds: impl Iterator<Item = &'a Rounds>) -> (String, String) {
+    let Some(rounds) = rounds.next() else { return Default::default() };
+    let names = BESIDE.iter().filter(|(_, part, by)| rounds.by_median(*part, *by).is_some());
+    names.map(|(name, _, _)| (format!(" | {name}"), "--:|".to_string())).unzip()
+}
+
+/// Of each of those columns the slowest cell: the lowest median, and where it is.
+pub fn slowest(cells: &[Cell]) -> String {
+    let mut lines = String::new();
+    for (name, part, by) in BESIDE {
+        let median = |cell: &Cell| cell.rounds.by_median(part, by).map(|spread| spread.median);
+        let all = cells.iter().filter_map(|cell| median(cell).map(|median| (median, cell)));
+        if let Some((lowest, cell)) = all.min_by(|(one, _), (other, _)| one.total_cmp(other)) {
+            let _ = writeln!(
+                lines,
+                "{name}: lowest {lowest:.3}, of {:?} at {} keys, k = {}, {} % errors",
+                cell.method,
+                short(cell.keys),
+                cell.k,
+                cell.errors
+            );
+        }
     }
+    lines
 }
 
 /// Reads and rounds; then speeds and ratios.
@@ -131,7 +164,7 @@ fn speeds(cell: &Cell) -> String {
         ratio.lowest,
         ratio.highest,
         rounds.ratio_less_opening().median,
-        before_by_after(rounds)
+        beside(rounds)
     )
 }
 
@@ -140,11 +173,11 @@ fn method_table(page: &mut String, method: Method, cells: &[Cell]) {
     if cells.is_empty() {
         return;
     }
-    let (before, rule) = before_head(cells.iter().map(|cell| &cell.rounds));
+    let (beside, rule) = beside_head(cells.iter().map(|cell| &cell.rounds));
     let _ = writeln!(page, "## {method:?}\n");
     let _ = writeln!(
         page,
-        "| keys | k | errors | reads × rounds | ours Mb/s | Rust Mb/s | ratio | from | to | less opening{before} | lookups a base | ours M lookups/s | loop ns/base | Rust's loop ns/base |"
+        "| keys | k | errors | reads × rounds | ours Mb/s | Rust Mb/s | ratio | from | to | less opening{beside} | lookups a base | ours M lookups/s | loop ns/base | Rust's loop ns/base |"
     );
     let _ = writeln!(page, "|--:|--:|--:|--:|--:|--:|--:|--:|--:|--:|--:|--:|--:|--:|{rule}");
     for cell in cells {
@@ -175,10 +208,10 @@ fn huge_table(page: &mut String, results: &Results) {
          system tells it:\n"
     );
     placing_table(page, &results.placings);
-    let (before, rule) = before_head(results.huge.iter().map(|cell| &cell.rounds));
+    let (beside, rule) = beside_head(results.huge.iter().map(|cell| &cell.rounds));
     let _ = writeln!(
         page,
-        "| keys | k | method | errors | reads × rounds | ours Mb/s | Rust Mb/s | ratio | from | to | less opening{before} | plain ours Mb/s | plain Rust Mb/s | plain ratio | plain Rust's time by ours on huge pages |"
+        "| keys | k | method | errors | reads × rounds | ours Mb/s | Rust Mb/s | ratio | from | to | less opening{beside} | plain ours Mb/s | plain Rust Mb/s | plain ratio | plain Rust's time by ours on huge pages |"
     );
     let _ = writeln!(page, "|--:|--:|---|--:|--:|--:|--:|--:|--:|--:|--:|--:|--:|--:|--:|{rule}");
     for cell in &results.huge {

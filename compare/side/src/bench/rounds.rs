@@ -24,9 +24,11 @@ pub enum Part {
     Off,
     /// Ours with an index of the set.
     Indexed,
+    /// Ours with counts of the set's keys.
+    Counted,
 }
 
-const PARTS: usize = 6;
+const PARTS: usize = 7;
 
 /// The Rust, ours and the opening.
 const PLAIN: usize = 3;
@@ -127,9 +129,13 @@ impl Rounds {
 
     /// A part's median by ours, with the lowest and the highest of the rounds; none where it is not run.
     pub fn by_ours(&self, part: Part) -> Option<Spread> {
-        let rounds = self.of_parts(part, Part::Ours);
-        let median = self.median(part) / self.ours();
-        (median > 0.0).then_some(Spread { median, ..rounds })
+        self.by_median(part, Part::Ours)
+    }
+
+    /// The same by another part's; none where either is not run.
+    pub fn by_median(&self, part: Part, by: Part) -> Option<Spread> {
+        let (rounds, medians) = (self.of_parts(part, by), [part, by].map(|part| self.median(part)));
+        medians.iter().all(|median| *median > 0.0).then(|| Spread { median: medians[0] / medians[1], ..rounds })
     }
 
     fn of(&self, value: impl Fn(&Round) -> f64) -> Spread {

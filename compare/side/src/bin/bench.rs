@@ -1,9 +1,8 @@
 //! The benchmark: `compare/bench` (compare/README.md).
-use side::bench::against::Against;
+use side::bench::against::{Against, Offers};
 use side::bench::inputs::World;
-use side::bench::measure::{cell, gap, loops, opening, placing, Cell};
+use side::bench::measure::{cell, gap, loops, opening, placing, Beside, Cell};
 use side::bench::page::{Peak, Results};
-use side::bench::rounds::Part;
 use side::bench::split::{split, Split};
 use side::bench::system::{count_running_time, Allocator};
 use side::bench::{aligned, chart, index, make, memory, page};
@@ -18,7 +17,7 @@ use std::process::ExitCode;
 static ALLOCATOR: Allocator = Allocator;
 
 const USAGE: &str =
-    "compare/bench [--make] [--aligned] [--index] [--quick] [--stand-in] [--against LIBRARY] [--out FOLDER] [--keys N,..] [--k K,..] [--method NAME,..] [--errors N,..] [--huge] [--split] [--running-time]";
+    "compare/bench [--make] [--aligned] [--index] [--quick] [--stand-in] [--against LIBRARY [--against-offers nothing|index|counts]] [--counts] [--out FOLDER] [--keys N,..] [--k K,..] [--method NAME,..] [--errors N,..] [--huge] [--split] [--running-time]";
 const KEYS: [usize; 4] = [1_000, 100_000, 4_000_000, 16_000_000];
 /// How many of these --quick takes.
 const QUICK: usize = 2;
@@ -61,6 +60,8 @@ struct Options {
     aligned: bool,
     index: bool,
     against: Option<String>,
+    against_offers: Option<Offers>,
+    counts: bool,
     folder: Option<String>,
 }
 
@@ -88,8 +89,9 @@ impl Options {
             !self.huge,
             !self.split,
             self.against.is_none(),
+            !self.counts,
         ];
-        if self.folder.is_none() && whole == [true; 7] {
+        if self.folder.is_none() && whole == [true; 8] {
             self.folder = Some(if cfg!(feature = "linked") { "docs" } else { "target/compare" }.to_string());
         }
         self
@@ -118,6 +120,8 @@ fn options(arguments: &[String]) -> Result<Options, String> {
             "--aligned" => options.aligned = true,
             "--index" => options.index = true,
             "--against" => options.against = Some(value()?.clone()),
+            "--against-offers" => options.against_offers = Some(offers(value()?)?),
+            "--counts" => options.counts = true,
             "--running-time" => count_running_time(),
             "--out" => options.folder = Some(value()?.clone()),
             // Chosen when this was built.
@@ -148,6 +152,11 @@ fn method(name: &str) -> Result<Method, String> {
     METHODS.into_iter().find(named).ok_or(format!("no method: {name}"))
 }
 
+fn offers(name: &str) -> Result<Offers, String> {
+    let named = |offers: &Offers| format!("{offers:?}").eq_ignore_ascii_case(name);
+    Offers::ALL.into_iter().find(named).ok_or(format!("{name}: a call takes nothing, index or counts"))
+}
+
 fn bench(arguments: &[String]) -> Result<(), String> {
     let options = options(arguments)?;
     if options.make {
@@ -158,15 +167,16 @@ fn bench(arguments: &[String]) -> Result<(), String> {
         print!("{}", index::section(&index::measure_all(library(), &options.keys)));
         return Ok(());
     }
-    let against = options.against.as_deref().map(Against::load).transpose()?;
+    let offers = options.against_offers.unwrap_or(Offers::Counts);
+    let against = options.against.as_deref().map(|library| Against::load(library, offers)).transpose()?;
     let against = against.as_ref();
     if options.aligned {
         print!("{}", aligned::section(&aligned::measure_all(library(), against, &options.keys)));
         return Ok(());
     }
-    let results = measure_all(&options, against);
+    let results = measure_all(&options, Beside { against, counts: options.counts });
     let Some(folder) = &options.folder else {
-        print!("{}", page::cell_tables(&results));
+        print!("{}{}", page::cell_tables(&results), page::slowest(&results.cells));
         return Ok(());
     };
     let (chart, folder) = ("benchmark.svg", Path::new(folder));
@@ -188,14 +198,14 @@ fn with_millions(options: &Options, against: Option<&Against>) -> String {
     aligned + &index::section(&index::measure_all(library(), &index::KEYS))
 }
 
-fn measure_all(options: &Options, against: Option<&Against>) -> Results {
+fn measure_all(options: &Options, beside: Beside) -> Results {
     let library = library();
-    let mut results = Results { library: library.name(), against: options.against.clone(), ..Results::default() };
+    let mut results = Results { library: library.name(), against: options.against.clone(), counts: options.counts, ..Results::default() };
     for n in &options.keys {
         for k in &options.k {
             let rng = &mut Rng::of_unit(*k as u64, *n as u64);
             let world = World::new(rng, *k, *n);
-            measure(library, against, options, &world, &mut results);
+            measure(library, beside, options, &world, &mut results);
             if options.folder.is_some() {
                 results.peaks.push(peak(&world, rng));
             }
@@ -208,11 +218,11 @@ fn measure_all(options: &Options, against: Option<&Against>) -> Results {
     results
 }
 
-fn measure(library: &dyn Library, against: Option<&Against>, options: &Options, world: &World, results: &mut Results) {
+fn measure(library: &dyn Library, beside: Beside, options: &Options, world: &World, results: &mut Results) {
     let opened = opening(library, world);
     eprintln!("{} keys, k = {}, opened in {:.3} ms", world.keys, world.k, opened.open * 1e3);
     results.openings.push(opened);
-    results.cells.extend(cells(library, against, options, world));
+    results.cells.extend(cells(library, beside, options, world));
     if options.beside(world, options.split) {
         for method in options.methods.iter().filter(|method| options.split || SPLIT_METHODS.contains(method)) {
             for errors in options.errors.iter().filter(|errors| options.split || SPLIT_ERRORS.contains(errors)) {
@@ -226,17 +236,17 @@ fn measure(library: &dyn Library, against: Option<&Against>, options: &Options, 
         let huge = world.on_huge_pages();
         eprintln!("on huge pages:");
         results.placings.extend([placing(world), placing(&huge)]);
-        results.huge.extend(cells(library, against, options, &huge));
+        results.huge.extend(cells(library, beside, options, &huge));
     }
 }
 
 /// Every method at every rate of errors.
-fn cells(library: &dyn Library, against: Option<&Against>, options: &Options, world: &World) -> Vec<Cell> {
+fn cells(library: &dyn Library, beside: Beside, options: &Options, world: &World) -> Vec<Cell> {
     let loops: Vec<_> = options.errors.iter().map(|errors| loops(library, world, *errors)).collect();
     let mut cells = Vec::new();
     for method in &options.methods {
         for (errors, a_lookup) in options.errors.iter().zip(&loops) {
-            let cell = cell(library, against, world, *method, *errors, *a_lookup);
+            let cell = cell(library, beside, world, *method, *errors, *a_lookup);
             say(&cell);
             cells.push(cell);
         }
@@ -246,9 +256,10 @@ fn cells(library: &dyn Library, against: Option<&Against>, options: &Options, wo
 
 fn say(cell: &Cell) {
     let rounds = &cell.rounds;
-    let before = rounds.by_ours(Part::Before).map_or(String::new(), |spread| format!(", before by after {spread}"));
+    let told = page::BESIDE.iter().filter_map(|(name, part, by)| rounds.by_median(*part, *by).map(|spread| format!(", {name} {spread}")));
+    let beside: String = told.collect();
     eprintln!(
-        "  {:?}, {} %: {:.1} ns a base ({:.1} less opening), the Rust {:.1}, ratio {}{before}; {:.2} lookups a base, {} reads, {} rounds",
+        "  {:?}, {} %: {:.1} ns a base ({:.1} less opening), the Rust {:.1}, ratio {}{beside}; {:.2} lookups a base, {} reads, {} rounds",
         cell.method,
         cell.errors,
         cell.nanoseconds(rounds.ours()),

@@ -124,7 +124,7 @@ pub fn all(rng: &mut Rng, site: &Site) -> Vec<Vec<u8>> {
 }
 
 /// A set of any kind, and its genome if it has one.
-fn any_site(rng: &mut Rng) -> (Site, Vec<u8>) {
+pub fn any_site(rng: &mut Rng) -> (Site, Vec<u8>) {
     let k = if rng.percent(30) { *rng.pick(&[1, 3, 5]) } else { sets::any_k(rng) };
     match rng.below(4) {
         0 => (sets::dense(rng, k.min(5)), reads::letters(rng, 60)),
@@ -138,7 +138,7 @@ fn any_site(rng: &mut Rng) -> (Site, Vec<u8>) {
     }
 }
 
-fn any_job(rng: &mut Rng, genome: &[u8]) -> Job {
+pub fn any_job(rng: &mut Rng, genome: &[u8]) -> Job {
     let count = *rng.pick(&[0, 1, 1, 2]);
     let entries = any_entries(rng, count, 4);
     let lines: Vec<_> = (0..rng.below(3)).map(|_| reads::noisy(rng, genome, 80)).collect();

@@ -1,7 +1,7 @@
 //! Texts of k-mer counts: right ones of every number of keys about a block's 63, damaged at the first, a middle and the last line, random ones,
 //! all short ones, and those at the limit of keys.
 use crate::referee::letters::{canonical, letter, mask, reverse_complement};
-use crate::referee::make::make_set;
+use crate::referee::make::{make_set, Room};
 use crate::referee::set::MOST_KEYS;
 use crate::rng::Rng;
 use crate::set_file;
@@ -10,7 +10,7 @@ pub struct Case {
     pub text: Vec<u8>,
     pub k: u64,
     pub least: u64,
-    pub room: usize,
+    pub room: Room,
 }
 
 /// A unit number that no other kind has.
@@ -31,11 +31,27 @@ pub fn each(seed: u64, rounds: u64, visit: &mut dyn FnMut(Case)) {
     limits(visit);
 }
 
-/// A text in a buffer that fits exactly, one byte shorter, longer, and none at all.
+const ANY_ROOM: Room = Room { blocks: usize::MAX, counts: usize::MAX };
+
+/// A text in blocks that fit exactly, one byte shorter, longer, and none at all, with counts that fit exactly; and in blocks that fit or are
+/// longer, with counts one shorter, longer, and none.
 fn rooms((text, k, least): (Vec<u8>, u64, u64), visit: &mut dyn FnMut(Case)) {
-    let room = make_set(&text, k, least, usize::MAX).map_or(512, |blocks| blocks.len());
-    for room in [room, room - 1, room + 77, 0] {
-        visit(Case { text: text.clone(), k, least, room });
+    let made = make_set(&text, k, least, ANY_ROOM);
+    let (blocks, counts) = made.map_or((512, 1), |made| (made.blocks.len(), made.counts.len()));
+    let short = counts.saturating_sub(1);
+    for (blocks, counts) in [
+        (blocks, counts),
+        (blocks - 1, counts),
+        (blocks + 77, counts),
+        (0, counts),
+        (blocks, short),
+        (blocks, counts + 1),
+        (blocks, counts + 77),
+        (blocks, 0),
+        (blocks + 77, short),
+        (blocks - 1, short),
+    ] {
+        visit(Case { text: text.clone(), k, least, room: Room { blocks, counts } });
     }
 }
 
@@ -57,11 +73,12 @@ pub fn codes(rng: &mut Rng, k: usize, number: usize) -> Vec<u64> {
     codes.into_iter().collect()
 }
 
-/// A count of 1 to 10 digits, leading zeros among them.
+/// A count of 1 to 10 digits, leading zeros among them, some about the largest that a list holds.
 fn count(rng: &mut Rng, from: u64) -> String {
-    let value = match rng.below(3) {
+    let value = match rng.below(4) {
         0 => from,
         1 => from + rng.below(9) as u64,
+        2 => *rng.pick(&[4_294_967_294, 4_294_967_295, 4_294_967_296, 8_589_934_591, 9_999_999_999]),
         _ => from + rng.below(9_000_000_000) as u64,
     };
     let width = rng.within(1, 10);
@@ -166,15 +183,16 @@ fn all_short(visit: &mut dyn FnMut(Case)) {
     for length in 0..=8u32 {
         for number in 0..BYTES.len().pow(length) {
             let text = (0..length).map(|place| BYTES[number / BYTES.len().pow(place) % BYTES.len()]).collect();
-            visit(Case { text, k: 1, least: 1, room: 1024 });
+            visit(Case { text, k: 1, least: 1, room: Room { blocks: 1024, counts: 2 } });
         }
     }
 }
 
 /// A million lines that are passed over; as many keys as a set may have, and one more.
 fn limits(visit: &mut dyn FnMut(Case)) {
-    visit(Case { text: b"A,1\n".repeat(1_000_000), k: 1, least: 2, room: 512 });
-    visit(Case { text: [&b"A,1\n".repeat(1_000_000)[..], b"A,2"].concat(), k: 1, least: 2, room: 512 });
+    let none = Room { blocks: 512, counts: 0 };
+    visit(Case { text: b"A,1\n".repeat(1_000_000), k: 1, least: 2, room: none });
+    visit(Case { text: [&b"A,1\n".repeat(1_000_000)[..], b"A,2"].concat(), k: 1, least: 2, room: none });
     const K: usize = 13;
     let mut text = Vec::with_capacity((MOST_KEYS as usize + 1) * (K + 3));
     let mut codes = (0..=mask(K)).filter(|code| code.count_ones() % 2 == 0);
@@ -182,8 +200,10 @@ fn limits(visit: &mut dyn FnMut(Case)) {
         text.extend(letters(K, code));
         text.extend(b",1\n");
     }
-    let room = set_file::BLOCK * (1 + (MOST_KEYS as usize).div_ceil(set_file::WORDS));
+    let most = MOST_KEYS as usize;
+    let room = Room { blocks: set_file::BLOCK * (1 + most.div_ceil(set_file::WORDS)), counts: most };
     visit(Case { text: text.clone(), k: K as u64, least: 1, room });
+    visit(Case { text: text.clone(), k: K as u64, least: 1, room: Room { counts: most - 1, ..room } });
     text.extend([&letters(K, codes.next().expect("half of the codes are canonical"))[..], b",1\n"].concat());
     visit(Case { text, k: K as u64, least: 1, room });
 }

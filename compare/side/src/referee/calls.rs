@@ -23,6 +23,8 @@ pub struct Job {
     pub call: Call,
     /// The index that is offered with the set; none if it is empty.
     pub index: Vec<u8>,
+    /// The counts of the set's keys; not offered if there are none.
+    pub counts: Vec<u32>,
     /// The bytes of a job file: pairs, method first.
     pub entries: Vec<u8>,
     pub input: Vec<u8>,
@@ -45,6 +47,8 @@ pub struct Report {
     pub attempts: u64,
     pub accepted: u64,
     pub yields: u64,
+    /// None if nothing was accepted or no counts are offered.
+    pub support: Option<u32>,
 }
 
 pub type Answer = Result<Report, Refusal>;
@@ -93,10 +97,15 @@ pub fn call(opened: &Result<Set, Refusal>, job: &Job) -> Outcome {
         Err(refusal) => return Outcome::refused(*refusal),
         Ok(set) => set,
     };
-    match index::refusal(set, &job.index) {
+    match index::refusal(set, &job.index).or(counts_refusal(set, &job.counts)) {
         Some(refusal) => Outcome::refused(refusal),
         None => correct(set, job),
     }
+}
+
+/// Refusal 16, checked after 15: the length of an offered count list isn't n. An empty one counts as not offered.
+fn counts_refusal(set: &Set, counts: &[u32]) -> Option<Refusal> {
+    (!counts.is_empty() && counts.len() != set.keys.len()).then_some(Refusal::new(16, 0))
 }
 
 /// Refusals 1 to 6, checked upward.
@@ -144,7 +153,7 @@ fn correct(set: &Set, job: &Job) -> Outcome {
         bytes.extend_from_slice(ending);
         passes.push(made);
     }
-    Outcome { answer: Ok(report(bytes.len(), &passes)), bytes, passes }
+    Outcome { answer: Ok(report(bytes.len(), &passes, &job.counts)), bytes, passes }
 }
 
 /// A read's first pass is fed the read, each later one the bytes of the pass before; each has its own entry's confirm.
@@ -172,8 +181,17 @@ fn nearest(parts: u64, whole: u64) -> u64 {
     }
 }
 
-/// Numbers are sums over all passes, yield from the sums.
-fn report(written: usize, passes: &[Vec<Pass>]) -> Report {
+/// The smallest count behind any accepted correction of any pass (document 02, W8).
+pub fn support(passes: &[Vec<Pass>], counts: &[u32]) -> Option<u32> {
+    if counts.is_empty() {
+        return None;
+    }
+    let evidence = passes.iter().flatten().flat_map(|pass| &pass.evidence).flatten();
+    evidence.map(|key| counts[*key]).min()
+}
+
+/// Numbers are sums over all passes, yield from the sums, support the smallest of all.
+fn report(written: usize, passes: &[Vec<Pass>], counts: &[u32]) -> Report {
     let sum = |of: fn(&Pass) -> u64| passes.iter().flatten().map(of).sum();
     let (attempts, accepted): (u64, u64) = (sum(|pass| pass.attempts), sum(|pass| pass.accepted));
     Report {
@@ -183,5 +201,6 @@ fn report(written: usize, passes: &[Vec<Pass>]) -> Report {
         attempts,
         accepted,
         yields: nearest(accepted * 1000, attempts),
+        support: support(passes, counts),
     }
 }

@@ -71,6 +71,8 @@ pub struct Mend {
     pub letters: Vec<u8>,
     pub resume: usize,
     pub by: By,
+    /// The k-mers whose counts support it, all of them solid: the tried k-mer of a scenario, or every k-mer of a walk from x on.
+    pub evidence: Vec<Kmer>,
 }
 
 /// The scan's answer: the index reached and the last k-mer T.
@@ -235,7 +237,8 @@ impl<'a> Asking<'a> {
             By::ICI => x,
             _ => tried,
         };
-        Some(Kept { mend: Mend { letters: of.last(row.letters), resume: row.r, by: row.by }, asked })
+        let mend = Mend { letters: of.last(row.letters), resume: row.r, by: row.by, evidence: vec![tried] };
+        Some(Kept { mend, asked })
     }
 
     /// The tried k-mer: left to right up to the first refusal.
@@ -307,11 +310,12 @@ impl<'a> Asking<'a> {
     /// Graph from a scan: accepted exactly when there is a chain from x to T.
     fn graph(&mut self, scan: &Scan, y: Kmer) -> Option<Mend> {
         let x = self.alternative(y)?;
-        let letters = self.walk(x, scan.end)?;
-        Some(Mend { letters, resume: scan.index + 1, by: By::Chain })
+        let evidence = self.walk(x, scan.end)?;
+        Some(Mend { letters: last_letters(&evidence), resume: scan.index + 1, by: By::Chain, evidence })
     }
 
-    fn walk(&mut self, x: Kmer, end: Kmer) -> Option<Vec<u8>> {
+    /// The k-mers of the chain, x first and T last.
+    fn walk(&mut self, x: Kmer, end: Kmer) -> Option<Vec<Kmer>> {
         if x == end {
             self.note(Event::NoMove);
             // The Rust walks all the same, and refuses.
@@ -321,16 +325,16 @@ impl<'a> Asking<'a> {
         if end.code().is_none() {
             self.note(Event::UnknownEnd);
         }
-        let mut letters = vec![x.last_letter()];
+        let mut chain = vec![x];
         let (mut at, mut mark, mut moves, mut next_mark) = (x, x, 0_u64, 1);
         let before = self.rust_asked();
         loop {
             // The Rust asks first whether the k-mer that it moves from is solid: document 02, W6, has no such question.
             self.again += 1;
             at = self.sole(at)?;
-            letters.push(at.last_letter());
+            chain.push(at);
             if at == end {
-                return Some(letters);
+                return Some(chain);
             }
             if at == mark {
                 self.note(Event::Mark);
@@ -378,17 +382,22 @@ impl<'a> Asking<'a> {
     /// That many moves from x by sole successors, refused on a repeat.
     fn moves(&mut self, moves: usize, y: Kmer) -> Option<Mend> {
         let mut at = self.alternative(y)?;
-        let (mut letters, mut seen) = (vec![at.last_letter()], HashSet::from([at]));
+        let (mut walk, mut seen) = (vec![at], HashSet::from([at]));
         for _ in 0..moves {
             at = self.sole(at)?;
             if !seen.insert(at) {
                 self.note(Event::Repeat);
                 return None;
             }
-            letters.push(at.last_letter());
+            walk.push(at);
         }
-        Some(Mend { resume: letters.len(), letters, by: By::Moves })
+        Some(Mend { letters: last_letters(&walk), resume: walk.len(), by: By::Moves, evidence: walk })
     }
+}
+
+/// x's last letter and each move's.
+fn last_letters(walk: &[Kmer]) -> Vec<u8> {
+    walk.iter().map(|kmer| kmer.last_letter()).collect()
 }
 
 impl Kept {

@@ -14,8 +14,14 @@ pub struct Pass {
     pub again: i64,
     /// Corrections by scenario, in the order of `ALL_BY`.
     pub by: [u32; BY],
+    /// For each correction, the indexes of the keys that support it, in the order of its k-mers.
+    pub evidence: Vec<Vec<usize>>,
     /// What else was met, in the order of `ALL_EVENTS`.
     pub events: [u32; ALL_EVENTS.len()],
+}
+
+fn key_of(set: &Set, kmer: Kmer) -> usize {
+    kmer.code().and_then(|code| set.find(code)).expect("a correction is made by solid k-mers")
 }
 
 pub fn pass(set: &Set, method: Method, c: u8, read: &[u8]) -> Pass {
@@ -40,6 +46,7 @@ pub fn pass(set: &Set, method: Method, c: u8, read: &[u8]) -> Pass {
             if let Some(mend) = asking.attempt(method, c as usize, kmer, &read[at..]) {
                 pass.accepted += 1;
                 pass.by[mend.by as usize] += 1;
+                pass.evidence.push(mend.evidence.iter().map(|kmer| key_of(set, *kmer)).collect());
                 // The bad k-mer moves right one letter, an A in front, and takes the letters by +.
                 kmer = kmer.moved_right().add_all(k, &mend.letters);
                 pass.bytes.extend_from_slice(&mend.letters);

@@ -27,9 +27,14 @@ pub struct Set {
 }
 
 impl Set {
+    /// The index of a k-mer's canonical code among the keys, or none (document 02, W8).
+    pub fn find(&self, code: u64) -> Option<usize> {
+        self.keys.binary_search(&canonical(self.k, code)).ok()
+    }
+
     /// A k-mer is solid when its canonical code is a key.
     pub fn solid(&self, code: u64) -> bool {
-        self.keys.binary_search(&canonical(self.k, code)).is_ok()
+        self.find(code).is_some()
     }
 
     /// The blocks of its index, made once.

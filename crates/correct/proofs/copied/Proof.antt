@@ -1,5 +1,7 @@
 use native.Mathlib.Omega.{arith}
+use mathlib.Core.Option.{none}
 use borrow.Author.Needs.{needs}
+use Rattle.support.specs.Support.{supportOf}
 use Rattle.correct.proofs.copied.Statement.{statement}
 use Rattle.correct.proofs.copied.Tie as tie
 
@@ -13,10 +15,11 @@ same-length : tie.Need-same-length
 same-length c = search needs
 
 returns-2 : tie.Need-returns-2
+unfolding supportOf
 returns-2 c =
     let copied = c .before .before .copy in
     let read = c .before .before .before .before .before .before .before .args .read .now in
-    (λ i. record { bytes = copied .ensures i; turns = 0; lookups = 0; attempts = 0; accepted = 0 }, omega arith)
+    (λ i. record { bytes = copied .ensures i; turns = 0; lookups = 0; attempts = 0; accepted = 0; support = none }, omega arith)
 
 pub copied-spec : {M : Type 1} → statement M
 copied-spec = tie.close (tie.spec returns copy-requires same-length returns-2)

@@ -10,14 +10,14 @@ use Rattle.rules.specs.Exist.{Mend}
 use Rattle.rules.specs.Set.{solid, setOf}
 use Rattle.kmer.specs.Kmer.{kmerOf}
 use Rattle.scenario.specs.Scenario.{spelledOut, Small}
-use Rattle.trials.specs.Trials.{mendsOf}
+use Rattle.trials.specs.Trials.{mendsOf, Placed}
 use Rattle.exist.proofs.Chosen.{mends-length, mends-cons, mends-one, Asked, asked-none, asked-yes, asked-no, choose-one, choose-found, choose-refused}
 use Rattle.exist.proofs.choose.Statement.{statement}
 use Rattle.exist.proofs.choose.Tie as tie
 
 abbrev Inv-loop : tie.InvT-loop
 Inv-loop set starts head c kmer s kept count chosen₀ remaining₀ lookups₀ i₀ chosen remaining lookups i =
-    (i ≤ count) × (remaining ≤ i) × (lookups ≤ i) × Small chosen
+    (i ≤ count) × (remaining ≤ i) × (lookups ≤ i) × (1 ≤ remaining → Placed (setOf set) chosen) × Small chosen
     × Asked (head .k) (solid (setOf set)) c s (kmerOf kmer) (map spelledOut (take count kept)) i remaining (spelledOut chosen) lookups
 
 abbrev μ-loop : tie.MeasureT-loop
@@ -41,8 +41,8 @@ many c e = c .before .if1 .left (sym (counted c) ∙ e)
 ended : (c : tie.After-loop Inv-loop μ-loop) → length (ms (c .before)) ≤ c .before .loop .i
 ended c = rw (counted (c .before)) (c .loop-test .left)
 
-array-copy-out-t19 : tie.Need-array-copy-out-t19 Inv-loop μ-loop
-array-copy-out-t19 c = search needs
+array-copy-out-only : tie.Need-array-copy-out-only Inv-loop μ-loop
+array-copy-out-only c = search needs
 
 returns : tie.Need-returns Inv-loop μ-loop
 returns c =
@@ -50,10 +50,10 @@ returns c =
     let b = t .before .before .before .before .before in
     let held = b .pre .3 in
     let e = choose-one _ _ _ _ _ _ (mends-one (b .args .scenarii .kept) (b .args .scenarii .count) (omega (arith, held .count-le, held .group)) (t .if1 .taken)) in
-    record { is = (ap (λ (r : Try Mend). r .answer) e, held .small 0 (omega arith)); lookups = ap (λ (r : Try Mend). r .lookups) e; few = search needs }
+    record { is = (ap (λ (r : Try Mend). r .answer) e, held .small 0 (omega arith), held .placed 0 (omega arith)); lookups = ap (λ (r : Try Mend). r .lookups) e; few = search needs }
 
 loop-holds : tie.Need-loop-holds Inv-loop μ-loop
-loop-holds c = (search needs, search needs, search needs, search needs, asked-none _ _ _ _ _ _ _)
+loop-holds c = (search needs, search needs, search needs, λ h. absurd (omega arith), search needs, asked-none _ _ _ _ _ _ _)
 
 mul-mend : tie.Need-mul-mend Inv-loop μ-loop
 mul-mend c = search needs
@@ -85,6 +85,7 @@ loop-again c =
     let l = n .before in
     let b = l .before .before .before .before .before .before in
     let small = b .pre .3 .small (l .loop .i) (n .loop-test .taken) in
+    let placed = b .pre .3 .placed (l .loop .i) (n .loop-test .taken) in
     let here = mends-cons (b .args .scenarii .kept) (b .args .scenarii .count) (fits l) (l .loop .i) (n .loop-test .taken) in
     let more = m .one-more .ensures in
     ⊎-elim
@@ -92,26 +93,28 @@ loop-again c =
       search needs,
       omega (arith, w .2),
       omega (arith, more .few),
+      λ h. rw (w .1) placed,
       rw (w .1) small,
-      rw (w .1, w .2) (asked-yes _ _ _ _ _ _ (m .one-more .result) (l .loop .inv .4) here (more .is) (w .0 .taken)),
+      rw (w .1, w .2) (asked-yes _ _ _ _ _ _ (m .one-more .result) (l .loop .inv .5) here (more .is) (w .0 .taken)),
     ))
     (λ w. (
       search needs,
       omega (arith, w .2),
       omega (arith, more .few),
-      rw (w .1) (l .loop .inv .3),
-      rw (w .1, w .2) (asked-no _ _ _ _ _ _ (m .one-more .result) (l .loop .inv .4) here (more .is) (w .0 .left)),
+      λ h. rw (w .1) (l .loop .inv .3 (rw (w .2) at h)),
+      rw (w .1) (l .loop .inv .4),
+      rw (w .1, w .2) (asked-no _ _ _ _ _ _ (m .one-more .result) (l .loop .inv .5) here (more .is) (w .0 .left)),
     ))
     (c .if2 .came)
 
 returns-2 : tie.Need-returns-2 Inv-loop μ-loop
 returns-2 c =
-    let e = choose-found _ _ _ _ _ _ (many (c .before .before)) (c .before .before .loop .inv .4) (ended (c .before)) (c .if3 .taken) in
-    record { is = (ap (λ (r : Try Mend). r .answer) e, c .before .before .loop .inv .3); lookups = ap (λ (r : Try Mend). r .lookups) e; few = search needs }
+    let e = choose-found _ _ _ _ _ _ (many (c .before .before)) (c .before .before .loop .inv .5) (ended (c .before)) (c .if3 .taken) in
+    record { is = (ap (λ (r : Try Mend). r .answer) e, c .before .before .loop .inv .4, c .before .before .loop .inv .3 (omega (arith, c .if3 .taken))); lookups = ap (λ (r : Try Mend). r .lookups) e; few = search needs }
 
 returns-3 : tie.Need-returns-3 Inv-loop μ-loop
 returns-3 c =
-    let e = choose-refused _ _ _ _ _ _ (many (c .before .before)) (c .before .before .loop .inv .4) (ended (c .before)) (c .if3 .left) in
+    let e = choose-refused _ _ _ _ _ _ (many (c .before .before)) (c .before .before .loop .inv .5) (ended (c .before)) (c .if3 .left) in
     record { is = ap (λ (r : Try Mend). r .answer) e; lookups = ap (λ (r : Try Mend). r .lookups) e; few = search needs }
 
 pub choose-spec : {M : Type 1} → statement M
@@ -120,7 +123,7 @@ choose-spec =
     (tie.spec
     Inv-loop
     μ-loop
-    array-copy-out-t19
+    array-copy-out-only
     returns
     loop-holds
     mul-mend

@@ -1,6 +1,6 @@
 use Prim.Native.Nat.{_+_, _≤_}
 use native.Mathlib.Omega.{arith}
-use mathlib.Core.Path.{_≡_, ap, subst}
+use mathlib.Core.Path.{_≡_, sym, ap, _∙_, subst}
 use mathlib.Core.Bool.{true}
 use borrow.Author.Needs.{needs}
 use Rattle.rules.specs.Set.{solid, setOf}
@@ -8,9 +8,10 @@ use Rattle.rules.specs.Counted.{Try, after}
 use Rattle.rules.specs.Scan.{alternative}
 use Rattle.rules.specs.Exist.{Mend, exist}
 use Rattle.kmer.specs.Kmer.{kmerOf}
-use Rattle.scan.specs.declared.Next.the-variants.{Kmer}
-use Rattle.scan.specs.Scan.{NextIs}
-use Rattle.scenario.specs.Scenario.{scenarios}
+use Rattle.scan.specs.declared.Alt.the-variants.{Kmer}
+use Rattle.scan.specs.Scan.{AltIs}
+use Rattle.set.proofs.Counted.{with-count}
+use Rattle.scenario.specs.Scenario.{scenarios, ofCode}
 use Rattle.exist.specs.declared.Pick.the-variants.{Mend as Use}
 use Rattle.exist.specs.Exist.{PickIs}
 use Rattle.scan.proofs.Laws.{alternative-at-most}
@@ -25,18 +26,18 @@ attempt b =
     after (a .made) (exist (a .head .k) sol (a .c) (a .s .now) (scenarios (a .two) (a .head .k) sol) (kmerOf (a .kmer)))
 
 abbrev start : tie.After-x → tie.Start
-start c = c .before .before .before .before .before .before .before
+start c = c .before .before .before .before .before .before .before .before
 
 low : (c : tie.After-x) → 1 ≤ start c .args .head .k
 low c = start c .pre .0 .shifts .k-low
 
 -- the alternative
 x-is : (c : tie.After-x) → (let a = start c .args in
-    NextIs (a .head .k) (alternative (a .head .k) (solid (setOf (a .set .now))) (kmerOf (a .kmer)) .answer) (Kmer (c .x .given .0 .0)))
-x-is c = subst (NextIs _ _) (c .x .given .1) (c .before .before .sole-alt .ensures)
+    AltIs (a .head .k) (setOf (a .set .now)) (alternative (a .head .k) (solid (setOf (a .set .now))) (kmerOf (a .kmer)) .answer) (Kmer (c .x .given .0 .0) (c .x .given .0 .1 .0)))
+x-is c = subst (AltIs _ _ _) (c .x .given .1) (c .before .before .sole-alt .ensures)
 
 -- what was chosen, and what it cost, said of the attempt
-picked : (c : tie.After-choose) → PickIs (attempt (start (c .before .before .before)) .answer) (c .choose .result .pick)
+picked : (c : tie.After-choose) → PickIs (setOf (start (c .before .before .before) .args .set .now)) (attempt (start (c .before .before .before)) .answer) (c .choose .result .pick)
 picked c =
     let g = c .before in
     rw (exist-answer _ _ _ _ _ _ _ (low (g .before .before)) (x-is (g .before .before) .0) (g .get-scenarii .result) (g .get-scenarii .ensures)) (c .choose .ensures .is)
@@ -47,8 +48,8 @@ paid c =
     let g = c .before in
     exist-lookups _ _ _ _ _ _ _ (low (g .before .before)) (x-is (g .before .before) .0) (g .get-scenarii .result) (g .get-scenarii .ensures) (c .choose .ensures .lookups)
 
-used : (c : tie.After-pick) → PickIs (attempt (start (c .before .before .before .before .before .before .before)) .answer) (Use (c .pick .given .0 .0))
-used c = subst (PickIs _) (c .pick .given .1) (picked (c .before .before .before .before))
+used : (c : tie.After-pick) → PickIs (setOf (start (c .before .before .before .before .before .before .before) .args .set .now)) (attempt (start (c .before .before .before .before .before .before .before)) .answer) (Use (c .pick .given .0 .0))
+used c = subst (PickIs _ _) (c .pick .given .1) (picked (c .before .before .before .before))
 
 sole-alt-requires : tie.Need-sole-alt-requires
 sole-alt-requires c κs = search needs
@@ -62,15 +63,15 @@ enum-told c = search needs
 alt-cost-requires : tie.Need-alt-cost-requires
 alt-cost-requires c κs = search needs
 
-add-t19 : tie.Need-add-t19
-add-t19 c =
-    let b = c .before .before .before .before .before .before .before .before in
+add-lookups : tie.Need-add-lookups
+add-lookups c =
+    let b = c .before .before .before .before .before .before .before .before .before in
     omega (arith, b .pre .3, c .alt-cost .ensures (λ y. true), alternative-at-most (b .args .head .k) (λ y. true) (kmerOf (b .args .kmer)))
 
 returns : tie.Need-returns
 returns c =
     let t = c .before in
-    let e = exist-none _ _ _ _ _ _ _ (subst (NextIs _ _) (t .enum-told .given .1) (t .before .before .sole-alt .ensures)) (c .alt-cost .ensures _) in
+    let e = exist-none _ _ _ _ _ _ _ (subst (AltIs _ _ _) (t .enum-told .given .1) (t .before .before .sole-alt .ensures)) (c .alt-cost .ensures _) in
     refused (ap (λ (t : Try Mend). t .answer) e) (ap (λ (t : Try Mend). t .lookups) e)
 
 get-scenarii-requires : tie.Need-get-scenarii-requires
@@ -79,14 +80,17 @@ get-scenarii-requires c κs = (search needs, x-is (c .before) .1, search needs, 
 choose-requires : tie.Need-choose-requires
 choose-requires c κs = search needs
 
-add-lookups : tie.Need-add-lookups
-add-lookups c = search needs
-
 add-lookups-2 : tie.Need-add-lookups-2
 add-lookups-2 c = search needs
 
 add-lookups-3 : tie.Need-add-lookups-3
 add-lookups-3 c = search needs
+
+add-lookups-4 : tie.Need-add-lookups-4
+add-lookups-4 c =
+    let h = c .before .before in
+    let g = h .before in
+    omega (arith, start (g .before .before) .pre .3, g .get-scenarii .ensures .few, h .choose .ensures .few)
 
 enum-known-pick : tie.Need-enum-known-pick
 enum-known-pick c = search needs
@@ -97,7 +101,7 @@ enum-told-2 c = search needs
 returns-2 : tie.Need-returns-2
 returns-2 c =
     let h = c .before .before .before .before in
-    refused (subst (PickIs _) (c .enum-told2 .given .1) (picked h)) (paid h)
+    refused (subst (PickIs _ _) (c .enum-told2 .given .1) (picked h)) (paid h)
 
 returns-3 : tie.Need-returns-3
 returns-3 c =
@@ -109,15 +113,21 @@ write-requires c κs =
     let e = c .before in
     (used (e .before .before .before) .1, e .if1 .left)
 
+count-at-requires : tie.Need-count-at-requires
+count-at-requires c κs = search needs
+
 same-length : tie.Need-same-length
 same-length c = search needs
 
 returns-4 : tie.Need-returns-4
 returns-4 c =
-    let w = c .before .before in
+    let w = c .before .before .before in
     let e = w .before .before in
     let m = e .before .before .before in
-    mended (m .pick .given .0 .0) (used m .0) (paid (m .before .before .before .before)) (e .if1 .left) (w .write .ensures .0) (w .write .ensures .1)
+    let mend = m .pick .given .0 .0 in
+    let a = start (m .before .before .before .before .before .before .before) .args in
+    let count = with-count (a .set .now) (a .counts .now) (ofCode (mend .tried)) (mend .place) (used m .2) ∙ sym (c .count-at .ensures) in
+    mended mend (used m .0) (paid (m .before .before .before .before)) (e .if1 .left) (w .write .ensures .0) (w .write .ensures .1) count
 
 pub correct-error-spec : {M : Type 1} → statement M
 correct-error-spec =
@@ -127,17 +137,18 @@ correct-error-spec =
     enum-known-x
     enum-told
     alt-cost-requires
-    add-t19
+    add-lookups
     returns
     get-scenarii-requires
     choose-requires
-    add-lookups
     add-lookups-2
     add-lookups-3
+    add-lookups-4
     enum-known-pick
     enum-told-2
     returns-2
     returns-3
     write-requires
+    count-at-requires
     same-length
     returns-4)

@@ -1,5 +1,5 @@
 use borrow.Author.Needs.{needs}
-use Rattle.exports.proofs.Told.{told-made}
+use Rattle.exports.proofs.Told.{told-set}
 use Rattle.exports.proofs.corrector_make_set.Statement.{statement}
 use Rattle.exports.proofs.corrector_make_set.Tie as tie
 
@@ -21,10 +21,13 @@ same-length c = search needs
 same-length-2 : tie.Need-same-length-2
 same-length-2 c = search needs
 
+same-length-3 : tie.Need-same-length-3
+same-length-3 c = search needs
+
 returns : tie.Need-returns
 returns c =
     let n = c .before .before .before .before .before in
-    told-made _ (n .made-numbers .ensures) (c .before .before .tell .ensures) (n .before .before .before .make-set .ensures)
+    told-set _ (n .made-numbers .ensures) (c .before .before .tell .ensures) (n .before .before .before .before .before .make-set .ensures)
 
 pub corrector-make-set-spec : {M : Type 1} → statement M
 corrector-make-set-spec =
@@ -36,4 +39,5 @@ corrector-make-set-spec =
     tell-requires
     same-length
     same-length-2
+    same-length-3
     returns)

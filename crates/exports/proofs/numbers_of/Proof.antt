@@ -1,10 +1,20 @@
+use Prim.Native.Nat.{ℕ}
+use mathlib.Core.Path.{ap}
+use mathlib.Core.List.{List, _∷_}
 use borrow.Author.Needs.{needs}
 use Rattle.exports.specs.Numbers.{numbersOf}
+use Rattle.exports.proofs.Told.{support-told}
 use Rattle.exports.proofs.numbers_of.Statement.{statement}
 use Rattle.exports.proofs.numbers_of.Tie as tie
 
 enum-known-answer : tie.Need-enum-known-answer
 enum-known-answer c = search needs
+
+cast-t6 : tie.Need-cast-t6
+cast-t6 c = search needs
+
+support-number-requires : tie.Need-support-number-requires
+support-number-requires c κs = search needs
 
 enum-known-answer-2 : tie.Need-enum-known-answer-2
 enum-known-answer-2 c = search needs
@@ -17,7 +27,11 @@ place-of-requires c κs = search needs
 
 returns : tie.Need-returns
 unfolding numbersOf
-returns c = rw (c .before .answer .given .1)
+returns c =
+    let a = c .before .before .before in
+    let r = a .answer .given .0 .0 in
+    rw (a .answer .given .1, c .support-number .ensures)
+    (ap (λ (l : List ℕ). 0 ∷ 0 ∷ r .written ∷ r .turns ∷ r .lookups ∷ r .attempts ∷ r .accepted ∷ r .«yield_» ∷ l) (support-told (r .supported) (r .support)))
 
 returns-2 : tie.Need-returns-2
 unfolding numbersOf
@@ -30,6 +44,8 @@ numbers-of-spec =
     tie.close
     (tie.spec
     enum-known-answer
+    cast-t6
+    support-number-requires
     enum-known-answer-2
     number-of-requires
     place-of-requires

@@ -1,7 +1,7 @@
-//! Makes a set file from k-mer counts in any order: `make_set K LEAST < counts > solid.set`, lines of k letters, a comma and a count.
+//! Makes a set file from k-mer counts in any order: `make_set K LEAST [COUNTS] < counts > solid.set`, lines of k letters, a comma and a count.
 //!
 //! The library wants the lines in the order of their canonical codes and each code once. So they are sorted by that code here, and the counts of a
-//! k-mer and its reverse complement are added.
+//! k-mer and its reverse complement are added. With a third word the list of the keys' counts is written to that file, 32 bits each, little-endian.
 use std::collections::BTreeMap;
 use std::error::Error;
 use std::io::{Read, Write};
@@ -23,18 +23,26 @@ fn canonical(kmer: &str) -> u64 {
 
 fn main() -> Result<(), Box<dyn Error>> {
     let arguments: Vec<String> = std::env::args().skip(1).collect();
-    let [k, least] = &arguments[..] else { return Err("usage: make_set K LEAST < counts > solid.set".into()) };
-    let mut counts = String::new();
-    std::io::stdin().read_to_string(&mut counts)?;
+    let (k, least, counts_file) = match &arguments[..] {
+        [k, least] => (k, least, None),
+        [k, least, file] => (k, least, Some(file)),
+        _ => return Err("usage: make_set K LEAST [COUNTS] < counts > solid.set".into()),
+    };
+    let mut lines = String::new();
+    std::io::stdin().read_to_string(&mut lines)?;
     let mut sorted: BTreeMap<u64, (&str, u64)> = BTreeMap::new();
-    for line in counts.lines() {
+    for line in lines.lines() {
         let (kmer, count) = line.split_once(',').ok_or("a line without a comma")?;
         let entry = sorted.entry(canonical(kmer)).or_insert((kmer, 0));
         entry.1 = entry.1.saturating_add(count.parse()?).min(MOST);
     }
     let text: String = sorted.values().map(|(kmer, count)| format!("{kmer},{count}\n")).collect();
-    let mut blocks = vec![0; corrector::set_length(sorted.len())];
-    let length = corrector::make_set(text.as_bytes(), k.parse()?, least.parse()?, &mut blocks)?;
+    let (mut blocks, mut counts) = (vec![0; corrector::set_length(sorted.len())], vec![0; sorted.len()]);
+    let length = corrector::make_set(text.as_bytes(), k.parse()?, least.parse()?, &mut blocks, &mut counts)?;
     std::io::stdout().write_all(&blocks[..length])?;
+    if let Some(file) = counts_file {
+        let n = corrector::open(&blocks[..length])?.n;
+        std::fs::write(file, counts[..n].iter().flat_map(|count| count.to_le_bytes()).collect::<Vec<u8>>())?;
+    }
     Ok(())
 }

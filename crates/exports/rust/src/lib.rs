@@ -23,8 +23,12 @@
 //! let read = b"AACGCCG";
 //! let mut output = [0; 16];
 //! let mut work = vec![0; corrector::work_length(output.len(), read.len())];
-//! let report = corrector::correct_read(&set, None, Job::new(&entries), read, &mut output, &mut work)?;
+//! let report = corrector::correct_read(&set, None, None, Job::new(&entries), read, &mut output, &mut work)?;
 //! assert_eq!(output[..report.written], *b"AACTCCG");
+//! // With counts of the keys the report says how well the correction is supported.
+//! let counts = [9, 4, 7, 5, 8];
+//! let report = corrector::correct_read(&set, None, Some(&counts), Job::new(&entries), read, &mut output, &mut work)?;
+//! assert_eq!(report.support, Some(4));
 //! # Ok::<(), corrector::Refusal>(())
 //! ```
 #![deny(missing_docs)]
@@ -69,7 +73,7 @@ pub struct Count {
     pub solid: u64,
 }
 
-/// What an accepted call counts. The numbers of a batch are sums over its lines.
+/// What an accepted call counts. The numbers of a batch are sums over its lines, its support is the smallest of theirs.
 #[derive(Clone, Copy, Debug, PartialEq, Eq)]
 pub struct Report {
     /// Bytes of the output.
@@ -84,6 +88,8 @@ pub struct Report {
     pub accepted: u64,
     /// Accepted × 1000 / attempts to the nearest whole, an exact half to the even neighbour; 0 without attempts.
     pub yield_: u64,
+    /// The smallest count behind the accepted corrections, which may be 0; none if nothing was accepted or no counts were offered.
+    pub support: Option<u32>,
 }
 
 /// The least work buffer for an output and a read or batch of these lengths.
@@ -107,17 +113,45 @@ pub fn open(set: &[u8]) -> Result<Set, Refusal> {
 ///
 /// An index of the set, from [`make_index`], saves a call the walk over all keys by which it would fill its own table. It changes no result and
 /// no number; an index of another set is refused. An empty one counts as none.
-pub fn correct_read(set: &[u8], index: Option<&[u8]>, job: Job<'_>, read: &[u8], output: &mut [u8], work: &mut [u8]) -> Result<Report, Refusal> {
-    answer(raw::correct(raw::Call::Read, lent(set, index, job, read, output, work)))
+///
+/// Counts, one for each key in the order of the keys, make a call tell the [`support`](Report::support): the smallest count, over all
+/// accepted corrections, of the k-mer that the used scenario tried (One, Two) or of every k-mer that the walk went through, its last one too (Graph,
+/// GapSize). They change no other number and no byte; as many as there are keys are taken, and others refused. An empty list counts as none.
+pub fn correct_read(
+    set: &[u8],
+    index: Option<&[u8]>,
+    counts: Option<&[u32]>,
+    job: Job<'_>,
+    read: &[u8],
+    output: &mut [u8],
+    work: &mut [u8],
+) -> Result<Report, Refusal> {
+    answer(raw::correct(raw::Call::Read, lent(set, index, counts, job, read, output, work)))
 }
 
 /// Corrects a batch, lines each ended by byte 10, as [`correct_read`] does a read. The output is lines too.
-pub fn correct_batch(set: &[u8], index: Option<&[u8]>, job: Job<'_>, batch: &[u8], output: &mut [u8], work: &mut [u8]) -> Result<Report, Refusal> {
-    answer(raw::correct(raw::Call::Batch, lent(set, index, job, batch, output, work)))
+pub fn correct_batch(
+    set: &[u8],
+    index: Option<&[u8]>,
+    counts: Option<&[u32]>,
+    job: Job<'_>,
+    batch: &[u8],
+    output: &mut [u8],
+    work: &mut [u8],
+) -> Result<Report, Refusal> {
+    answer(raw::correct(raw::Call::Batch, lent(set, index, counts, job, batch, output, work)))
 }
 
-fn lent<'a>(set: &'a [u8], index: Option<&'a [u8]>, job: Job<'a>, input: &'a [u8], output: &'a mut [u8], work: &'a mut [u8]) -> raw::Lent<'a> {
-    raw::Lent { set, index: index.unwrap_or_default(), job: job.as_bytes(), input, output, work }
+fn lent<'a>(
+    set: &'a [u8],
+    index: Option<&'a [u8]>,
+    counts: Option<&'a [u32]>,
+    job: Job<'a>,
+    input: &'a [u8],
+    output: &'a mut [u8],
+    work: &'a mut [u8],
+) -> raw::Lent<'a> {
+    raw::Lent { set, index: index.unwrap_or_default(), counts: counts.unwrap_or_default(), job: job.as_bytes(), input, output, work }
 }
 
 /// The k-mers of a read, and the solid ones among them. A read that is shorter than k has none.
@@ -133,22 +167,26 @@ pub fn set_length(n: usize) -> usize {
     512 * (1 + n.div_ceil(63))
 }
 
-/// Makes a set from k-mer counts as text: lines of k letters A, C, G, T, a comma, a count of 1 to 10 digits, and byte 10. Lines whose count is
-/// below `least` are passed over. The canonical codes of the others must rise strictly, in the order of the lines; README.md says how a text is
-/// brought into that order.
+/// Makes a set, and the list of its keys' counts, from k-mer counts as text: lines of k letters A, C, G, T, a comma, a count of 1 to 10 digits, and
+/// byte 10. Lines whose count is below `least` are passed over. The canonical codes of the others must rise strictly, in the order of the lines;
+/// README.md says how a text is brought into that order.
 ///
-/// Accepted, `blocks` has the set in its first bytes, as many as the call answers, and zeros behind them; [`set_length`] of the lines' number is
-/// always enough. Refused, `blocks` has not changed: with [`Refusal::SetHeader`] k is not odd from 1 to 31 or over [`MAX_KEYS`] lines are kept.
+/// Accepted, `blocks` has the set in its first bytes, as many as the call answers, `counts` the counts of its n keys in its first n numbers, larger
+/// ones held at [`u32::MAX`], and both have zeros behind them; [`set_length`] of the lines' number is always enough, and so is a list as long as that
+/// number. Refused, neither has changed: with [`Refusal::SetHeader`] k is not odd from 1 to 31 or over [`MAX_KEYS`] lines are kept, and with
+/// [`Refusal::TooShort`] `blocks` or `counts` is too short.
 ///
 /// ```
 /// let text = b"ACT,9\nCCG,4\nCTC,7\nAAC,5\nTCC,8\n";
-/// let mut blocks = vec![0; corrector::set_length(5)];
-/// let length = corrector::make_set(text, 3, 5, &mut blocks)?;
-/// assert_eq!(corrector::open(&blocks[..length])?, corrector::Set { k: 3, n: 4 });
+/// let (mut blocks, mut counts) = (vec![0; corrector::set_length(5)], vec![0; 5]);
+/// let length = corrector::make_set(text, 3, 5, &mut blocks, &mut counts)?;
+/// let set = corrector::open(&blocks[..length])?;
+/// assert_eq!(set, corrector::Set { k: 3, n: 4 });
+/// assert_eq!(counts[..set.n], [9, 7, 5, 8]);
 /// # Ok::<(), corrector::Refusal>(())
 /// ```
-pub fn make_set(text: &[u8], k: u64, least: u64, blocks: &mut [u8]) -> Result<usize, Refusal> {
-    made(raw::make_set(text, k, least, blocks))
+pub fn make_set(text: &[u8], k: u64, least: u64, blocks: &mut [u8], counts: &mut [u32]) -> Result<usize, Refusal> {
+    made(raw::make_set(text, k, least, blocks, counts))
 }
 
 /// The length of an index of a set with this k, in bytes.
@@ -164,7 +202,7 @@ pub fn index_length(k: usize) -> usize {
 ///
 /// ```
 /// # let mut set = vec![0; corrector::set_length(5)];
-/// # corrector::make_set(b"ACT,9\nCCG,4\nCTC,7\nAAC,5\nTCC,8\n", 3, 1, &mut set)?;
+/// # corrector::make_set(b"ACT,9\nCCG,4\nCTC,7\nAAC,5\nTCC,8\n", 3, 1, &mut set, &mut [0; 5])?;
 /// let k = corrector::open(&set)?.k;
 /// let mut index = vec![0; corrector::index_length(k)];
 /// assert_eq!(corrector::make_index(&set, &mut index)?, index.len());
@@ -182,10 +220,11 @@ fn made(numbers: [u64; 3]) -> Result<usize, Refusal> {
     }
 }
 
-fn answer(numbers: [u64; 8]) -> Result<Report, Refusal> {
+fn answer(numbers: [u64; 10]) -> Result<Report, Refusal> {
     match numbers {
-        [0, _, written, turns, lookups, attempts, accepted, yield_] => {
-            Ok(Report { written: written as usize, turns, lookups, attempts, accepted, yield_ })
+        [0, _, written, turns, lookups, attempts, accepted, yield_, supported, support] => {
+            let support = (supported == 1).then_some(support as u32);
+            Ok(Report { written: written as usize, turns, lookups, attempts, accepted, yield_, support })
         }
         [number, place, ..] => Err(Refusal::from_numbers(number, place)),
     }

@@ -7,18 +7,21 @@ use crate::job::Entry;
 extern "C" {
     fn corrector_open(set: *const u8, set_length: usize, answer: *mut u64, answer_length: usize) -> u64;
     fn corrector_read(
-        set: *const u8, set_length: usize, index: *const u8, index_length: usize, job: *const u8, job_length: usize, read: *const u8, read_length: usize,
+        set: *const u8, set_length: usize, index: *const u8, index_length: usize, counts: *const u32, counts_length: usize,
+        job: *const u8, job_length: usize, read: *const u8, read_length: usize,
         output: *mut u8, output_length: usize, work: *mut u8, work_length: usize, answer: *mut u64, answer_length: usize,
     ) -> u64;
     fn corrector_batch(
-        set: *const u8, set_length: usize, index: *const u8, index_length: usize, job: *const u8, job_length: usize, batch: *const u8, batch_length: usize,
+        set: *const u8, set_length: usize, index: *const u8, index_length: usize, counts: *const u32, counts_length: usize,
+        job: *const u8, job_length: usize, batch: *const u8, batch_length: usize,
         output: *mut u8, output_length: usize, work: *mut u8, work_length: usize, answer: *mut u64, answer_length: usize,
     ) -> u64;
     fn corrector_count_solid(
         set: *const u8, set_length: usize, read: *const u8, read_length: usize, answer: *mut u64, answer_length: usize,
     ) -> u64;
     fn corrector_make_set(
-        text: *const u8, text_length: usize, k: u64, least: u64, blocks: *mut u8, blocks_length: usize, answer: *mut u64, answer_length: usize,
+        text: *const u8, text_length: usize, k: u64, least: u64, blocks: *mut u8, blocks_length: usize, counts: *mut u32, counts_length: usize,
+        answer: *mut u64, answer_length: usize,
     ) -> u64;
     fn corrector_make_index(
         set: *const u8, set_length: usize, blocks: *mut u8, blocks_length: usize, answer: *mut u64, answer_length: usize,
@@ -30,6 +33,8 @@ pub struct Lent<'a> {
     pub set: &'a [u8],
     /// Empty: not offered.
     pub index: &'a [u8],
+    /// Empty: not offered.
+    pub counts: &'a [u32],
     pub job: &'a [u8],
     pub input: &'a [u8],
     pub output: &'a mut [u8],
@@ -59,13 +64,13 @@ pub fn open(set: &[u8]) -> [u64; 4] {
     answer
 }
 
-/// Number, place, written, turns, lookups, attempts, accepted, yield.
-pub fn correct(call: Call, lent: Lent<'_>) -> [u64; 8] {
+/// Number, place, written, turns, lookups, attempts, accepted, yield, supported, support.
+pub fn correct(call: Call, lent: Lent<'_>) -> [u64; 10] {
     let entry = match call {
         Call::Read => corrector_read,
         Call::Batch => corrector_batch,
     };
-    let mut answer = [0; 8];
+    let mut answer = [0; 10];
     // SAFETY: each pointer and length are a live slice's; `output`, `work` and `answer` are lent to this call alone, so that they overlap
     // nothing; and the call keeps no pointer.
     unsafe {
@@ -74,6 +79,8 @@ pub fn correct(call: Call, lent: Lent<'_>) -> [u64; 8] {
             lent.set.len(),
             lent.index.as_ptr(),
             lent.index.len(),
+            lent.counts.as_ptr(),
+            lent.counts.len(),
             lent.job.as_ptr(),
             lent.job.len(),
             lent.input.as_ptr(),
@@ -98,11 +105,22 @@ pub fn count_solid(set: &[u8], read: &[u8]) -> [u64; 4] {
 }
 
 /// Number, place, length of the blocks.
-pub fn make_set(text: &[u8], k: u64, least: u64, blocks: &mut [u8]) -> [u64; 3] {
+pub fn make_set(text: &[u8], k: u64, least: u64, blocks: &mut [u8], counts: &mut [u32]) -> [u64; 3] {
     let mut answer = [0; 3];
-    // SAFETY: each pointer and length are a live slice's; `blocks` and `answer` are lent to this call alone.
+    // SAFETY: each pointer and length are a live slice's; `blocks`, `counts` and `answer` are lent to this call alone.
     unsafe {
-        corrector_make_set(text.as_ptr(), text.len(), k, least, blocks.as_mut_ptr(), blocks.len(), answer.as_mut_ptr(), answer.len());
+        corrector_make_set(
+            text.as_ptr(),
+            text.len(),
+            k,
+            least,
+            blocks.as_mut_ptr(),
+            blocks.len(),
+            counts.as_mut_ptr(),
+            counts.len(),
+            answer.as_mut_ptr(),
+            answer.len(),
+        );
     }
     answer
 }

@@ -53,10 +53,12 @@ pub enum Refusal {
         /// The line of the text.
         line: usize,
     },
-    /// 14: the buffer is too short for the blocks.
+    /// 14: the buffer is too short for the blocks, or the list for the counts.
     TooShort,
     /// 15: an offered index isn't the one of the set.
     Index,
+    /// 16: the counts that are offered are not one for each key of the set.
+    Counts,
 }
 
 impl Refusal {
@@ -79,11 +81,12 @@ impl Refusal {
             13 => Self::NotRising { line: place },
             14 => Self::TooShort,
             15 => Self::Index,
-            _ => unreachable!("the library refuses by 1 to 15"),
+            16 => Self::Counts,
+            _ => unreachable!("the library refuses by 1 to 16"),
         }
     }
 
-    /// The number, 1 to 15.
+    /// The number, 1 to 16.
     pub fn number(self) -> u8 {
         match self {
             Self::InputLength => 1,
@@ -101,6 +104,7 @@ impl Refusal {
             Self::NotRising { .. } => 13,
             Self::TooShort => 14,
             Self::Index => 15,
+            Self::Counts => 16,
         }
     }
 
@@ -131,8 +135,9 @@ impl Display for Refusal {
             Self::NoRoom { line } => write!(to, "the result of line {line} does not fit the output"),
             Self::Line { line } => write!(to, "line {line} of the counts breaks the form"),
             Self::NotRising { line } => write!(to, "the code of line {line} of the counts does not rise"),
-            Self::TooShort => write!(to, "the buffer is too short for the blocks"),
+            Self::TooShort => write!(to, "the buffer is too short for the blocks, or the list for the counts"),
             Self::Index => write!(to, "the index is not that of the set"),
+            Self::Counts => write!(to, "the counts are not as many as the set has keys"),
         }
     }
 }

@@ -30,11 +30,11 @@ impl Done {
     }
 
     fn read(set: &[u8], job: Job, read: &[u8]) -> Self {
-        Self::of(|output, work| correct_read(set, None, job, read, output, work), 32, 64)
+        Self::of(|output, work| correct_read(set, None, None, job, read, output, work), 32, 64)
     }
 
     fn batch(set: &[u8], job: Job, batch: &[u8]) -> Self {
-        Self::of(|output, work| correct_batch(set, None, job, batch, output, work), 32, 64)
+        Self::of(|output, work| correct_batch(set, None, None, job, batch, output, work), 32, 64)
     }
 
     fn all(&self, byte: u8) -> bool {
@@ -103,7 +103,7 @@ fn samples_of_graph_and_gap_size() {
 
 #[test]
 fn short_reads() {
-    let none = Report { written: 0, turns: 0, lookups: 0, attempts: 0, accepted: 0, yield_: 0 };
+    let none = Report { written: 0, turns: 0, lookups: 0, attempts: 0, accepted: 0, yield_: 0, support: None };
     assert_eq!(gives(One, 1, b"AA", b"AA"), Report { written: 2, ..none });
     assert_eq!(gives(One, 1, b"", b""), none);
     assert_eq!(gives(One, 1, b"AAC", b"AAC"), Report { written: 3, lookups: 1, ..none });
@@ -120,7 +120,7 @@ fn jobs_are_the_bytes_of_their_file() {
 #[test]
 fn a_job_without_entries_copies() {
     let report = gives_by(&[], b"AACGC", b"AACGC");
-    assert_eq!(report, Report { written: 5, turns: 0, lookups: 0, attempts: 0, accepted: 0, yield_: 0 });
+    assert_eq!(report, Report { written: 5, turns: 0, lookups: 0, attempts: 0, accepted: 0, yield_: 0, support: None });
     Done::batch(&sample_set(), Job::from_bytes(b""), b"AACGC\n\nAA\n").gives(b"AACGC\n\nAA\n");
 }
 
@@ -140,7 +140,7 @@ fn yields_to_the_nearest() {
     for (mended, attempts, yields) in [(1, 16, 62), (3, 16, 188), (2, 3, 667), (1, 3, 333), (7, 7, 1000), (0, 7, 0), (0, 0, 0)] {
         let batch = [b"AACGC\n".repeat(mended), b"AACG\n".repeat(attempts - mended)].concat();
         let (mut output, mut work) = (vec![0; batch.len()], vec![0; 2 * batch.len()]);
-        let report = correct_batch(&sample_set(), None, ONE, &batch, &mut output, &mut work).expect("accepted");
+        let report = correct_batch(&sample_set(), None, None, ONE, &batch, &mut output, &mut work).expect("accepted");
         assert_eq!((report.attempts, report.accepted, report.yield_), (attempts as u64, mended as u64, yields));
     }
 }
@@ -258,7 +258,7 @@ fn refuses_half_an_entry() {
 #[test]
 fn refuses_buffers() {
     let set = sample_set();
-    let call = |output: usize, work: usize| Done::of(|output, work| correct_read(&set, None, ONE, b"AAC", output, work), output, work);
+    let call = |output: usize, work: usize| Done::of(|output, work| correct_read(&set, None, None, ONE, b"AAC", output, work), output, work);
     call(MAX_OUTPUT + 1, MAX_WORK).refused(Refusal::Buffers, 5, 0);
     call(8, MAX_WORK + 1).refused(Refusal::Buffers, 5, 0);
     call(8, work_length(8, 3) - 1).refused(Refusal::Buffers, 5, 0);
@@ -271,7 +271,7 @@ fn refuses_buffers() {
 fn refuses_a_batch() {
     let set = sample_set();
     Done::batch(&set, ONE, b"AAC").refused(Refusal::Batch, 6, 0);
-    let lines = |count: usize| Done::of(|output, work| correct_batch(&set, None, ONE, &vec![10; count], output, work), count, 2 * count);
+    let lines = |count: usize| Done::of(|output, work| correct_batch(&set, None, None, ONE, &vec![10; count], output, work), count, 2 * count);
     lines(MAX_LINES + 1).refused(Refusal::Batch, 6, 0);
     lines(MAX_LINES).gives(&[10; MAX_LINES]);
 }
@@ -310,10 +310,10 @@ fn refuses_a_set_made_wrongly() {
 #[test]
 fn refuses_a_result_without_room() {
     let set = sample_set();
-    let read = Done::of(|output, work| correct_read(&set, None, ONE, b"AACC", output, work), 4, 8);
+    let read = Done::of(|output, work| correct_read(&set, None, None, ONE, b"AACC", output, work), 4, 8);
     assert_eq!(read.answer, Err(Refusal::NoRoom { line: 0 }));
     assert!(read.all(0));
-    let batch = Done::of(|output, work| correct_batch(&set, None, ONE, b"AA\nAACC\n", output, work), 8, 16);
+    let batch = Done::of(|output, work| correct_batch(&set, None, None, ONE, b"AA\nAACC\n", output, work), 8, 16);
     assert_eq!(batch.answer, Err(Refusal::NoRoom { line: 1 }));
     assert_eq!(batch.answer.map_err(|refusal| (refusal.number(), refusal.place())), Err((11, 1)));
     assert!(batch.all(0));

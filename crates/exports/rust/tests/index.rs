@@ -86,9 +86,9 @@ type Done = (Result<Report, Refusal>, Vec<u8>, Vec<u8>);
 fn corrected(set: &[u8], index: Option<&[u8]>, job: &[u8], read: &[u8], room: usize) -> [Done; 2] {
     let line = [read, b"\n"].concat();
     let (mut output, mut work) = (vec![FILL; room], vec![FILL; work_length(room, line.len())]);
-    let alone = correct_read(set, index, Job::from_bytes(job), read, &mut output, &mut work);
+    let alone = correct_read(set, index, None, Job::from_bytes(job), read, &mut output, &mut work);
     let (mut lines, mut more) = (vec![FILL; room], vec![FILL; work_length(room, line.len())]);
-    let batch = correct_batch(set, index, Job::from_bytes(job), &line, &mut lines, &mut more);
+    let batch = correct_batch(set, index, None, Job::from_bytes(job), &line, &mut lines, &mut more);
     [(alone, output, work), (batch, lines, more)]
 }
 

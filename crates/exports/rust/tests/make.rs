@@ -1,43 +1,58 @@
-//! Sets made from k-mer counts as text: document 02, W3.
+//! Sets and lists of counts made from k-mer counts as text: document 02, W3 and W8.
 mod common;
 
 use common::{canonical, sample_set, set_of, Rng};
 use corrector::{make_set, open, set_length, Refusal, Set};
 
 const FILL: u8 = 170;
+const COUNT: u32 = 0xaaaa_aaaa;
 const SAMPLE: &[u8] = b"ACT,9\nCCG,4\nCTC,7\nAAC,5\nTCC,8\n";
 
-/// A call on a buffer that was filled before it.
-fn made(text: &[u8], k: u64, least: u64, room: usize) -> (Result<usize, Refusal>, Vec<u8>) {
-    let mut blocks = vec![FILL; room];
-    (make_set(text, k, least, &mut blocks), blocks)
+/// A call on buffers that were filled before it.
+fn made(text: &[u8], k: u64, least: u64, room: usize, count_room: usize) -> (Result<usize, Refusal>, Vec<u8>, Vec<u32>) {
+    let (mut blocks, mut counts) = (vec![FILL; room], vec![COUNT; count_room]);
+    (make_set(text, k, least, &mut blocks, &mut counts), blocks, counts)
 }
 
+/// Into buffers that just fit, and into longer ones; not into either one too short.
 #[track_caller]
-fn makes(text: &[u8], k: u64, least: u64, set: &[u8]) {
-    assert_eq!(made(text, k, least, set.len()), (Ok(set.len()), set.to_vec()));
-    assert_eq!(made(text, k, least, set.len() + 700), (Ok(set.len()), [set, &[0; 700]].concat()));
-    assert_eq!(made(text, k, least, set.len() - 1), (Err(Refusal::TooShort), vec![FILL; set.len() - 1]));
+fn makes(text: &[u8], k: u64, least: u64, set: &[u8], counts: &[u32]) {
+    let (room, n) = (set.len(), counts.len());
+    assert_eq!(made(text, k, least, room, n), (Ok(room), set.to_vec(), counts.to_vec()));
+    assert_eq!(made(text, k, least, room + 700, n + 70), (Ok(room), [set, &[0; 700]].concat(), [counts, &[0; 70]].concat()));
+    assert_eq!(made(text, k, least, room - 1, n + 1), (Err(Refusal::TooShort), vec![FILL; room - 1], vec![COUNT; n + 1]));
+    if n > 0 {
+        assert_eq!(made(text, k, least, room + 1, n - 1), (Err(Refusal::TooShort), vec![FILL; room + 1], vec![COUNT; n - 1]));
+        assert_eq!(made(text, k, least, room, 0), (Err(Refusal::TooShort), vec![FILL; room], vec![]));
+    }
 }
 
-/// Refused, whatever room there is, with the buffer as it was.
+/// Refused, whatever room there is, with the buffers as they were.
 #[track_caller]
 fn refused(text: &[u8], k: u64, least: u64, refusal: Refusal, number: u8, place: usize) {
     assert_eq!((refusal.number(), refusal.place()), (number, place));
-    for room in [0, 511, 2048] {
-        assert_eq!(made(text, k, least, room), (Err(refusal), vec![FILL; room]));
+    for (room, count_room) in [(0, 0), (511, 9), (2048, 0), (2048, 9)] {
+        assert_eq!(made(text, k, least, room, count_room), (Err(refusal), vec![FILL; room], vec![COUNT; count_room]));
     }
 }
 
 #[test]
 fn the_sample_set() {
-    makes(SAMPLE, 3, 1, &sample_set());
-    makes(SAMPLE, 3, 5, &set_of(3, &[6, 51, 58, 60]));
-    makes(SAMPLE, 3, 10, &set_of(3, &[]));
-    makes(SAMPLE, 3, u64::MAX, &set_of(3, &[]));
-    makes(b"", 31, 0, &set_of(31, &[]));
-    makes(b"AGT,0000000017\nCCG,0\n", 3, 0, &set_of(3, &[6, 23]));
-    makes(b"CCG,9\nACT,4\nAAC,9\n", 3, 5, &set_of(3, &[23, 58]));
+    makes(SAMPLE, 3, 1, &sample_set(), &[9, 4, 7, 5, 8]);
+    makes(SAMPLE, 3, 5, &set_of(3, &[6, 51, 58, 60]), &[9, 7, 5, 8]);
+    makes(SAMPLE, 3, 10, &set_of(3, &[]), &[]);
+    makes(SAMPLE, 3, u64::MAX, &set_of(3, &[]), &[]);
+    makes(b"", 31, 0, &set_of(31, &[]), &[]);
+    makes(b"AGT,0000000017\nCCG,0\n", 3, 0, &set_of(3, &[6, 23]), &[17, 0]);
+    makes(b"CCG,9\nACT,4\nAAC,9\n", 3, 5, &set_of(3, &[23, 58]), &[9, 9]);
+}
+
+#[test]
+fn counts_are_held_at_the_largest() {
+    let text = b"ACT,4294967294\nCCG,4294967295\nCTC,4294967296\nAAC,9999999999\n";
+    makes(text, 3, 0, &set_of(3, &[6, 23, 51, 58]), &[u32::MAX - 1, u32::MAX, u32::MAX, u32::MAX]);
+    makes(text, 3, 1 << 32, &set_of(3, &[51, 58]), &[u32::MAX, u32::MAX]);
+    makes(text, 3, 9_999_999_999, &set_of(3, &[58]), &[u32::MAX]);
 }
 
 #[test]
@@ -67,6 +82,6 @@ fn counts_are_sorted_by_canonical_code() {
     let text: Vec<u8> = counts.values().flat_map(|(kmer, count)| [kmer, format!(",{count}\n").as_bytes()].concat()).collect();
     let set = set_of(21, &counts.keys().copied().collect::<Vec<_>>());
     assert_eq!(set_length(counts.len()), set.len());
-    makes(&text, 21, 1, &set);
+    makes(&text, 21, 1, &set, &counts.values().map(|(_, count)| *count).collect::<Vec<_>>());
     assert_eq!(open(&set), Ok(Set { k: 21, n: counts.len() }));
 }

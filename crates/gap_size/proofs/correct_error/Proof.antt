@@ -9,12 +9,12 @@ use Rattle.gap_size.proofs.correct_error.Tie as tie
 
 -- the function's entry, from the scan
 abbrev entry : tie.After-error-len → tie.Start
-entry c = c .before .before .before .before .before
+entry c = c .before .before .before .before .before .before
 
 fits : (c : tie.After-error-len) → (c .error-len .result .index < 2 ^ 63) × (c .error-len .result .lookups < 2 ^ 63)
 fits c =
     let b = entry c in
-    let l : length (b .args .s .now) < 2 ^ 63 = omega (arith, b .good .1 .1 .1 .1 .1 .0) in
+    let l : length (b .args .s .now) < 2 ^ 63 = omega (arith, b .good .1 .1 .1 .1 .1 .1 .0) in
     scan-fits _ _ _ _ (c .error-len .result) (c .error-len .ensures) (b .pre .2) l
 
 error-len-requires : tie.Need-error-len-requires

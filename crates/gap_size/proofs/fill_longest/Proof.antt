@@ -13,7 +13,7 @@ slice-aggregate-fill : tie.Need-slice-aggregate-fill
 slice-aggregate-fill c = search needs
 
 fill-requires : tie.Need-fill-requires
-fill-requires c κs = (c .before .before .before .before .before .pre, some-words 131072 (lit< tt))
+fill-requires c κs = (c .before .before .before .before .before .before .pre, some-words 131072 (lit< tt))
 
 same-length : tie.Need-same-length
 same-length c = search needs

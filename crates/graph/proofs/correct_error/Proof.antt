@@ -11,8 +11,8 @@ error-len-requires c κs = search needs
 
 from-scan-requires : tie.Need-from-scan-requires
 from-scan-requires c κs =
-    let b = c .before .before .before .before .before .before in
-    let l : length (b .args .s .now) < 2 ^ 63 = omega (arith, b .good .1 .1 .1 .1 .0) in
+    let b = c .before .before .before .before .before .before .before in
+    let l : length (b .args .s .now) < 2 ^ 63 = omega (arith, b .good .1 .1 .1 .1 .1 .0) in
     let w = scan-fits _ _ _ _ (c .before .error-len .result) (c .before .error-len .ensures) (b .pre .2) l in
     (b .pre .0, b .pre .1, w .0, w .1)
 

@@ -1,25 +1,27 @@
-use Prim.Native.Nat.{ℕ, _+_, _-_, _*_, _≤_}
+use Prim.Native.Nat.{ℕ, _+_, _-_, _*_, _≤_, _<_, min}
 use native.Mathlib.Omega.{arith}
-use mathlib.Core.Path.{_≡_, refl, sym, _∙_}
-use mathlib.Core.Bool.{Bool, true}
+use mathlib.Core.Path.{_≡_, refl, sym, ap, _∙_}
+use mathlib.Core.Bool.{Bool}
 use mathlib.Core.Option.{some}
 use mathlib.Core.Logic.{⊎-elim}
 use lib.ListN.{length}
 use borrow.Author.Needs.{needs}
-use Rattle.rules.specs.Set.{maxKeys, solid, setOf}
+use Rattle.rules.specs.Letters as rules
+use Rattle.rules.specs.Set.{maxKeys, solid, setOf, countOf}
 use Rattle.rules.specs.Scan.{sole}
 use Rattle.rules.proofs.Kmer.{Known}
 use Rattle.kmer.specs.declared.Kmer.{Kmer}
 use Rattle.kmer.specs.Kmer.{kmerOf, IsKmer}
+use Rattle.set.specs.Counted.{setWith}
 use Rattle.set.proofs.Opened.{opened-n-le}
 use Rattle.scan.specs.Scan.{scanOf}
 use Rattle.scan.proofs.Laws.{no-next, next-kmer, nuc-lt, sole-known, known-asked}
-use Rattle.graph.proofs.Laws.{Arrived, Going, going-start, walk-dead, walk-arrives, walk-meets, walk-marks, walk-goes, walk-stays, walk-over, walk-refused, walk-mends, walk-full}
+use Rattle.graph.proofs.Laws.{move-count, Arrived, Going, going-start, walk-dead, walk-arrives, walk-meets, walk-marks, walk-goes, walk-stays, walk-over, walk-refused, walk-mends, walk-full}
 use Rattle.graph.proofs.walk.Statement.{statement}
 use Rattle.graph.proofs.walk.Tie as tie
 
 abbrev Inv-loop : tie.InvT-loop
-Inv-loop set starts head scan out₀ end lookups₀ at₀ mark₀ marks-at₀ fuel moves₀ out lookups at mark marks-at moves =
+Inv-loop set starts head counts count out₀ end resume lookups₀ at₀ weakest₀ places₀ mark₀ marks-at₀ fuel moves₀ out lookups at weakest places mark marks-at moves =
     (moves ≤ fuel)
     × (fuel ≤ 100663296)
     × (marks-at ≤ 2 * moves + 1)
@@ -27,17 +29,20 @@ Inv-loop set starts head scan out₀ end lookups₀ at₀ mark₀ marks-at₀ fu
     × (length out ≡ length out₀)
     × IsKmer (head .k) at
     × Known (kmerOf at)
-    × Going (head .k) (head .n) (solid (setOf set)) (kmerOf end) (kmerOf at₀) (kmerOf at) (kmerOf mark) moves marks-at out
+    × Going (head .k) (head .n) (solid (setOf set)) (countOf (setWith set counts)) (kmerOf end) (kmerOf at₀) (kmerOf at) (kmerOf mark) moves marks-at weakest out
 
 abbrev μ-loop : tie.MeasureT-loop
-μ-loop set starts head scan out₀ end lookups₀ at₀ mark₀ marks-at₀ fuel moves₀ out lookups at mark marks-at moves = fuel - moves
+μ-loop set starts head counts count out₀ end resume lookups₀ at₀ weakest₀ places₀ mark₀ marks-at₀ fuel moves₀ out lookups at weakest places mark marks-at moves = fuel - moves
 
 -- the function's entry, from the loop's head
 abbrev entry : tie.At-loop Inv-loop μ-loop → tie.Start Inv-loop μ-loop
-entry c = c .before .before .before .before .before .before .before .before .before .before .before .before .before
+entry c = c .before .before .before .before .before .before .before .before .before .before .before .before .before .before .before
 
 abbrev sol : tie.At-loop Inv-loop μ-loop → ℕ → Bool
 sol c = solid (setOf (entry c .args .set .now))
+
+abbrev count : tie.At-loop Inv-loop μ-loop → rules.Kmer → ℕ
+count c = countOf (setWith (entry c .args .set .now) (entry c .args .counts .now))
 
 room : (c : tie.At-loop Inv-loop μ-loop) → length (c .loop .out) ≡ length (entry c .args .out .now)
 room c = c .loop .inv .4 ∙ c .before .before .before .before .write-last .kept .0
@@ -50,7 +55,7 @@ abbrev next : tie.After-add-nuc-to-end Inv-loop μ-loop → Kmer
 next c = c .add-nuc-to-end .result
 
 abbrev from : tie.After-add-nuc-to-end Inv-loop μ-loop → tie.In-loop Inv-loop μ-loop
-from c = c .before .before .before .before .before .before
+from c = c .before .before .before .before .before .before .before
 
 abbrev turn : tie.After-add-nuc-to-end Inv-loop μ-loop → tie.At-loop Inv-loop μ-loop
 turn c = from c .before
@@ -60,24 +65,42 @@ told : (c : tie.After-add-nuc-to-end Inv-loop μ-loop)
     (sole (b .args .head .k) (sol (turn c)) (kmerOf (turn c .loop .at)) .answer ≡ some (kmerOf (next c))) × IsKmer (b .args .head .k) (next c)
 told c =
     let n = c .before .before .before .before in
-    next-kmer _ _ _ (n .sole-nuc .result) (n .before .next-nucs .ensures) (n .sole-nuc .ensures) _ (c .before .before .nuc .given .1) (c .add-nuc-to-end .ensures)
+    next-kmer _ _ _ (n .sole-nuc .result) (n .before .next-nucs .ensures .0) (n .sole-nuc .ensures) _ (c .before .before .nuc .given .1) (c .add-nuc-to-end .ensures)
+
+small : (c : tie.After-known-told Inv-loop μ-loop) → c .before .nuc .given .0 .0 < 4
+small c =
+    let n = c .before .before .before in
+    nuc-lt _ _ _ (n .sole-nuc .result) (n .before .next-nucs .ensures .0) (n .sole-nuc .ensures) _ (c .before .nuc .given .1)
+
+-- its count weighed
+weighed : (c : tie.After-lower Inv-loop μ-loop)
+    → let m = c .before .before in
+    c .lower .result ≡ min (turn m .loop .weakest) (count (turn m) (kmerOf (next m)))
+weighed c =
+    let m = c .before .before in
+    let n = m .before .before .before .before in
+    c .lower .ensures
+    ∙ ap (min _)
+    (move-count _ _ _ _ (n .sole-nuc .result) (n .before .next-nucs .ensures .0) (n .sole-nuc .ensures) _ (next m) (m .before .before .nuc .given .1)
+    (m .add-nuc-to-end .ensures) (n .before .next-nucs .ensures .1) (c .before .count-at .ensures))
 
 -- its letter written
 abbrev move : tie.After-write-last2 Inv-loop μ-loop → tie.After-add-nuc-to-end Inv-loop μ-loop
-move c = c .before .before
+move c = c .before .before .before .before
 
 room-after : (c : tie.After-write-last2 Inv-loop μ-loop) → length (c .write-last2 .last .0) ≡ length (entry (turn (move c)) .args .out .now)
 room-after c = c .write-last2 .kept .0 ∙ room (turn (move c))
 
 came : (c : tie.Then2 Inv-loop μ-loop)
-    → let l = turn (c .before .before .before .before .before .before) in
-    let b = entry l in
-    Arrived (b .args .head .k) (b .args .head .n) (sol l) (kmerOf (b .args .scan .end)) (kmerOf (b .args .x)) (4 * l .loop .moves + 4) (l .loop .moves + 2)
-    (c .before .before .before .before .write-last2 .last .0)
-came c =
-    let m = c .before .before .before .before .before .before in
+    → let m = c .before .before .before .before .before .before .before .before in
     let l = turn m in
-    rw (c .before .before .before .before .write-last2 .ensures)
+    let b = entry l in
+    Arrived (b .args .head .k) (b .args .head .n) (sol l) (count l) (kmerOf (b .args .scan .end)) (kmerOf (b .args .x)) (4 * l .loop .moves + 4) (l .loop .moves + 2)
+    (c .before .before .before .before .before .before .lower .result) (c .before .before .before .before .write-last2 .last .0)
+came c =
+    let m = c .before .before .before .before .before .before .before .before in
+    let l = turn m in
+    rw (c .before .before .before .before .write-last2 .ensures, weighed (c .before .before .before .before .before .before))
     (walk-arrives (low l) (l .loop .inv .6) (l .loop .inv .7) (from m .loop-test .taken) _ (told m .0)
     (sym (c .before .same2 .ensures) ∙ c .if2 .taken))
 
@@ -85,12 +108,15 @@ came c =
 keys : (c : tie.Start Inv-loop μ-loop) → c .args .head .n ≤ maxKeys
 keys c = rw (c .pre .0 .n-is) (opened-n-le _ (c .pre .0 .table .opens))
 
+add-resume : tie.Need-add-resume Inv-loop μ-loop
+add-resume c = omega (arith, c .before .before .before .before .before .before .pre)
+
 add-lookups : tie.Need-add-lookups Inv-loop μ-loop
-add-lookups c = omega (arith, c .before .before .before .before .before .pre)
+add-lookups c = omega (arith, c .before .before .before .before .before .before .before .pre)
 
 returns : tie.Need-returns Inv-loop μ-loop
 returns c =
-    let b = c .before .before .before .before .before .before .before in
+    let b = c .before .before .before .before .before .before .before .before .before in
     record {
       is = walk-refused _ _ _ (scanOf (b .args .scan)) _ _ 0 _ (walk-stays _ _ _ _ _ (sym (c .before .same .ensures) ∙ c .if1 .taken)) (omega arith);
       room = refl;
@@ -103,12 +129,12 @@ write-last-requires : tie.Need-write-last-requires Inv-loop μ-loop
 write-last-requires c κs = search needs
 
 mul-fuel : tie.Need-mul-fuel Inv-loop μ-loop
-mul-fuel c = omega (arith, keys (c .before .before .before .before .before .before .before .before .before .before .before .before))
+mul-fuel c = omega (arith, keys (c .before .before .before .before .before .before .before .before .before .before .before .before .before .before))
 
 loop-holds : tie.Need-loop-holds Inv-loop μ-loop
 unfolding kmerOf
 loop-holds c =
-    let b = c .before .before .before .before .before .before .before .before .before .before .before .before in (
+    let b = c .before .before .before .before .before .before .before .before .before .before .before .before .before .before in (
       omega arith,
       omega (arith, keys b),
       omega arith,
@@ -116,8 +142,8 @@ loop-holds c =
       refl,
       b .pre .1,
       b .pre .2,
-      rw (c .before .before .before .write-last .ensures)
-          (going-start _ _ _ (kmerOf (b .args .scan .end)) (kmerOf (b .args .x)) (b .args .out .now)
+      rw (c .before .before .before .write-last .ensures, b .pre .5)
+          (going-start _ _ _ _ (kmerOf (b .args .scan .end)) (kmerOf (b .args .x)) (b .args .out .now)
           (sym (c .before .before .before .before .before .before .same .ensures) ∙ c .before .before .before .before .before .if1 .left)),
     )
 
@@ -126,7 +152,7 @@ add-lookups-2 c = omega (arith, c .before .loop .inv, entry (c .before) .pre)
 
 next-nucs-requires : tie.Need-next-nucs-requires Inv-loop μ-loop
 next-nucs-requires c κs =
-    let l = c .before in
+    let l = c .before .before in
     (entry l .pre .0, l .loop .inv .5, known-asked _ _ (low l) (l .loop .inv .6))
 
 sole-nuc-requires : tie.Need-sole-nuc-requires Inv-loop μ-loop
@@ -139,30 +165,40 @@ enum-told : tie.Need-enum-told Inv-loop μ-loop
 enum-told c = search needs
 
 same-length : tie.Need-same-length Inv-loop μ-loop
-same-length c = room (c .before .before .before .before .before)
+same-length c = room (c .before .before .before .before .before .before)
 
 returns-2 : tie.Need-returns-2 Inv-loop μ-loop
 returns-2 c =
     let n = c .before .before in
-    let a = n .before .before in
+    let a = n .before .before .before in
     let l = a .before in
     record {
       is = walk-refused _ _ _ (scanOf (entry l .args .scan)) _ _ _ _
           (walk-dead (low l) (l .loop .inv .6) (l .loop .inv .7) (a .loop-test .taken)
-          (no-next _ _ _ (n .sole-nuc .result) (n .before .next-nucs .ensures) (n .sole-nuc .ensures) (c .enum-told .given .1)))
+          (no-next _ _ _ (n .sole-nuc .result) (n .before .next-nucs .ensures .0) (n .sole-nuc .ensures) (c .enum-told .given .1)))
           (omega (arith, l .loop .inv .3));
       room = room l;
     }
 
 add-nuc-to-end-requires : tie.Need-add-nuc-to-end-requires Inv-loop μ-loop
 add-nuc-to-end-requires c κs =
-    let n = c .before .before .before in
-    let l = n .before .before .before in
-    let small = nuc-lt _ _ _ (n .sole-nuc .result) (n .before .next-nucs .ensures) (n .sole-nuc .ensures) _ (c .before .nuc .given .1) in
-    (entry l .pre .0 .shifts, l .loop .inv .5, omega (arith, small))
+    let l = c .before .before .before .before .before .before .before in
+    (entry l .pre .0 .shifts, l .loop .inv .5, omega (arith, small c))
+
+mul-count-at : tie.Need-mul-count-at Inv-loop μ-loop
+mul-count-at c = omega (arith, small (c .before))
+
+array-read-count-at : tie.Need-array-read-count-at Inv-loop μ-loop
+array-read-count-at c = omega (arith, small (c .before))
+
+count-at-requires : tie.Need-count-at-requires Inv-loop μ-loop
+count-at-requires c κs = search needs
+
+lower-requires : tie.Need-lower-requires Inv-loop μ-loop
+lower-requires c κs = search needs
 
 add-write-last : tie.Need-add-write-last Inv-loop μ-loop
-add-write-last c = omega (arith, turn (c .before) .loop .inv)
+add-write-last c = omega (arith, turn (c .before .before .before) .loop .inv)
 
 write-last-requires-2 : tie.Need-write-last-requires-2 Inv-loop μ-loop
 write-last-requires-2 c κs = search needs
@@ -170,24 +206,18 @@ write-last-requires-2 c κs = search needs
 same-requires-2 : tie.Need-same-requires-2 Inv-loop μ-loop
 same-requires-2 c κs = search needs
 
-add-if3 : tie.Need-add-if3 Inv-loop μ-loop
-add-if3 c = omega (arith, turn (c .before .before .before .before .before .before) .loop .inv)
-
-add-t31 : tie.Need-add-t31 Inv-loop μ-loop
-add-t31 c = omega (arith, turn (c .before .before .before .before .before .before .before) .loop .inv)
-
-add-t32 : tie.Need-add-t32 Inv-loop μ-loop
-add-t32 c = omega (arith, entry (turn (c .before .before .before .before .before .before .before .before)) .pre .3)
+add-letters : tie.Need-add-letters Inv-loop μ-loop
+add-letters c = omega (arith, turn (c .before .before .before .before .before .before .before .before) .loop .inv)
 
 same-length-2 : tie.Need-same-length-2 Inv-loop μ-loop
-same-length-2 c = room-after (c .before .before .before .before .before .before)
+same-length-2 c = room-after (c .before .before .before .before .before)
 
 returns-3 : tie.Need-returns-3 Inv-loop μ-loop
 returns-3 c =
-    let w = c .before .before .before .before .before .before in
+    let w = c .before .before .before .before .before in
     let l = turn (move w) in
     record {
-      is = walk-mends _ _ _ (scanOf (entry l .args .scan)) _ _ (came (c .before .before)) _ (omega (arith, l .loop .inv .3)) (c .before .if3 .taken);
+      is = walk-mends _ _ _ (scanOf (entry l .args .scan)) _ _ (came (c .before)) _ (omega (arith, l .loop .inv .3)) (omega (arith, c .if3 .taken));
       room = room-after w;
     }
 
@@ -224,16 +254,16 @@ returns-5 c =
     }
 
 add-if5 : tie.Need-add-if5 Inv-loop μ-loop
-add-if5 c = omega (arith, turn (c .before .before .before .before .before .before .before .before) .loop .inv)
+add-if5 c = omega (arith, turn (c .before .before .before .before .before .before .before .before .before .before) .loop .inv)
 
 mul-marks-at : tie.Need-mul-marks-at Inv-loop μ-loop
-mul-marks-at c = omega (arith, turn (c .before .before .before .before .before .before .before .before .before) .loop .inv)
+mul-marks-at c = omega (arith, turn (c .before .before .before .before .before .before .before .before .before .before .before) .loop .inv)
 
 add-moves : tie.Need-add-moves Inv-loop μ-loop
-add-moves c = omega (arith, turn (c .before .before .before .before .before .before .before .before .before) .loop .inv)
+add-moves c = omega (arith, turn (c .before .before .before .before .before .before .before .before .before .before .before) .loop .inv)
 
 loop-less : tie.Need-loop-less Inv-loop μ-loop
-loop-less c = omega (arith, from (c .before .before .before .before .before .before .before .before .before) .loop-test .taken)
+loop-less c = omega (arith, from (c .before .before .before .before .before .before .before .before .before .before .before) .loop-test .taken)
 
 loop-again : tie.Need-loop-again Inv-loop μ-loop
 loop-again c =
@@ -254,7 +284,7 @@ loop-again c =
       same,
       told m .1,
       known,
-      rw (v .1, v .2, w .write-last2 .ensures) (walk-marks (low (turn m)) (i .6) (i .7) lt _ (told m .0) ne new (v .0 .taken)),
+      rw (v .1, v .2, w .write-last2 .ensures, weighed (w .before .before)) (walk-marks (low (turn m)) (i .6) (i .7) lt _ (told m .0) ne new (v .0 .taken)),
     ))
     (λ v. (
       omega arith,
@@ -264,7 +294,7 @@ loop-again c =
       same,
       told m .1,
       known,
-      rw (v .1, v .2, w .write-last2 .ensures) (walk-goes (low (turn m)) (i .6) (i .7) lt _ (told m .0) ne new (v .0 .left)),
+      rw (v .1, v .2, w .write-last2 .ensures, weighed (w .before .before)) (walk-goes (low (turn m)) (i .6) (i .7) lt _ (told m .0) ne new (v .0 .left)),
     ))
     (c .if5 .came)
 
@@ -285,6 +315,7 @@ walk-spec =
     (tie.spec
     Inv-loop
     μ-loop
+    add-resume
     add-lookups
     same-requires
     returns
@@ -299,12 +330,14 @@ walk-spec =
     same-length
     returns-2
     add-nuc-to-end-requires
+    mul-count-at
+    array-read-count-at
+    count-at-requires
+    lower-requires
     add-write-last
     write-last-requires-2
     same-requires-2
-    add-if3
-    add-t31
-    add-t32
+    add-letters
     same-length-2
     returns-3
     same-length-3

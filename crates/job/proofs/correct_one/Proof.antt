@@ -10,12 +10,12 @@ slice-relend-prefix-through c = search needs
 
 slice-aggregate-through : tie.Need-slice-aggregate-through
 slice-aggregate-through c =
-    let s = c .before .before .before .before .before .before .before .before in
+    let s = c .before .before .before .before .before .before .before .before .before in
     sym (length-take-le _ (s .args .work .now) (search needs))
 
 through-requires : tie.Need-through-requires
 through-requires c κs =
-    let s = c .before .before .before .before .before .before .before .before in
+    let s = c .before .before .before .before .before .before .before .before .before in
     let p = s .pre .1 in
     ((s .pre .0, p .entries, p .confirms, p .input), (p .output, length-take-le _ (s .args .work .now) (search needs)))
 
@@ -38,14 +38,14 @@ returns : tie.Need-returns
 returns c =
     let e = c .before .before .before .before .before .before .before in
     let t = e .before .before .before .before .before .before in
-    single-no-room _ _ _ _ _ _ _ _ (t .through .ensures) (e .enum-told .given .1) (c .before .before .before .before .no-room .ensures)
+    single-no-room _ _ _ _ _ _ _ _ _ (t .through .ensures) (e .enum-told .given .1) (c .before .before .before .before .no-room .ensures)
 
 accept-requires : tie.Need-accept-requires
 accept-requires c κs =
     let e = c .before .before .before in
     let t = e .before .before .before .before .before .before in
-    let s = t .before .before .before .before .before .before .before .before .before in
-    single-small _ _ _ _ _ (s .args .work .now) _ _ (t .through .ensures) _ (e .passed .given .1) (s .pre .1)
+    let s = t .before .before .before .before .before .before .before .before .before .before in
+    single-small _ _ _ _ _ _ (s .args .work .now) _ _ (t .through .ensures) _ (e .passed .given .1) (s .pre .1)
 
 same-length-3 : tie.Need-same-length-3
 same-length-3 c = search needs
@@ -58,7 +58,7 @@ returns-2 c =
     let a = c .before .before .before .before in
     let e = a .before .before .before .before in
     let t = e .before .before .before .before .before .before in
-    single-accepted _ _ _ _ _ _ _ _ (t .through .ensures) _ (e .passed .given .1) (a .accept .ensures)
+    single-accepted _ _ _ _ _ _ _ _ _ (t .through .ensures) _ (e .passed .given .1) (a .accept .ensures)
 
 pub correct-one-spec : {M : Type 1} → statement M
 correct-one-spec =

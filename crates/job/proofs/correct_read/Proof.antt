@@ -7,14 +7,15 @@ use lib.ListN.{length, length-replicate}
 use Rattle.rules.specs.Refusal.{accepted, unless}
 use Rattle.rules.specs.Set.{setOf, opened}
 use Rattle.rules.specs.Index.{indexCheck}
-use Rattle.rules.specs.Calls.{withoutIndex, inputCheck}
+use Rattle.rules.specs.Calls.{withoutIndex, inputCheck, countsCheck}
 use Rattle.input.specs.Input.{checkOf}
 use Rattle.input.proofs.Checks.{is-refused}
 use Rattle.blocks.proofs.Opening.{is-refused as set-is-refused, set-opened, set-checked, set-refused}
 use Rattle.index.specs.Index.{Opens}
 use Rattle.set.specs.Ready.{tableLength}
+use Rattle.set.proofs.Opened.{set-count}
 use Rattle.report.proofs.Within.{within}
-use Rattle.job.proofs.Opening.{read-refused, read-not-opened, read-index-wrong, read-corrected}
+use Rattle.job.proofs.Opening.{read-refused, read-not-opened, read-index-wrong, read-counts-wrong, read-corrected}
 use borrow.Author.Needs.{needs}
 use Rattle.job.proofs.correct_read.Statement.{statement}
 use Rattle.job.proofs.correct_read.Tie as tie
@@ -37,7 +38,7 @@ returns c =
     (read-refused _ _ (sym (m .check-input .ensures) ∙ ap checkOf (c .refused .ensures)), tt)
 
 -- Checks 1 to 5 let pass.
-fine : (c : tie.After-enum-told) → let a = c .before .before .before .before .before .before .before .before .before .args in
+fine : (c : tie.After-enum-told) → let a = c .before .before .before .before .before .before .before .before .before .before .args in
     inputCheck (length (a .read .now)) (a .job .now) (length (a .output .now)) (length (a .work .now)) ≡ none
 fine c = sym (c .before .before .check-input .ensures) ∙ ap checkOf (c .enum-told .given .1)
 
@@ -59,12 +60,12 @@ returns-2 c =
     (read-not-opened _ _ (fine (o .before)) (set-refused _ _ _ (c .refused2 .ensures) (o .«open» .ensures)), tt)
 
 -- The set opens.
-opens : (c : tie.After-known-told) → let a = c .before .before .before .before .before .before .before .before .before .before .before .before .before .args in
+opens : (c : tie.After-known-told) → let a = c .before .before .before .before .before .before .before .before .before .before .before .before .before .before .args in
     opened (a .set .now) ≡ accepted (setOf (a .set .now))
 opens c = set-opened _ _ _ _ (c .before .opened .given .1) (c .before .before .before .«open» .ensures)
 
 checked : (c : tie.After-known-told) → let o = c .before .opened .given .0 in
-    Opens (c .before .before .before .before .before .before .before .before .before .before .before .before .before .args .set .now) (o .0) (o .1 .0)
+    Opens (c .before .before .before .before .before .before .before .before .before .before .before .before .before .before .args .set .now) (o .0) (o .1 .0)
 checked c =
     let t = set-checked _ _ _ _ (c .before .opened .given .1) (c .before .before .before .«open» .ensures) in
     record { right = t .0; k-is = t .1; n-is = t .2 }
@@ -81,19 +82,44 @@ returns-3 c =
     (read-index-wrong _ f (opens (i .before)) wrong, tt)
 
 -- The index passes.
-passes : (c : tie.Else1) → let a = c .before .before .before .before .before .before .before .before .before .before .before .before .before .before .before .args in
+passes : (c : tie.Else1) → let a = c .before .before .before .before .before .before .before .before .before .before .before .before .before .before .before .before .args in
     indexCheck (setOf (a .set .now)) (a .index .now) ≡ none
 unfolding unless
 passes c = sym (c .before .check-index .ensures) ∙ ap (λ (t : Bool). unless t 15) (not-false (c .before .check-index .result) (c .if1 .left))
+
+check-counts-requires : tie.Need-check-counts-requires
+check-counts-requires c κs = search needs
+
+-- What 16 says.
+sixteen : (c : tie.After-check-counts) → let a = c .before .before .before .before .before .before .before .before .before .before .before .before .before .before .before .before .before .args in
+    unless (c .check-counts .result) 16 ≡ countsCheck (setOf (a .set .now)) (a .counts .now)
+sixteen c =
+    let a = c .before .before .before .before .before .before .before .before .before .before .before .before .before .before .before .before .before .args in
+    c .check-counts .ensures (setOf (a .set .now)) (set-count (a .set .now) ∙ sym (checked (c .before .before .before) .n-is))
+
+returns-4 : tie.Need-returns-4
+unfolding unless
+returns-4 c =
+    let k = c .before in
+    let i = k .before in
+    let f = fine (i .before .before .before .before .before .before) in
+    let wrong = sym (sixteen k) ∙ ap (λ (t : Bool). unless t 16) (not-true (k .check-counts .result) (c .if2 .taken)) in
+    (read-counts-wrong _ f (opens (i .before .before)) (passes i) wrong, tt)
+
+-- The counts pass.
+counts-pass : (c : tie.Else2) → let a = c .before .before .before .before .before .before .before .before .before .before .before .before .before .before .before .before .before .before .args in
+    countsCheck (setOf (a .set .now)) (a .counts .now) ≡ none
+unfolding unless
+counts-pass c = sym (sixteen (c .before)) ∙ ap (λ (t : Bool). unless t 16) (not-false (c .before .check-counts .result) (c .if2 .left))
 
 slice-aggregate-prepare : tie.Need-slice-aggregate-prepare
 slice-aggregate-prepare c = search needs
 
 prepare-requires : tie.Need-prepare-requires
 prepare-requires c κs =
-    let e = c .before in
-    let t = checked (e .before .before) in
-    (t .right, t .k-is, t .n-is, length-replicate {A = ℕ} tableLength 0, passes e)
+    let i = c .before .before .before in
+    let t = checked (i .before .before) in
+    (t .right, t .k-is, t .n-is, length-replicate {A = ℕ} tableLength 0, passes i)
 
 slice-aggregate-correct-one : tie.Need-slice-aggregate-correct-one
 slice-aggregate-correct-one c = search needs
@@ -101,7 +127,7 @@ slice-aggregate-correct-one c = search needs
 correct-one-requires : tie.Need-correct-one-requires
 correct-one-requires c κs =
     let p = c .before .before .before .before in
-    (p .prepare .ensures .0, within _ _ _ _ (fine (p .before .before .before .before .before .before .before .before)))
+    (p .prepare .ensures .0, within _ _ _ _ (fine (p .before .before .before .before .before .before .before .before .before .before)))
 
 same-length : tie.Need-same-length
 same-length c = search needs
@@ -109,13 +135,14 @@ same-length c = search needs
 same-length-2 : tie.Need-same-length-2
 same-length-2 c = search needs
 
-returns-4 : tie.Need-returns-4
+returns-5 : tie.Need-returns-5
 unfolding withoutIndex
-returns-4 c =
+returns-5 c =
     let q = c .before .before .before .before in
     let e = q .before .before .before .before .before .before .before in
-    let f = fine (e .before .before .before .before .before .before) in
-    read-corrected _ _ f (opens (e .before .before)) (passes e) (within _ _ _ _ f .confirms) (q .correct-one .ensures)
+    let i = e .before .before in
+    let f = fine (i .before .before .before .before .before .before) in
+    read-corrected _ _ f (opens (i .before .before)) (passes i) (counts-pass e) (within _ _ _ _ f .confirms) (q .correct-one .ensures)
 
 pub correct-read-spec : {M : Type 1} → statement M
 correct-read-spec =
@@ -133,10 +160,12 @@ correct-read-spec =
     returns-2
     check-index-requires
     returns-3
+    check-counts-requires
+    returns-4
     slice-aggregate-prepare
     prepare-requires
     slice-aggregate-correct-one
     correct-one-requires
     same-length
     same-length-2
-    returns-4)
+    returns-5)

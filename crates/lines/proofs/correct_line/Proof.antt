@@ -31,12 +31,12 @@ slice-relend-prefix-through c = search needs
 
 slice-aggregate-through : tie.Need-slice-aggregate-through
 slice-aggregate-through c =
-    let s = c .before .before .before .before .before .before .before .before .before in
+    let s = c .before .before .before .before .before .before .before .before .before .before in
     sym (length-take-le _ (s .args .work .now) (search needs))
 
 through-requires : tie.Need-through-requires
 through-requires c κs =
-    let s = c .before .before .before .before .before .before .before .before .before in
+    let s = c .before .before .before .before .before .before .before .before .before .before in
     let p = s .pre .1 in
     let l = lent-length (s .args .output .now) (s .args .at) (c .before .before .if1 .left) in
     let rooms = length-take-le _ (s .args .work .now) (search needs) ∙ sym l in
@@ -55,13 +55,13 @@ same-length-2 : tie.Need-same-length-2
 same-length-2 c = search needs
 
 abbrev start : tie.After-through → tie.Start
-start t = t .before .before .before .before .before .before .before .before .before .before
+start t = t .before .before .before .before .before .before .before .before .before .before .before
 
 returns-2 : tie.Need-returns-2
 returns-2 c =
     let t = c .before .before .before .before .before .before in
     let a = start t .args in
-    line-full (a .output .now) (a .at) (t .before .before .before .if1 .left) _ _ _ _ _ _ _ (t .through .ensures) (c .enum-told .given .1)
+    line-full (a .output .now) (a .at) (t .before .before .before .if1 .left) _ _ _ _ _ _ _ _ (t .through .ensures) (c .enum-told .given .1)
 
 within : (c : tie.After-struct-known) →
     let a = start (c .before .before .before .before .before .before .before .before) .args in
@@ -70,7 +70,7 @@ within c =
     let p = c .before .before in
     let t = p .before .before .before .before .before .before in
     let a = start t .args in
-    line-within (a .output .now) (a .at) (t .before .before .before .if1 .left) _ _ _ _ _ _ _ (t .through .ensures) _ (p .passed .given .1) .0
+    line-within (a .output .now) (a .at) (t .before .before .before .if1 .left) _ _ _ _ _ _ _ _ (t .through .ensures) _ (p .passed .given .1) .0
 
 add-last : tie.Need-add-last
 add-last c = omega (arith, within c)
@@ -80,10 +80,12 @@ slice-write-output c =
     let p = c .before .before in
     let t = p .before .before .before .before .before .before in
     let a = start t .args in
-    line-within (a .output .now) (a .at) (t .before .before .before .if1 .left) _ _ _ _ _ _ _ (t .through .ensures) _ (p .passed .given .1) .1
+    line-within (a .output .now) (a .at) (t .before .before .before .if1 .left) _ _ _ _ _ _ _ _ (t .through .ensures) _ (p .passed .given .1) .1
 
-add-t14 : tie.Need-add-t14
-add-t14 c = omega (arith, within (c .before))
+add-t15 : tie.Need-add-t15
+add-t15 c =
+    let s = start (c .before .before .before .before .before .before .before .before .before) in
+    omega (arith, within (c .before), s .pre .1 .output)
 
 same-length-3 : tie.Need-same-length-3
 same-length-3 c = search needs
@@ -95,7 +97,7 @@ returns-3 : tie.Need-returns-3
 returns-3 c =
     let p = c .before .before .before in
     let t = p .before .before .before .before .before .before in
-    line-done _ _ (t .before .before .before .if1 .left) _ _ _ _ _ _ _ (t .through .ensures) _ (p .passed .given .1)
+    line-done _ _ (t .before .before .before .if1 .left) _ _ _ _ _ _ _ _ (t .through .ensures) _ (p .passed .given .1)
 
 pub correct-line-spec : {M : Type 1} → statement M
 correct-line-spec =
@@ -117,7 +119,7 @@ correct-line-spec =
     returns-2
     add-last
     slice-write-output
-    add-t14
+    add-t15
     same-length-3
     same-length-4
     returns-3)

@@ -1,4 +1,4 @@
-use Prim.Native.Nat.{_+_, _-_, _≤_}
+use Prim.Native.Nat.{ℕ, _+_, _-_, _≤_}
 use native.Mathlib.Omega.{arith}
 use mathlib.Core.Path.{_≡_, refl, _∙_}
 use mathlib.Core.List.{[]}
@@ -6,27 +6,29 @@ use borrow.Author.Needs.{needs}
 use lib.ListN.{length}
 use Rattle.rules.specs.Calls.{Given, maxLines}
 use Rattle.report.specs.Answer.{given}
+use Rattle.support.specs.Support.{weakerOf}
+use Rattle.support.proofs.Laws.{weaker-of}
 use Rattle.lines.specs.Lines.{summed, Countable}
 use Rattle.report.proofs.Within.{ends-in-10}
-use Rattle.lines.proofs.Batch.{going, begin, line-within, batch-no-room, batch-next, batch-countable, batch-small, batch-accepted}
+use Rattle.lines.proofs.Batch.{Weaker, going, begin, line-within, batch-no-room, batch-next, batch-countable, batch-small, batch-accepted}
 use Rattle.lines.proofs.correct_lines.Statement.{statement}
 use Rattle.lines.proofs.correct_lines.Tie as tie
 
 abbrev Inv-loop : tie.InvT-loop
-Inv-loop set starts head job batch output₀ work₀ done₀ line₀ from₀ output work done line from =
-    (from ≤ length batch) × (length work ≡ length work₀) × going (given set [] job batch output₀ work₀) from line done output
+Inv-loop set starts head counts job batch output₀ work₀ done₀ line₀ from₀ output work done line from =
+    (from ≤ length batch) × (length work ≡ length work₀) × going (given set [] counts job batch output₀ work₀) from line done output
 
 abbrev μ-loop : tie.MeasureT-loop
-μ-loop set starts head job batch output₀ work₀ done₀ line₀ from₀ output work done line from = length batch - from
+μ-loop set starts head counts job batch output₀ work₀ done₀ line₀ from₀ output work done line from = length batch - from
 
 abbrev start : tie.At-loop Inv-loop μ-loop → tie.Start Inv-loop μ-loop
-start l = l .before .before .before .before .before .before .before
+start l = l .before .before .before .before .before .before .before .before
 
 -- What the call is given.
 abbrev call : tie.At-loop Inv-loop μ-loop → Given
 call l =
     let a = start l .args in
-    given (a .set .now) [] (a .job .now) (a .batch .now) (a .output .now) (a .work .now)
+    given (a .set .now) [] (a .counts .now) (a .job .now) (a .batch .now) (a .output .now) (a .work .now)
 
 loop-holds : tie.Need-loop-holds Inv-loop μ-loop
 loop-holds c = (search needs, refl, begin _ _ _ _)
@@ -76,31 +78,44 @@ returns c =
     let e = c .before .before .before .before .before .before .before in
     let p = e .before .before .before .before .before .before in
     let i = p .before .before .before .before .before .before .loop .inv in
-    let kept = p .correct-line .kept .1 .1 .1 .1 .1 .1 in
+    let kept = p .correct-line .kept .1 .1 .1 .1 .1 .1 .1 in
     batch-no-room _ _ _ _ _ _ _ _ (i .2) (p .before .before .before .before .line-end .ensures) (p .correct-line .ensures) (kept .0)
-    (p .correct-line .last .1 .1 .1 .1 .1 .1 .1 .0) (e .enum-told .given .1) (kept .1 .0 ∙ i .1) (c .before .before .before .before .no-room .ensures)
+    (p .correct-line .last .1 .1 .1 .1 .1 .1 .1 .1 .0) (e .enum-told .given .1) (kept .1 .0 ∙ i .1) (c .before .before .before .before .no-room .ensures)
 
--- The line is done, and the next one is due.
-next : (c : tie.After-known-told Inv-loop μ-loop) →
+-- The line is done, and the next one is due; s is the support with it.
+next : (c : tie.After-known-told Inv-loop μ-loop) (s : ℕ) →
     let p = c .before .before .before .before .before .before .before in
     let l = p .before .before .before .before .before .before in
-    going (call l) (p .before .before .before .before .line-end .result + 1) (l .loop .line + 1) (summed (l .loop .done) (c .before .passed .given .0 .0))
-    (p .correct-line .last .1 .1 .1 .1 .1 .1 .0)
-next c =
+    Weaker (l .loop .done) (c .before .passed .given .0 .0) s
+    → going (call l) (p .before .before .before .before .line-end .result + 1) (l .loop .line + 1) (summed (l .loop .done) (c .before .passed .given .0 .0) s)
+    (p .correct-line .last .1 .1 .1 .1 .1 .1 .1 .0)
+next c v w =
     let e = c .before in
     let p = e .before .before .before .before .before .before in
     let l = p .before .before .before .before .before .before in
     let s = start l in
     batch-next (call l) (l .loop .from) _ _ _ _ _ _ (l .loop .inv .2) (p .before .before .before .before .line-end .ensures) (p .correct-line .ensures)
-    (p .correct-line .kept .1 .1 .1 .1 .1 .1 .0) _ (e .passed .given .1) (s .pre .1)
+    (p .correct-line .kept .1 .1 .1 .1 .1 .1 .1 .0) _ v w (e .passed .given .1) (s .pre .1)
 
 fits : (c : tie.After-known-told Inv-loop μ-loop) →
     let l = c .before .before .before .before .before .before .before .before .before .before .before .before .before in
-    Countable (summed (l .loop .done) (c .before .passed .given .0 .0)) × (l .loop .line + 1 ≤ maxLines)
+    Countable (summed (l .loop .done) (c .before .passed .given .0 .0) 0) × (l .loop .line + 1 ≤ maxLines)
 fits c =
     let e = c .before .before .before .before .before .before .before .before .before .before .before in
     let l = e .before .before in
-    batch-countable (call l) (e .line-end .result + 1) _ _ _ (next c) (start l .pre .1) (start l .pre .2)
+    let d = l .loop .done in
+    let r = c .before .passed .given .0 .0 in
+    let n = next c (weakerOf (d .accepted) (d .support) (r .accepted) (r .support)) (weaker-of (d .accepted) (d .support) (r .accepted) (r .support)) in
+    let k = batch-countable (call l) (e .line-end .result + 1) _ _ _ n (start l .pre .1) (start l .pre .2) in (
+      record {
+        written = k .0 .written;
+        turns = k .0 .turns;
+        lookups = k .0 .lookups;
+        attempts = k .0 .attempts;
+        accepted = k .0 .accepted;
+      },
+      k .1,
+    )
 
 add-requires : tie.Need-add-requires Inv-loop μ-loop
 add-requires c κs = fits c .0
@@ -120,8 +135,8 @@ loop-again : tie.Need-loop-again Inv-loop μ-loop
 loop-again c =
     let p = c .before .before .before .before .before .before .before .before in (
       omega (arith, p .before .before .before .before .line-end .ensures .inside),
-      p .correct-line .kept .1 .1 .1 .1 .1 .1 .1 .0 ∙ p .before .before .before .before .before .before .loop .inv .1,
-      rw (c .add .ensures) (next (c .before)),
+      p .correct-line .kept .1 .1 .1 .1 .1 .1 .1 .1 .0 ∙ p .before .before .before .before .before .before .loop .inv .1,
+      rw (c .add .ensures .is) (next (c .before) (c .add .result .support) (c .add .ensures .weaker-is)),
     )
 
 accept-requires : tie.Need-accept-requires Inv-loop μ-loop

@@ -1,32 +1,31 @@
-use Prim.Native.Nat.{_+_, _*_, _-_}
 use native.Mathlib.Omega.{arith}
 use mathlib.Core.Path.{_≡_, sym, subst}
 use mathlib.Core.Option.{none}
-use mathlib.Core.List.{_++_}
-use lib.ListN.{length, replicate}
+use lib.ListN.{length}
 use mathlib.Core.Bool.{true}
-use Rattle.rules.specs.Blocks.{blocksFor}
+use mathlib.Core.Logic.{⊎-elim}
 use Rattle.rules.specs.Set.{kRight}
-use Rattle.rules.specs.MakeSet.{textKeys, textCheck, setBlocks}
+use Rattle.rules.specs.MakeSet.{textKeys, textCheck}
 use Rattle.make_set.specs.declared.Judged.the-variants.{Kept}
 use Rattle.make_set.specs.Make.{JudgedAs}
-use Rattle.make_set.proofs.Makes.{is-refused, at-k, at-line, at-keys, at-none, made-refused, made-short, made-blocks, k-right, k-even, k-large}
+use Rattle.make_set.proofs.Makes.{is-refused, at-k, at-line, at-keys, at-none, made-refused, blocks-short, counts-short, made-both, k-right, k-even, k-large}
 use borrow.Author.Needs.{needs}
+use borrow.Author.Tests.{ltb-true, ltb-false}
 use Rattle.make_set.proofs.make_set.Statement.{statement}
 use Rattle.make_set.proofs.make_set.Tie as tie
 
 returns : tie.Need-returns
 returns c =
-    let a = c .before .before .before .args in
-    made-refused (a .text .now) (a .k) (a .least) _ _ (at-k (a .text .now) (a .k) (a .least) (k-even (a .k) (c .if1 .taken)))
+    let a = c .before .before .before .before .args in
+    made-refused (a .text .now) (a .k) (a .least) _ _ _ (at-k (a .text .now) (a .k) (a .least) (k-even (a .k) (c .if1 .taken)))
 
 returns-2 : tie.Need-returns-2
 returns-2 c =
-    let a = c .before .before .before .before .args in
-    made-refused (a .text .now) (a .k) (a .least) _ _ (at-k (a .text .now) (a .k) (a .least) (k-large (a .k) (c .if2 .taken)))
+    let a = c .before .before .before .before .before .args in
+    made-refused (a .text .now) (a .k) (a .least) _ _ _ (at-k (a .text .now) (a .k) (a .least) (k-large (a .k) (c .if2 .taken)))
 
-right : (c : tie.Else2) → kRight (c .before .before .before .before .args .k) ≡ true
-right c = k-right (c .before .before .before .before .args .k) (omega arith) (omega arith)
+right : (c : tie.Else2) → kRight (c .before .before .before .before .before .args .k) ≡ true
+right c = k-right (c .before .before .before .before .before .args .k) (omega arith) (omega arith)
 
 header-of-requires : tie.Need-header-of-requires
 header-of-requires c κs = search needs
@@ -44,20 +43,20 @@ refused-requires : tie.Need-refused-requires
 refused-requires c κs = is-refused (c .enum-told .given .1)
 
 -- What the lines are judged, for the k that was given.
-judged : (c : tie.After-judge) → let a = c .before .before .before .before .before .before .args in JudgedAs (a .text .now) (a .k) (a .least) (c .judge .result)
+judged : (c : tie.After-judge) → let a = c .before .before .before .before .before .before .before .args in JudgedAs (a .text .now) (a .k) (a .least) (c .judge .result)
 judged c =
-    let a = c .before .before .before .before .before .before .args in
+    let a = c .before .before .before .before .before .before .before .args in
     subst (λ k. JudgedAs (a .text .now) k (a .least) (c .judge .result)) (c .before .header-of .ensures .1) (c .judge .ensures)
 
 returns-3 : tie.Need-returns-3
 returns-3 c =
     let j = c .before .before .before in
     let e = j .before .before in
-    let a = e .before .before .before .before .args in
-    made-refused (a .text .now) (a .k) (a .least) _ _
+    let a = e .before .before .before .before .before .args in
+    made-refused (a .text .now) (a .k) (a .least) _ _ _
     (at-line (a .text .now) (a .k) (a .least) _ (right e) (subst (JudgedAs _ _ _) (c .refused .ensures) (judged j)))
 
-kept : (c : tie.After-known-told) → let j = c .before .before .before in let a = j .before .before .before .before .before .before .args in
+kept : (c : tie.After-known-told) → let j = c .before .before .before in let a = j .before .before .before .before .before .before .before .args in
     JudgedAs (a .text .now) (a .k) (a .least) (Kept (c .before .judged .given .0 .0))
 kept c = subst (JudgedAs _ _ _) (c .before .judged .given .1) (judged (c .before .before .before))
 
@@ -65,17 +64,17 @@ returns-4 : tie.Need-returns-4
 returns-4 c =
     let t = c .before in
     let j = t .before .before .before in
-    let a = j .before .before .before .before .before .before .args in
-    made-refused (a .text .now) (a .k) (a .least) _ _
+    let a = j .before .before .before .before .before .before .before .args in
+    made-refused (a .text .now) (a .k) (a .least) _ _ _
     (at-keys (a .text .now) (a .k) (a .least) (right (j .before .before)) (kept t .0) (omega (arith, kept t .1, c .if3 .taken)))
 
 -- The checks of the text let pass.
-passed : (c : tie.Else3) → let a = c .before .before .before .before .before .before .before .before .before .before .args in
+passed : (c : tie.Else3) → let a = c .before .before .before .before .before .before .before .before .before .before .before .args in
     textCheck (a .text .now) (a .k) (a .least) ≡ none
 passed c =
     let t = c .before in
     let j = t .before .before .before in
-    let a = j .before .before .before .before .before .before .args in
+    let a = j .before .before .before .before .before .before .before .args in
     at-none (a .text .now) (a .k) (a .least) (right (j .before .before)) (kept t .0) (omega (arith, kept t .1, c .if3 .left))
 
 add-length : tie.Need-add-length
@@ -90,34 +89,43 @@ mul-length c = search needs
 returns-5 : tie.Need-returns-5
 returns-5 c =
     let t = c .before .before in
-    let a = t .before .before .before .before .before .before .before .before .before .args in
-    made-short (a .text .now) (a .k) (a .least) _ _ (passed (c .before)) (kept t .1) (c .if4 .taken)
+    let a = t .before .before .before .before .before .before .before .before .before .before .args in
+    ⊎-elim
+    (λ w. blocks-short (a .text .now) (a .k) (a .least) _ _ _ (passed (c .before)) (kept t .1) (w .taken))
+    (λ w. counts-short (a .text .now) (a .k) (a .least) _ _ _ (passed (c .before)) (kept t .1) (w .0 .left) (ltb-true _ _ (w .1 .taken)))
+    (c .if4 .came)
 
 write-requires : tie.Need-write-requires
 write-requires c κs =
-    let t = c .before .before .before in
+    let f = c .before .before in
+    let e = f .before in
+    let t = e .before .before in
     let h = t .before .before .before .before in
-    let a = h .before .before .before .before .before .args in
+    let a = h .before .before .before .before .before .before .args in
     let k-is = sym (h .header-of .ensures .1) in (
       h .header-of .ensures .0,
-      subst (λ k. textCheck (a .text .now) k (a .least) ≡ none) k-is (passed (c .before .before)),
+      subst (λ k. textCheck (a .text .now) k (a .least) ≡ none) k-is (passed (e .before)),
       subst (λ k. t .before .judged .given .0 .0 ≡ length (textKeys k (a .least) (a .text .now))) k-is (kept t .1),
-      c .before .if4 .left,
+      e .if4 .left,
+      ltb-false _ _ (f .if5 .left),
     )
 
 same-length : tie.Need-same-length
 same-length c = search needs
 
+same-length-2 : tie.Need-same-length-2
+same-length-2 c = search needs
+
 returns-6 : tie.Need-returns-6
 returns-6 c =
-    let w = c .before .before in
-    let e = w .before .before in
+    let w = c .before .before .before .before in
+    let f = w .before .before .before in
+    let e = f .before in
     let t = e .before .before in
     let h = t .before .before .before .before in
-    let a = h .before .before .before .before .before .args in
-    made-blocks (a .text .now) (a .k) (a .least) (a .blocks .now) _ (passed (e .before)) (kept t .1) _ (e .if4 .left)
-    (subst (λ k. w .write .last .1 .1 .1 .1 .0 ≡ setBlocks k (textKeys k (a .least) (a .text .now)) ++ replicate (length (a .blocks .now) - 512 * (1 + blocksFor (t .before .judged .given .0 .0))) 0)
-    (h .header-of .ensures .1) (w .write .ensures))
+    let a = h .before .before .before .before .before .before .args in
+    made-both (a .text .now) (a .k) (a .least) (a .blocks .now) (a .counts .now) _ (passed (e .before)) (kept t .1) _ (h .header-of .ensures .1) _ _ (e .if4 .left) (ltb-false _ _ (f .if5 .left))
+    (w .write .ensures .0) (w .write .ensures .1)
 
 pub make-set-spec : {M : Type 1} → statement M
 make-set-spec =
@@ -138,4 +146,5 @@ make-set-spec =
     returns-5
     write-requires
     same-length
+    same-length-2
     returns-6)

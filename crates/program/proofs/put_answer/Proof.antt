@@ -16,7 +16,7 @@ use Rattle.program.proofs.put_answer.Tie as tie
 abbrev after : tie.After-call-on → After
 after b =
     let a = b .before .before .before .before .before .before .args in
-    correctBatch (given (a .set .now) [] (a .job .now) (a .batch .now) (zeros 32768) (zeros 65536))
+    correctBatch (given (a .set .now) [] [] (a .job .now) (a .batch .now) (zeros 32768) (zeros 65536))
 
 abbrev left : tie.After-call-on → List ℕ
 left b = b .call-on .last .1 .1 .1 .0
@@ -34,7 +34,7 @@ enum-known-answer : tie.Need-enum-known-answer
 enum-known-answer c = search needs
 
 put-report-requires : tie.Need-put-report-requires
-put-report-requires c κs = let a = c .before .before in let b = a .before .before .before .before in counts-fit (after b) (left b) _ (reported a)
+put-report-requires c κs = let a = c .before .before in let b = a .before .before .before .before in counts-fit (after b) (left b) (a .answer .given .0 .0) (reported a)
 
 enum-known-answer-2 : tie.Need-enum-known-answer-2
 enum-known-answer-2 c = search needs
@@ -50,7 +50,7 @@ returns c =
     let q = c .before .before in
     let a = q .before .before .before in
     let b = a .before .before .before .before in
-    report-printed (after b) (left b) _ (reported a) (q .put-report .ensures)
+    report-printed (after b) (left b) (a .answer .given .0 .0) (reported a) (q .put-report .ensures)
 
 same-length-2 : tie.Need-same-length-2
 same-length-2 c = search needs

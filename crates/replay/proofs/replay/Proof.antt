@@ -9,11 +9,11 @@ use Rattle.replay.proofs.replay.Statement.{statement}
 use Rattle.replay.proofs.replay.Tie as tie
 
 abbrev Inv-loop : tie.InvT-loop
-Inv-loop cases fill set₀ set-end₀ index₀ index-end₀ agree₀ case₀ t11 t12 t13 set set-end index index-end agree case =
-    (8192 ≡ length set) × Counts set-end set × (34304 ≡ length index) × Counts index-end index × (agree ≤ case) × (case ≤ cases)
+Inv-loop cases fill set₀ set-end₀ index₀ index-end₀ counts₀ counts-end₀ agree₀ case₀ t13 t14 t15 set set-end index index-end counts counts-end agree case =
+    (8192 ≡ length set) × Counts set-end set × (34304 ≡ length index) × Counts index-end index × (4096 ≡ length counts) × Counts counts-end counts × (agree ≤ case) × (case ≤ cases)
 
 abbrev μ-loop : tie.MeasureT-loop
-μ-loop cases fill set₀ set-end₀ index₀ index-end₀ agree₀ case₀ t11 t12 t13 set set-end index index-end agree case = cases - case
+μ-loop cases fill set₀ set-end₀ index₀ index-end₀ counts₀ counts-end₀ agree₀ case₀ t13 t14 t15 set set-end index index-end counts counts-end agree case = cases - case
 
 loop-holds : tie.Need-loop-holds Inv-loop μ-loop
 loop-holds c = search needs
@@ -23,6 +23,9 @@ slice-aggregate-next-case c = search needs
 
 slice-aggregate-next-case-2 : tie.Need-slice-aggregate-next-case-2 Inv-loop μ-loop
 slice-aggregate-next-case-2 c = search needs
+
+slice-aggregate-next-case-3 : tie.Need-slice-aggregate-next-case-3 Inv-loop μ-loop
+slice-aggregate-next-case-3 c = search needs
 
 next-case-requires : tie.Need-next-case-requires Inv-loop μ-loop
 next-case-requires c κs = search needs
@@ -44,6 +47,12 @@ array-share-prefix-index c = search needs
 
 slice-aggregate-replay-case-2 : tie.Need-slice-aggregate-replay-case-2 Inv-loop μ-loop
 slice-aggregate-replay-case-2 c = search needs
+
+array-share-prefix-counts : tie.Need-array-share-prefix-counts Inv-loop μ-loop
+array-share-prefix-counts c = search needs
+
+slice-aggregate-replay-case-3 : tie.Need-slice-aggregate-replay-case-3 Inv-loop μ-loop
+slice-aggregate-replay-case-3 c = search needs
 
 replay-case-requires : tie.Need-replay-case-requires Inv-loop μ-loop
 replay-case-requires c κs = search needs
@@ -79,7 +88,8 @@ loop-less : tie.Need-loop-less Inv-loop μ-loop
 loop-less c = search needs
 
 loop-again : tie.Need-loop-again Inv-loop μ-loop
-loop-again c = (search needs, search needs, search needs, search needs, ⊎-elim (λ w. omega arith) (λ w. omega arith) (c .match .came), search needs)
+loop-again c =
+    (search needs, search needs, search needs, search needs, search needs, search needs, ⊎-elim (λ w. omega arith) (λ w. omega arith) (c .match .came), search needs)
 
 ends-requires : tie.Need-ends-requires Inv-loop μ-loop
 ends-requires c κs = search needs
@@ -114,6 +124,7 @@ replay-spec =
     loop-holds
     slice-aggregate-next-case
     slice-aggregate-next-case-2
+    slice-aggregate-next-case-3
     next-case-requires
     malformed-requires
     returns
@@ -121,6 +132,8 @@ replay-spec =
     slice-aggregate-replay-case
     array-share-prefix-index
     slice-aggregate-replay-case-2
+    array-share-prefix-counts
+    slice-aggregate-replay-case-3
     replay-case-requires
     enum-told
     add-agree

@@ -15,7 +15,7 @@ same-length-2 : tie.Need-same-length-2
 same-length-2 c = search needs
 
 returns : tie.Need-returns
-returns c = (rw (c .yield-of .ensures), c .before .before .before .before .before .clear-rest .ensures)
+returns c = (rw (c .before .yield-of .ensures), c .before .before .before .before .before .before .clear-rest .ensures)
 
 pub accept-spec : {M : Type 1} → statement M
 accept-spec =

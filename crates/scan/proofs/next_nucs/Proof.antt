@@ -1,77 +1,117 @@
-use mathlib.Core.Path.{_∙_}
+use Prim.Native.Nat.{ℕ, _-_, _≤_, _<_}
+use native.Mathlib.Omega.{arith}
+use mathlib.Core.Path.{_≡_, refl, sym, _∙_}
 use borrow.Author.Needs.{needs}
-use Rattle.rules.specs.Set.{solid, setOf}
+use lib.ListN.{length, getD, length-set}
+use Rattle.rules.specs.Set.{setOf}
 use Rattle.rules.specs.Scan.{successor, successors}
 use Rattle.kmer.specs.Kmer.{kmerOf}
 use Rattle.kmer.proofs.Laws.{unknown-is}
-use Rattle.scan.proofs.Laws.{four-known, successor-is}
+use Rattle.set.proofs.Opened.{set-count}
+use Rattle.scan.specs.Scan.{placeAt}
+use Rattle.scan.proofs.Laws.{four-known, place-solid-at, place-at, placed, four-listed}
 use Rattle.scan.proofs.next_nucs.Statement.{statement}
 use Rattle.scan.proofs.next_nucs.Tie as tie
 
-add-nuc-to-end-requires : tie.Need-add-nuc-to-end-requires
+-- The places of the letters before nuc stand.
+abbrev Inv-loop : tie.InvT-loop
+Inv-loop set starts head kmer places₀ nuc₀ places nuc =
+    (nuc ≤ 4) × (length places ≡ 4) × ((a : ℕ) → a < nuc → getD places a 0 ≡ placeAt (setOf set) (head .k) (kmerOf kmer) a)
+
+abbrev μ-loop : tie.MeasureT-loop
+μ-loop set starts head kmer places₀ nuc₀ places nuc = 4 - nuc
+
+abbrev start : tie.At-loop Inv-loop μ-loop → tie.Start Inv-loop μ-loop
+start l = l .before .before .before .before
+
+loop-holds : tie.Need-loop-holds Inv-loop μ-loop
+loop-holds c = (search needs, refl, λ a l. absurd (omega arith))
+
+add-nuc-to-end-requires : tie.Need-add-nuc-to-end-requires Inv-loop μ-loop
 add-nuc-to-end-requires c κs = search needs
 
-get-requires : tie.Need-get-requires
-get-requires c κs =
-    let s = c .before .before .before in
-    (s .pre .0, c .add-nuc-to-end .ensures .kmer, unknown-is (c .add-nuc-to-end .ensures) ∙ s .pre .2)
+place-of-requires : tie.Need-place-of-requires Inv-loop μ-loop
+place-of-requires c κs =
+    let l = c .before .before in
+    let s = start l in
+    let h = c .add-nuc-to-end .ensures in
+    (s .pre .0, h .kmer, unknown-is h ∙ four-known _ _ (s .pre .0 .shifts .k-low) (s .pre .2) (l .loop .nuc) (search needs))
 
-add-nuc-to-end-requires-2 : tie.Need-add-nuc-to-end-requires-2
-add-nuc-to-end-requires-2 c κs = search needs
+mul-places : tie.Need-mul-places Inv-loop μ-loop
+mul-places c = search needs
 
-get-requires-2 : tie.Need-get-requires-2
-get-requires-2 c κs =
-    let s = c .before .before .before .before .before in
-    let low = s .pre .0 .shifts .k-low in
-    (s .pre .0, c .add-nuc-to-end2 .ensures .kmer, unknown-is (c .add-nuc-to-end2 .ensures) ∙ four-known _ _ low (s .pre .2) 1 (search needs))
+element-write-places : tie.Need-element-write-places Inv-loop μ-loop
+element-write-places c = search needs
 
-add-nuc-to-end-requires-3 : tie.Need-add-nuc-to-end-requires-3
-add-nuc-to-end-requires-3 c κs = search needs
+add-nuc : tie.Need-add-nuc Inv-loop μ-loop
+add-nuc c = search needs
 
-get-requires-3 : tie.Need-get-requires-3
-get-requires-3 c κs =
-    let s = c .before .before .before .before .before .before .before in
-    let low = s .pre .0 .shifts .k-low in
-    (s .pre .0, c .add-nuc-to-end3 .ensures .kmer, unknown-is (c .add-nuc-to-end3 .ensures) ∙ four-known _ _ low (s .pre .2) 2 (search needs))
+loop-less : tie.Need-loop-less Inv-loop μ-loop
+loop-less c = search needs
 
-add-nuc-to-end-requires-4 : tie.Need-add-nuc-to-end-requires-4
-add-nuc-to-end-requires-4 c κs = search needs
+loop-again : tie.Need-loop-again Inv-loop μ-loop
+loop-again c =
+    let l = c .before .before .before in
+    let s = start l in
+    let i = l .loop .inv in
+    let h = c .before .add-nuc-to-end .ensures in
+    let n-is : s .args .head .n ≡ length (setOf (s .args .set .now) .keys) = s .pre .0 .n-is ∙ sym (set-count (s .args .set .now)) in
+    let here = place-at (setOf (s .args .set .now)) (s .args .head .k) (kmerOf (s .args .kmer)) (l .loop .nuc) h _ _ n-is (c .place-of .ensures) in (
+      search needs,
+      length-set (l .loop .places) (l .loop .nuc) (c .place-of .result) ∙ i .1,
+      placed _ _ _ (l .loop .places) (l .loop .nuc) (c .place-of .result) (omega (arith, i .1, c .before .before .loop-test .taken)) (i .2) here,
+    )
 
-get-requires-4 : tie.Need-get-requires-4
-get-requires-4 c κs =
-    let s = c .before .before .before .before .before .before .before .before .before in
-    let low = s .pre .0 .shifts .k-low in
-    (s .pre .0, c .add-nuc-to-end4 .ensures .kmer, unknown-is (c .add-nuc-to-end4 .ensures) ∙ four-known _ _ low (s .pre .2) 3 (search needs))
+element-copy-out-t17 : tie.Need-element-copy-out-t17 Inv-loop μ-loop
+element-copy-out-t17 c = search needs
 
-returns : tie.Need-returns
+element-copy-out-t21 : tie.Need-element-copy-out-t21 Inv-loop μ-loop
+element-copy-out-t21 c = search needs
+
+element-copy-out-t25 : tie.Need-element-copy-out-t25 Inv-loop μ-loop
+element-copy-out-t25 c = search needs
+
+element-copy-out-t29 : tie.Need-element-copy-out-t29 Inv-loop μ-loop
+element-copy-out-t29 c = search needs
+
+returns : tie.Need-returns Inv-loop μ-loop
 unfolding successors successor
 returns c =
-    let c3 = c .before .before in
-    let c2 = c3 .before .before in
-    let c1 = c2 .before .before in
-    let s = c1 .before .before .before .before in
+    let e = c .before .before .before .before in
+    let l = e .before in
+    let s = start l in
+    let set = setOf (s .args .set .now) in
     let k = s .args .head .k in
     let y = kmerOf (s .args .kmer) in
-    let sol = solid (setOf (s .args .set .now)) in
-    let low = s .pre .0 .shifts .k-low in
-    let known = four-known k y low (s .pre .2) in
-    rw (
-      successor-is k y low sol 0 (c1 .before .add-nuc-to-end .ensures) (unknown-is (c1 .before .add-nuc-to-end .ensures) ∙ s .pre .2) (c1 .get .ensures),
-      successor-is k y low sol 1 (c2 .before .add-nuc-to-end2 .ensures) (unknown-is (c2 .before .add-nuc-to-end2 .ensures) ∙ known 1 (search needs)) (c2 .get2 .ensures),
-      successor-is k y low sol 2 (c3 .before .add-nuc-to-end3 .ensures) (unknown-is (c3 .before .add-nuc-to-end3 .ensures) ∙ known 2 (search needs)) (c3 .get3 .ensures),
-      successor-is k y low sol 3 (c .before .add-nuc-to-end4 .ensures) (unknown-is (c .before .add-nuc-to-end4 .ensures) ∙ known 3 (search needs)) (c .get4 .ensures),
+    let n-is : s .args .head .n ≡ length (set .keys) = s .pre .0 .n-is ∙ sym (set-count (s .args .set .now)) in
+    let all : 4 ≤ l .loop .nuc = e .loop-test .left in
+    let at : (a : ℕ) → a < 4 → getD (l .loop .places) a 0 ≡ placeAt set k y a = λ a h. l .loop .inv .2 a (omega arith) in
+    let known = four-known k y (s .pre .0 .shifts .k-low) (s .pre .2) in (
+      rw (
+        place-solid-at set k y 0 _ _ n-is (at 0 (search needs)) (known 0 (search needs)),
+        place-solid-at set k y 1 _ _ n-is (at 1 (search needs)) (known 1 (search needs)),
+        place-solid-at set k y 2 _ _ n-is (at 2 (search needs)) (known 2 (search needs)),
+        place-solid-at set k y 3 _ _ n-is (at 3 (search needs)) (known 3 (search needs)),
+      ),
+      four-listed (l .loop .places) (l .loop .inv .1) ∙ rw (at 0 (search needs), at 1 (search needs), at 2 (search needs), at 3 (search needs)),
     )
 
 pub next-nucs-spec : {M : Type 1} → statement M
 next-nucs-spec =
     tie.close
     (tie.spec
+    Inv-loop
+    μ-loop
+    loop-holds
     add-nuc-to-end-requires
-    get-requires
-    add-nuc-to-end-requires-2
-    get-requires-2
-    add-nuc-to-end-requires-3
-    get-requires-3
-    add-nuc-to-end-requires-4
-    get-requires-4
+    place-of-requires
+    mul-places
+    element-write-places
+    add-nuc
+    loop-less
+    loop-again
+    element-copy-out-t17
+    element-copy-out-t21
+    element-copy-out-t25
+    element-copy-out-t29
     returns)

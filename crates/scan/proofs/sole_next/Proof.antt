@@ -19,10 +19,11 @@ returns c =
 
 next-nucs-requires : tie.Need-next-nucs-requires
 next-nucs-requires c κs =
-    let n = c .before in
+    let e = c .before in
+    let n = e .before in
     let s = n .before .before .before in
     let sol = solid (setOf (s .args .set .now)) in
-    let asked = four-asked (s .args .head .k) (kmerOf (s .args .kmer)) (s .pre .0 .shifts .k-low) sol (λ z. c .if1 .left (n .next-cost .ensures sol ∙ z)) in
+    let asked = four-asked (s .args .head .k) (kmerOf (s .args .kmer)) (s .pre .0 .shifts .k-low) sol (λ z. e .if1 .left (n .next-cost .ensures sol ∙ z)) in
     (s .pre .0, s .pre .1, asked)
 
 sole-nuc-requires : tie.Need-sole-nuc-requires
@@ -37,18 +38,18 @@ enum-told c = search needs
 returns-2 : tie.Need-returns-2
 returns-2 c =
     let n = c .before .before in
-    no-next _ _ _ (n .sole-nuc .result) (n .before .next-nucs .ensures) (n .sole-nuc .ensures) (c .enum-told .given .1)
+    no-next _ _ _ (n .sole-nuc .result) (n .before .next-nucs .ensures .0) (n .sole-nuc .ensures) (c .enum-told .given .1)
 
 add-nuc-to-end-requires : tie.Need-add-nuc-to-end-requires
 add-nuc-to-end-requires c κs =
     let n = c .before .before .before in
-    let small = nuc-lt _ _ _ (n .sole-nuc .result) (n .before .next-nucs .ensures) (n .sole-nuc .ensures) _ (c .before .nuc .given .1) in
+    let small = nuc-lt _ _ _ (n .sole-nuc .result) (n .before .next-nucs .ensures .0) (n .sole-nuc .ensures) _ (c .before .nuc .given .1) in
     (search needs, search needs, omega (arith, small))
 
 returns-3 : tie.Need-returns-3
 returns-3 c =
     let n = c .before .before .before .before in
-    next-kmer _ _ _ (n .sole-nuc .result) (n .before .next-nucs .ensures) (n .sole-nuc .ensures) _ (c .before .before .nuc .given .1) (c .add-nuc-to-end .ensures)
+    next-kmer _ _ _ (n .sole-nuc .result) (n .before .next-nucs .ensures .0) (n .sole-nuc .ensures) _ (c .before .before .nuc .given .1) (c .add-nuc-to-end .ensures)
 
 pub sole-next-spec : {M : Type 1} → statement M
 sole-next-spec =

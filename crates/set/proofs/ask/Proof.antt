@@ -6,6 +6,9 @@ use Rattle.rules.proofs.Kmer.{ne-known}
 use Rattle.rules.proofs.Scan.{ask-is, ask-one, ask-none}
 use Rattle.kmer.specs.Kmer.{kmerOf}
 use borrow.Author.Needs.{needs}
+use Rattle.rules.specs.Set.{setOf}
+use Rattle.set.proofs.Among.{place-solid}
+use Rattle.set.proofs.Opened.{set-count}
 use Rattle.set.proofs.ask.Statement.{statement}
 use Rattle.set.proofs.ask.Tie as tie
 
@@ -24,8 +27,12 @@ look-up-requires c κs =
 returns-2 : tie.Need-returns-2
 unfolding kmerOf
 returns-2 c =
-    let known : c .before .before .before .before .before .args .kmer .unknown ≡ 0 = omega arith in
-    record { solid = c .look-up .ensures ∙ sym (ask-is _ _ known); lookups = sym (ask-one _ _ known) }
+    let l = c .before in
+    let s = l .before .before .before .before .before in
+    let a = s .args in
+    let known : a .kmer .unknown ≡ 0 = omega arith in
+    let solid = place-solid (setOf (a .set .now)) (a .kmer .code) _ _ (s .pre .0 .n-is ∙ sym (set-count (a .set .now))) (l .look-up .ensures) in
+    record { solid = solid ∙ sym (ask-is _ _ known); lookups = sym (ask-one _ _ known) }
 
 pub ask-spec : {M : Type 1} → statement M
 ask-spec = tie.close (tie.spec returns look-up-requires returns-2)

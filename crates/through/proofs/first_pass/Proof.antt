@@ -8,7 +8,7 @@ use Rattle.through.proofs.first_pass.Statement.{statement}
 use Rattle.through.proofs.first_pass.Tie as tie
 
 abbrev start : tie.After-method-of → tie.Start
-start m = m .before .before .before .before .before .before .before
+start m = m .before .before .before .before .before .before .before .before
 
 method-of-requires : tie.Need-method-of-requires
 method-of-requires c κs = search needs
@@ -46,7 +46,7 @@ returns c =
     let m = p .before in
     let s = start m in
     let even =
-    held-even (entryCount (s .args .job .now) - 1) (q .correct .last .1 .1 .1 .1 .1 .1 .0) (s .args .work .now)
+    held-even (entryCount (s .args .job .now) - 1) (q .correct .last .1 .1 .1 .1 .1 .1 .1 .0) (s .args .work .now)
     (omega (arith, t .if1 .taken, n .count .ensures, s .pre .1)) in
     record {
       is = rw (← (m .method-of .ensures), ← (p .confirm-of .ensures), even) (q .correct .ensures .is);
@@ -65,7 +65,7 @@ returns-2 c =
     let m = p .before in
     let s = start m in
     let odd =
-    held-odd (entryCount (s .args .job .now) - 1) (s .args .output .now) (q .correct2 .last .1 .1 .1 .1 .1 .1 .0)
+    held-odd (entryCount (s .args .job .now) - 1) (s .args .output .now) (q .correct2 .last .1 .1 .1 .1 .1 .1 .1 .0)
     (omega (arith, t .if1 .left, n .count .ensures, s .pre .1)) in
     record {
       is = rw (← (m .method-of .ensures), ← (p .confirm-of .ensures), odd, ← (s .pre .4)) (q .correct2 .ensures .is);

@@ -10,7 +10,7 @@ use Rattle.through.proofs.next_pass.Statement.{statement}
 use Rattle.through.proofs.next_pass.Tie as tie
 
 abbrev start : tie.After-method-of → tie.Start
-start m = m .before .before .before .before .before .before
+start m = m .before .before .before .before .before .before .before
 
 method-of-requires : tie.Need-method-of-requires
 method-of-requires c κs = search needs
@@ -79,7 +79,7 @@ returns c =
       is = rw (
         ← (m .method-of .ensures),
         ← (p .confirm-of .ensures),
-        held-odd (left - 1) (a .output .now) (q .correct .last .1 .1 .1 .1 .1 .1 .0) (omega (arith, even, s .pre .1)),
+        held-odd (left - 1) (a .output .now) (q .correct .last .1 .1 .1 .1 .1 .1 .1 .0) (omega (arith, even, s .pre .1)),
         held-even left (a .output .now) (a .work .now) even,
         ← (s .pre .5),
       )
@@ -108,7 +108,7 @@ returns-2 c =
       is = rw (
         ← (m .method-of .ensures),
         ← (p .confirm-of .ensures),
-        held-even (left - 1) (q .correct2 .last .1 .1 .1 .1 .1 .1 .0) (a .work .now) (omega (arith, odd, s .pre .1)),
+        held-even (left - 1) (q .correct2 .last .1 .1 .1 .1 .1 .1 .1 .0) (a .work .now) (omega (arith, odd, s .pre .1)),
         held-odd left (a .output .now) (a .work .now) odd,
       )
           (q .correct2 .ensures .is);

@@ -4,24 +4,24 @@ use native.Mathlib.Omega.{arith}
 use mathlib.Core.Path.{_≡_, refl, sym, _∙_, subst, subst₂}
 use lib.ListN.{length, take}
 use borrow.Author.Needs.{needs}
-use Rattle.rules.specs.Set.{setOf}
 use Rattle.rules.specs.Job.{entryAt, entryCount, pass}
 use Rattle.correct.specs.declared.Pass.{Pass}
 use Rattle.correct.specs.Pass.{PassIs}
-use Rattle.through.specs.Through.{joined, held}
-use Rattle.through.proofs.Underway.{Underway, none-done, first-full, first-done, next-done, next-full, all-done}
+use Rattle.set.specs.Counted.{setWith}
+use Rattle.through.specs.Through.{held}
+use Rattle.through.proofs.Underway.{Underway, none-done, first-full, first-done, next-small, next-done, next-full, all-done}
 use Rattle.through.proofs.through.Statement.{statement}
 use Rattle.through.proofs.through.Tie as tie
 
 abbrev Inv-loop : tie.InvT-loop
-Inv-loop set starts head job read output₀ work₀ n counts₀ i₀ output work counts i =
-    (length output ≡ length output₀) × (length work ≡ length work₀) × Underway (setOf set) job read output work counts i
+Inv-loop set starts head counts job read output₀ work₀ n done₀ i₀ output work done i =
+    (length output ≡ length output₀) × (length work ≡ length work₀) × Underway (setWith set counts) job read output work done i
 
 abbrev μ-loop : tie.MeasureT-loop
-μ-loop set starts head job read output₀ work₀ n counts₀ i₀ output work counts i = n - i
+μ-loop set starts head counts job read output₀ work₀ n done₀ i₀ output work done i = n - i
 
 abbrev start : tie.After-count Inv-loop μ-loop → tie.Start Inv-loop μ-loop
-start n = n .before .before .before .before .before .before .before
+start n = n .before .before .before .before .before .before .before .before
 
 -- The first pass, and the count of the entries before it.
 abbrev first-at : tie.At-loop Inv-loop μ-loop → tie.After-first-pass Inv-loop μ-loop
@@ -79,36 +79,36 @@ returns-2 c =
     let q = c .before .before .before .before .before .before in
     let e = q .before .before .before in
     let a = start (e .before) .args in
-    let output = q .first-pass .last .1 .1 .1 .1 .1 .0 in
-    let work = q .first-pass .last .1 .1 .1 .1 .1 .1 .0 in
+    let output = q .first-pass .last .1 .1 .1 .1 .1 .1 .0 in
+    let work = q .first-pass .last .1 .1 .1 .1 .1 .1 .1 .0 in
     let full =
-    subst (PassIs (length (a .output .now)) (held (entryCount (a .job .now) - 1) output work) (pass (setOf (a .set .now)) (entryAt (a .job .now) 0) (a .read .now)))
+    subst (PassIs (length (a .output .now)) (held (entryCount (a .job .now) - 1) output work) (pass (setWith (a .set .now) (a .counts .now)) (entryAt (a .job .now) 0) (a .read .now)))
     (c .enum-told .given .1) (q .first-pass .ensures .is) in
     record {
       is = first-full _ (a .job .now) _ (length (a .output .now)) (some e) full;
-      output-room = q .first-pass .kept .1 .1 .1 .1 .1 .0;
-      work-room = q .first-pass .kept .1 .1 .1 .1 .1 .1 .0;
+      output-room = q .first-pass .kept .1 .1 .1 .1 .1 .1 .0;
+      work-room = q .first-pass .kept .1 .1 .1 .1 .1 .1 .1 .0;
     }
 
 -- After the first pass.
 begun : (c : tie.After-first Inv-loop μ-loop)
     → let q = c .before .before .before .before .before .before in
     let a = start (count-at q) .args in
-    Underway (setOf (a .set .now)) (a .job .now) (a .read .now) (q .first-pass .last .1 .1 .1 .1 .1 .0) (q .first-pass .last .1 .1 .1 .1 .1 .1 .0)
+    Underway (setWith (a .set .now) (a .counts .now)) (a .job .now) (a .read .now) (q .first-pass .last .1 .1 .1 .1 .1 .1 .0) (q .first-pass .last .1 .1 .1 .1 .1 .1 .1 .0)
     (c .first .given .0 .0) 1
 begun c =
     let q = c .before .before .before .before .before .before in
     let e = q .before .before .before in
     let s = start (e .before) in
     let a = s .args in
-    let output = q .first-pass .last .1 .1 .1 .1 .1 .0 in
-    let work = q .first-pass .last .1 .1 .1 .1 .1 .1 .0 in
-    let kept = q .first-pass .kept .1 .1 .1 .1 .1 .0 in
-    let p = pass (setOf (a .set .now)) (entryAt (a .job .now) 0) (a .read .now) in
+    let output = q .first-pass .last .1 .1 .1 .1 .1 .1 .0 in
+    let work = q .first-pass .last .1 .1 .1 .1 .1 .1 .1 .0 in
+    let kept = q .first-pass .kept .1 .1 .1 .1 .1 .1 .0 in
+    let p = pass (setWith (a .set .now) (a .counts .now)) (entryAt (a .job .now) 0) (a .read .now) in
     let done =
     subst₂ (λ (room : ℕ) (r : Pass). PassIs room (held (entryCount (a .job .now) - 1) output work) p r) (sym kept) (c .first .given .1) (q .first-pass .ensures .is) in
     first-done _ (a .job .now) (a .read .now) output work (c .first .given .0 .0) (some e)
-    (q .first-pass .kept .1 .1 .1 .1 .1 .1 .0 ∙ s .pre .1 .1 ∙ sym kept) (omega (arith, s .pre .1 .0)) (q .first-pass .ensures .small) done
+    (q .first-pass .kept .1 .1 .1 .1 .1 .1 .1 .0 ∙ s .pre .1 .1 ∙ sym kept) (omega (arith, s .pre .1 .0)) (q .first-pass .ensures .small) done
 
 loop-holds : tie.Need-loop-holds Inv-loop μ-loop
 loop-holds c = (refl, refl, begun (c .before))
@@ -143,8 +143,8 @@ Answered q =
     let l = q .before .before .before .before in
     let a = start (count-at (first-at l)) .args in
     let left = entryCount (a .job .now) - l .loop .i in
-    PassIs (length (l .loop .output)) (held (left - 1) (q .next-pass .last .1 .1 .1 .1 .1 .1 .0) (q .next-pass .last .1 .1 .1 .1 .1 .1 .1 .0))
-    (pass (setOf (a .set .now)) (entryAt (a .job .now) (l .loop .i)) (take (l .loop .counts .written) (held left (l .loop .output) (l .loop .work))))
+    PassIs (length (l .loop .output)) (held (left - 1) (q .next-pass .last .1 .1 .1 .1 .1 .1 .1 .0) (q .next-pass .last .1 .1 .1 .1 .1 .1 .1 .1 .0))
+    (pass (setWith (a .set .now) (a .counts .now)) (entryAt (a .job .now) (l .loop .i)) (take (l .loop .done .written) (held left (l .loop .output) (l .loop .work))))
 
 returns-3 : tie.Need-returns-3 Inv-loop μ-loop
 returns-3 c =
@@ -152,43 +152,33 @@ returns-3 c =
     let t = q .before .before .before in
     let l = t .before in
     let g = first-at l in
-    let first = g .first-pass .kept .1 .1 .1 .1 .1 in
-    let kept = q .next-pass .kept .1 .1 .1 .1 .1 .1 in
+    let first = g .first-pass .kept .1 .1 .1 .1 .1 .1 in
+    let kept = q .next-pass .kept .1 .1 .1 .1 .1 .1 .1 in
     let full = subst (Answered q) (c .enum-told2 .given .1) (q .next-pass .ensures .is) in
-    let long = next-full _ (start (count-at g) .args .job .now) _ _ _ (l .loop .counts) (l .loop .i) (l .loop .inv .2) (more t) full in
+    let long = next-full _ (start (count-at g) .args .job .now) _ _ _ (l .loop .done) (l .loop .i) (l .loop .inv .2) (more t) full in
     record {
       is = omega (arith, long, l .loop .inv .0, first .0);
       output-room = kept .0 ∙ l .loop .inv .0 ∙ first .0;
       work-room = kept .1 .0 ∙ l .loop .inv .1 ∙ first .1 .0;
     }
 
--- After one pass more.
-moved : (c : tie.After-passed Inv-loop μ-loop)
-    → let q = c .before .before .before .before .before .before in
-    let l = q .before .before .before .before in
-    let a = start (count-at (first-at l)) .args in
-    Underway (setOf (a .set .now)) (a .job .now) (a .read .now) (q .next-pass .last .1 .1 .1 .1 .1 .1 .0)
-    (q .next-pass .last .1 .1 .1 .1 .1 .1 .1 .0) (joined (l .loop .counts) (c .passed .given .0 .0)) (l .loop .i + 1)
-moved c =
-    let q = c .before .before .before .before .before .before in
-    let t = q .before .before .before in
-    let l = t .before in
-    let a = start (count-at (first-at l)) .args in
-    let kept = q .next-pass .kept .1 .1 .1 .1 .1 .1 in
-    next-done _ (a .job .now) (a .read .now) (l .loop .output) (l .loop .work) (l .loop .counts) (l .loop .i) (l .loop .inv .2) (more t)
-    (q .next-pass .last .1 .1 .1 .1 .1 .1 .0) (q .next-pass .last .1 .1 .1 .1 .1 .1 .1 .0) (c .passed .given .0 .0)
-    (kept .0) (kept .1 .0) (q .next-pass .ensures .small) (subst (Answered q) (c .passed .given .1) (q .next-pass .ensures .is))
-
 -- 8 passes at most.
 few : (c : tie.After-passed Inv-loop μ-loop) → c .before .before .before .before .before .before .before .before .before .before .loop .i + 1 ≤ 8
 few c =
-    let l = c .before .before .before .before .before .before .before .before .before .before in
-    omega (arith, moved c .high, start (count-at (first-at l)) .pre .0 .1)
+    let t = c .before .before .before .before .before .before .before .before .before in
+    omega (arith, more t, start (count-at (first-at (t .before))) .pre .0 .1)
 
 join-requires : tie.Need-join-requires Inv-loop μ-loop
 join-requires c κs =
-    let u = moved (c .before) .small in
-    let n = few (c .before) in (
+    let p = c .before in
+    let q = p .before .before .before .before .before .before in
+    let t = q .before .before .before in
+    let l = t .before in
+    let a = start (count-at (first-at l)) .args in
+    let u =
+    next-small _ (a .job .now) (a .read .now) (l .loop .output) (l .loop .work) (l .loop .done) (l .loop .i) (l .loop .inv .2) (more t) _ (p .passed .given .0 .0)
+    (q .next-pass .ensures .small) (subst (Answered q) (p .passed .given .1) (q .next-pass .ensures .is) .0) in
+    let n = few p in (
       omega (arith, u .turns),
       omega (arith, u .lookups),
       omega (arith, u .attempts),
@@ -203,13 +193,17 @@ loop-less c = search needs
 
 loop-again : tie.Need-loop-again Inv-loop μ-loop
 loop-again c =
-    let n = c .before .before in
-    let q = n .before .before .before .before .before .before in
-    let l = q .before .before .before .before in
-    let kept = q .next-pass .kept .1 .1 .1 .1 .1 .1 in (
+    let p = c .before .before in
+    let q = p .before .before .before .before .before .before in
+    let t = q .before .before .before in
+    let l = t .before in
+    let a = start (count-at (first-at l)) .args in
+    let kept = q .next-pass .kept .1 .1 .1 .1 .1 .1 .1 in (
       kept .0 ∙ l .loop .inv .0,
       kept .1 .0 ∙ l .loop .inv .1,
-      rw (c .join .ensures) (moved n),
+      next-done _ (a .job .now) (a .read .now) (l .loop .output) (l .loop .work) (l .loop .done) (l .loop .i) (l .loop .inv .2) (more t)
+          (q .next-pass .last .1 .1 .1 .1 .1 .1 .1 .0) (q .next-pass .last .1 .1 .1 .1 .1 .1 .1 .1 .0) (p .passed .given .0 .0) (c .join .result) (c .join .ensures)
+          (kept .0) (kept .1 .0) (q .next-pass .ensures .small) (subst (Answered q) (p .passed .given .1) (q .next-pass .ensures .is)),
     )
 
 same-length-6 : tie.Need-same-length-6 Inv-loop μ-loop
@@ -224,10 +218,10 @@ returns-4 c =
     let g = first-at l in
     let n = count-at g in
     let a = start n .args in
-    let first = g .first-pass .kept .1 .1 .1 .1 .1 in
+    let first = g .first-pass .kept .1 .1 .1 .1 .1 .1 in
     let same = l .loop .inv .0 ∙ first .0 in
     let all =
-    all-done _ (a .job .now) _ (l .loop .output) (l .loop .work) (l .loop .counts) (l .loop .i) (l .loop .inv .2) (omega (arith, c .loop-test .left, n .count .ensures)) in
+    all-done _ (a .job .now) _ (l .loop .output) (l .loop .work) (l .loop .done) (l .loop .i) (l .loop .inv .2) (omega (arith, c .loop-test .left, n .count .ensures)) in
     record { is = (all .0, all .1, omega (arith, all .2, same), all .3); output-room = same; work-room = l .loop .inv .1 ∙ first .1 .0 }
 
 pub through-spec : {M : Type 1} → statement M

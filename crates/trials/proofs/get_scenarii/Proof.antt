@@ -9,27 +9,27 @@ use borrow.Author.Needs.{needs}
 use Rattle.rules.specs.Exist.{Scenario}
 use Rattle.rules.specs.Set.{solid, setOf}
 use Rattle.kmer.specs.Kmer.{kmerOf, IsKmer}
-use Rattle.scan.specs.declared.Next.the-variants.{Kmer}
+use Rattle.trials.specs.declared.Tried.the-variants.{Kmer}
 use Rattle.scenario.specs.Scenario.{numberOf, scenarios, nth, spelledOut, Small}
 use Rattle.scenario.proofs.Trials.{asked-le, solid-one}
-use Rattle.trials.specs.Trials.{EligibleIs, blank}
+use Rattle.trials.specs.Trials.{EligibleIs, blank, Placed}
 use Rattle.trials.proofs.Scores.{Run, run-none, run-on, run-bad, run-all, tried-bad, tried-all, Done, done-none, done-refused, done-kept, done-answer, done-lookups, scenarios-length, number-le}
-use Rattle.trials.proofs.Group.{mends-store, small-store}
+use Rattle.trials.proofs.Group.{mends-store, each-store, gives-place}
 use Rattle.trials.proofs.get_scenarii.Statement.{statement}
 use Rattle.trials.proofs.get_scenarii.Tie as tie
 
 abbrev Inv-loop : tie.InvT-loop
-Inv-loop set starts head two c x s kept count lookups₀ end number₀ first start last kmer₀ j₀ lookups number kmer j =
+Inv-loop set starts head two c x s kept count lookups₀ end number₀ first place start last kmer₀ j₀ lookups number kmer j =
     (number ≡ number₀) × (start ≤ j) × (j ≤ last) × IsKmer (head .k) kmer × (lookups ≡ lookups₀ + (j - start))
     × Run (head .k) (solid (setOf set)) start last s (kmerOf first) j (kmerOf kmer)
 
 abbrev μ-loop : tie.MeasureT-loop
-μ-loop set starts head two c x s kept count lookups₀ end number₀ first start last kmer₀ j₀ lookups number kmer j = last - j
+μ-loop set starts head two c x s kept count lookups₀ end number₀ first place start last kmer₀ j₀ lookups number kmer j = last - j
 
 abbrev Inv-scenarios : tie.InvT-scenarios
 Inv-scenarios set starts head two c x s kept₀ count₀ lookups₀ end number₀ kept count lookups number =
     (number ≤ end) × (count ≤ number) × (lookups ≤ number * 300) × (length kept ≡ 13)
-    × ((i : ℕ) → i < count → Small (getD kept i blank))
+    × ((i : ℕ) → i < count → Small (getD kept i blank)) × ((i : ℕ) → i < count → Placed (setOf set) (getD kept i blank))
     × Done (head .k) (solid (setOf set)) c s (scenarios two (head .k) (solid (setOf set)) (kmerOf x) s) number (map spelledOut (take count kept)) lookups
 
 abbrev μ-scenarios : tie.MeasureT-scenarios
@@ -59,7 +59,7 @@ at c = c .before .before .before .before .before
 
 -- its trial left a k-mer to confirm
 given : (c : tie.After-check-start Inv-loop μ-loop Inv-scenarios μ-scenarios) → (let i = at c .before in let a = start (i .before) .args in
-    EligibleIs (a .head .k) (solid (setOf (a .set .now))) (a .c) (a .s .now) (here i) (at c .eligible .result .lookups) (Kmer (c .before .before .tried .given .0 .0)))
+    EligibleIs (a .head .k) (setOf (a .set .now)) (a .c) (a .s .now) (here i) (at c .eligible .result .lookups) (Kmer (c .before .before .tried .given .0 .0) (c .before .before .tried .given .0 .1 .0)))
 given c = subst (EligibleIs _ _ _ _ _ _) (c .before .before .tried .given .1) (at c .eligible .ensures .is)
 
 starts-at : (c : tie.After-check-start Inv-loop μ-loop Inv-scenarios μ-scenarios) → c .check-start .result ≡ here (at c .before) .o
@@ -85,7 +85,7 @@ number-of-requires : tie.Need-number-of-requires Inv-loop μ-loop Inv-scenarios 
 number-of-requires c κs = search needs
 
 scenarios-holds : tie.Need-scenarios-holds Inv-loop μ-loop Inv-scenarios μ-scenarios
-scenarios-holds c = (search needs, search needs, search needs, refl, λ i h. absurd (omega arith), done-none _ _ _ _ _)
+scenarios-holds c = (search needs, search needs, search needs, refl, λ i h. absurd (omega arith), λ i h. absurd (omega arith), done-none _ _ _ _ _)
 
 eligible-requires : tie.Need-eligible-requires Inv-loop μ-loop Inv-scenarios μ-scenarios
 eligible-requires c κs =
@@ -112,7 +112,7 @@ scenarios-again c =
     let e = c .before .before .before in
     let a = e .before .before .scenarios in
     let q = subst (EligibleIs _ _ _ _ (here (e .before)) _) (c .enum-told .given .1) (e .eligible .ensures .is) in
-    (search needs, search needs, omega (arith, e .eligible .ensures .few), a .inv .3, a .inv .4, done-refused _ _ _ _ _ (a .inv .5) (inside (e .before)) q)
+    (search needs, search needs, omega (arith, e .eligible .ensures .few), a .inv .3, a .inv .4, a .inv .5, done-refused _ _ _ _ _ (a .inv .6) (inside (e .before)) q)
 
 check-start-requires : tie.Need-check-start-requires Inv-loop μ-loop Inv-scenarios μ-scenarios
 check-start-requires c κs = numbered (c .before .before .before .before .before)
@@ -165,7 +165,8 @@ scenarios-again-2 c =
       omega (arith, l .loop .inv .0, asked-le _ _ (g .ask .ensures), spent l),
       a .inv .3,
       a .inv .4,
-      rw (l .loop .inv .0, z) (done-refused _ _ _ _ _ (a .inv .5) (inside (e .before)) q),
+      a .inv .5,
+      rw (l .loop .inv .0, z) (done-refused _ _ _ _ _ (a .inv .6) (inside (e .before)) q),
     )
 
 add-j : tie.Need-add-j Inv-loop μ-loop Inv-scenarios μ-scenarios
@@ -190,7 +191,9 @@ loop-again c =
     )
 
 correct-requires : tie.Need-correct-requires Inv-loop μ-loop Inv-scenarios μ-scenarios
-correct-requires c κs = rw (c .before .loop .inv .0) (numbered (at (c .before .before) .before))
+correct-requires c κs =
+    let r = c .before .before in
+    (rw (c .before .loop .inv .0) (numbered (at r .before)), given r .3)
 
 mul-kept : tie.Need-mul-kept Inv-loop μ-loop Inv-scenarios μ-scenarios
 mul-kept c = omega (arith, stored (c .before .before .before))
@@ -210,6 +213,7 @@ scenarios-less-3 : tie.Need-scenarios-less-3 Inv-loop μ-loop Inv-scenarios μ-s
 scenarios-less-3 c = search needs
 
 scenarios-again-3 : tie.Need-scenarios-again-3 Inv-loop μ-loop Inv-scenarios μ-scenarios
+unfolding kmerOf
 scenarios-again-3 c =
     let i = c .before in
     let l = i .before in
@@ -226,8 +230,9 @@ scenarios-again-3 c =
       omega (arith, l .loop .inv .0, a .inv .1),
       omega (arith, l .loop .inv .0, spent l),
       length-set (a .kept) (a .count) _ ∙ a .inv .3,
-      small-store (a .kept) (a .count) _ room (gives .small) (a .inv .4),
-      rw (mends-store (a .kept) (a .count) (c .correct .result) room, gives .is, l .loop .inv .0, z) (done-kept _ _ _ _ _ (a .inv .5) (inside (e .before)) q),
+      each-store (a .kept) (a .count) _ room Small (gives .small) (a .inv .4),
+      each-store (a .kept) (a .count) _ room (Placed (setOf (b .set .now))) (gives-place _ (given r .4) gives) (a .inv .5),
+      rw (mends-store (a .kept) (a .count) (c .correct .result) room, gives .is, l .loop .inv .0, z) (done-kept _ _ _ _ _ (a .inv .6) (inside (e .before)) q),
     )
 
 returns : tie.Need-returns Inv-loop μ-loop Inv-scenarios μ-scenarios
@@ -237,10 +242,10 @@ returns c =
     let end : length (scenarios (b .two) (b .head .k) (solid (setOf (b .set .now))) (kmerOf (b .x)) (b .s .now)) ≤ a .number =
     rw (scenarios-length (b .two) (b .head .k) (solid (setOf (b .set .now))) (kmerOf (b .x)) (b .s .now), ← (c .before .before .number-of .ensures)) (c .scenarios-test .left) in
     record {
-      answer = done-answer _ _ _ _ _ (a .inv .5) end;
-      lookups = done-lookups _ _ _ _ _ (a .inv .5) end;
+      answer = done-answer _ _ _ _ _ (a .inv .6) end;
+      lookups = done-lookups _ _ _ _ _ (a .inv .6) end;
       few = omega (arith, few (c .before));
-      held = record { group = a .inv .3; count-le = omega (arith, few (c .before)); small = a .inv .4 };
+      held = record { group = a .inv .3; count-le = omega (arith, few (c .before)); small = a .inv .4; placed = a .inv .5 };
     }
 
 pub get-scenarii-spec : {M : Type 1} → statement M

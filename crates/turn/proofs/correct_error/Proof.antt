@@ -23,9 +23,9 @@ returns : tie.Need-returns
 returns c =
     let q = c .before .before in
     let m = q .before .before in
-    let s = m .before .before .before .before .before in
+    let s = m .before .before .before .before .before .before in
     let a = s .args in
-    rw (by-one _ _ (a .head) (s .pre .0) (a .method) (a .c) (a .s .now) (kmerOf (a .kmer)) (m .match .keys1)) (q .correct-error .ensures)
+    rw (by-one _ _ (a .head) (s .pre .0) (a .counts .now) (a .method) (a .c) (a .s .now) (kmerOf (a .kmer)) (m .match .keys1)) (q .correct-error .ensures)
 
 same-length-2 : tie.Need-same-length-2
 same-length-2 c = search needs
@@ -34,9 +34,9 @@ returns-2 : tie.Need-returns-2
 returns-2 c =
     let q = c .before .before in
     let m = q .before .before in
-    let s = m .before .before .before .before .before in
+    let s = m .before .before .before .before .before .before in
     let a = s .args in
-    rw (by-two _ _ (a .head) (s .pre .0) (a .method) (a .c) (a .s .now) (kmerOf (a .kmer)) (m .match .keys2)) (q .correct-error2 .ensures)
+    rw (by-two _ _ (a .head) (s .pre .0) (a .counts .now) (a .method) (a .c) (a .s .now) (kmerOf (a .kmer)) (m .match .keys2)) (q .correct-error2 .ensures)
 
 same-length-3 : tie.Need-same-length-3
 same-length-3 c = search needs
@@ -45,9 +45,9 @@ returns-3 : tie.Need-returns-3
 returns-3 c =
     let q = c .before .before in
     let m = q .before .before in
-    let s = m .before .before .before .before .before in
+    let s = m .before .before .before .before .before .before in
     let a = s .args in
-    rw (by-graph _ _ (a .head) (s .pre .0) (a .method) (a .c) (a .s .now) (kmerOf (a .kmer)) (m .match .keys3)) (q .correct-error3 .ensures)
+    rw (by-graph _ _ (a .head) (s .pre .0) (a .counts .now) (a .method) (a .c) (a .s .now) (kmerOf (a .kmer)) (m .match .keys3)) (q .correct-error3 .ensures)
 
 same-length-4 : tie.Need-same-length-4
 same-length-4 c = search needs
@@ -56,10 +56,10 @@ returns-4 : tie.Need-returns-4
 returns-4 c =
     let q = c .before .before in
     let m = q .before .before in
-    let s = m .before .before .before .before .before in
+    let s = m .before .before .before .before .before .before in
     let a = s .args in
     let others = m .match .rest in
-    rw (by-gap-size _ _ (a .head) (s .pre .0) (a .method) (a .c) (a .s .now) (kmerOf (a .kmer)) (others .0 .0 .1) (others .0 .1) (others .1))
+    rw (by-gap-size _ _ (a .head) (s .pre .0) (a .counts .now) (a .method) (a .c) (a .s .now) (kmerOf (a .kmer)) (others .0 .0 .1) (others .0 .1) (others .1))
     (q .correct-error4 .ensures)
 
 pub correct-error-spec : {M : Type 1} → statement M

@@ -5,6 +5,7 @@ use mathlib.Core.Bool.{true}
 use mathlib.Core.Logic.{⊎-elim}
 use lib.ListN.{length}
 use Rattle.rules.specs.Letters.{Kmer, addAll, inPlace}
+use Rattle.support.specs.Support.{supportOf}
 use Rattle.turn.specs.Turn.{placeOf}
 use borrow.Author.Needs.{needs}
 use Rattle.turn.proofs.mend.Statement.{statement}
@@ -22,13 +23,17 @@ drop-last-requires c κs = search needs
 add-all-requires : tie.Need-add-all-requires
 add-all-requires c κs = search needs
 
+weaker-requires : tie.Need-weaker-requires
+weaker-requires c κs = search needs
+
 moved-requires : tie.Need-moved-requires
 moved-requires c κs = search needs
 
 returns : tie.Need-returns
-unfolding inPlace
+unfolding inPlace supportOf
 returns c =
-    let l = c .before in
+    let w = c .before in
+    let l = w .before in
     let d = l .before in
     let join = d .before in
     let a = join .before .before .before .args in
@@ -37,10 +42,13 @@ returns c =
     record {
       kmer = l .add-all .result;
       placed = record { is = e .is ∙ ap (λ (y : Kmer). addAll (a .head .k) y (a .letters .now)) (d .drop-last .ensures .is); kmer = e .kmer };
-      is = c .moved .ensures ∙ ap (λ (at : ℕ). placeOf (a .p) (l .add-all .result) true at (length (a .letters .now)) (a .lookups) 1 1) stop;
+      support = w .weaker .result;
+      weighed = w .weaker .ensures;
+      is = c .moved .ensures
+          ∙ ap (λ (at : ℕ). placeOf (a .p) (l .add-all .result) true at (length (a .letters .now)) (a .lookups) 1 1 (w .weaker .result)) stop;
     }
 
 pub mend-spec : {M : Type 1} → statement M
 mend-spec =
     tie.close
-    (tie.spec sub-if1 add-at drop-last-requires add-all-requires moved-requires returns)
+    (tie.spec sub-if1 add-at drop-last-requires add-all-requires weaker-requires moved-requires returns)

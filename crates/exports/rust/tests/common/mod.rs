@@ -48,11 +48,6 @@ pub fn keys_of(k: usize, genome: &[u8]) -> Vec<u64> {
     keys
 }
 
-/// The set of a genome's k-mers.
-pub fn genome_set(k: usize, genome: &[u8]) -> Vec<u8> {
-    set_of(k as u64, &keys_of(k, genome))
-}
-
 /// xorshift.
 pub struct Rng(pub u64);
 

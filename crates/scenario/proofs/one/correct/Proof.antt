@@ -15,11 +15,12 @@ row-of-requires c κs = search needs
 
 returns : tie.Need-returns
 unfolding nth one row kmerOf
-returns c k sol s t =
-    let n = c .before .args .number in
-    let x = kmerOf (c .before .args .x) in
-    gives t x 1 (c .row-of .ensures k sol x s) (lit≤ tt)
-    (range (λ i. last 1 x ≡ nth (one k sol x s) i .letters t) 0 3 (refl, (refl, (refl, tt))) n (omega arith) (omega arith))
+returns c k sol s =
+    let a = c .before .args in
+    let x = kmerOf (a .x) in
+    let t = kmerOf (a .tried) in
+    gives x t (c .before .pre .1) _ 1 (c .row-of .ensures k sol x s) x (lit≤ tt)
+    (range (λ i. last 1 x ≡ nth (one k sol x s) i .letters t) 0 3 (refl, (refl, (refl, tt))) (a .number) (omega arith) (omega arith))
 
 pub correct-spec : {M : Type 1} → statement M
 correct-spec = tie.close (tie.spec row-of-requires returns)
