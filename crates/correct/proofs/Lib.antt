@@ -2,3 +2,4 @@ pub mod Copies
 pub mod Drives
 pub mod Limits
 pub mod Passes
+pub mod Room

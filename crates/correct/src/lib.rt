@@ -11,7 +11,7 @@ ghost use Rattle.rules.specs.Job.{entry, pass};
 ghost use Rattle.set.specs.Ready.{Ready};
 ghost use Rattle.set.specs.Counted.{setWith};
 ghost use Rattle.rules.specs.Calls.{maxRead};
-ghost use Rattle.correct.specs.Pass.{returned, PassIs, Passed};
+ghost use Rattle.correct.specs.Pass.{Begun, countsOf, unchangedBy, returned, PassIs, Passed};
 ghost use Rattle.turn.specs.Turn.{stateOf, Stands, Countable, endOf};
 
 // What was written and counted, and the smallest count behind the accepted corrections, if there are any.
@@ -39,7 +39,56 @@ fn copy(src: &[u8], dst: &mut [u8])
     }
 }
 
-// Turns until no base is left.
+// The first k-mer, asked. Its letters count as put out.
+pub fn begin(set: &[u8], starts: &[u32], head: Header, read: &[u8]) -> Place
+    requires { ⌜ Ready (now set) (now starts) head × (head .k ≤ length (now read)) ⌝ }
+    ensures { λ r. ⌜ Begun (now (set .entry)) head (now (read .entry)) r ⌝ }
+{
+    let k = head.k;
+    let kmer = kmer::seq2bit(read, head);
+    let asked = set::ask(set, starts, head, kmer);
+    Place {
+        kmer,
+        previous: asked.solid,
+        at: k,
+        written: k,
+        turns: 0,
+        lookups: asked.lookups,
+        attempts: 0,
+        accepted: 0,
+        support: 0,
+    }
+}
+
+// What is done at the end of a pass.
+pub fn counts_of(p: Place) -> Counts
+    ensures { λ r. ⌜ r ≡ countsOf p ⌝ }
+{
+    Counts {
+        written: p.written,
+        turns: p.turns,
+        lookups: p.lookups,
+        attempts: p.attempts,
+        accepted: p.accepted,
+        support: p.support,
+    }
+}
+
+// A read of that length returned as it is, with nothing counted.
+pub fn unchanged(len: usize) -> Counts
+    ensures { λ r. ⌜ r ≡ unchangedBy len ⌝ }
+{
+    Counts {
+        written: len,
+        turns: 0,
+        lookups: 0,
+        attempts: 0,
+        accepted: 0,
+        support: 0,
+    }
+}
+
+// Turns until no base is left, each into what is left of the output.
 fn turns_of(
     set: &[u8],
     starts: &[u32],
@@ -52,11 +101,11 @@ fn turns_of(
     out: &mut [u8],
 ) -> Pass
     requires { ⌜
-        Ready (now set) (now starts) head × (1 ≤ c) × Stands (head .k) first (now read) (now out)
-        × Countable (endOf (now set) head (now counts) method c (stateOf first (now read) (now out))) ⌝ }
+        Ready (now set) (now starts) head × (1 ≤ c) × Stands (head .k) first (now read) × (first .written ≤ length (now out))
+        × Countable (endOf (now set) head (now counts) method c (stateOf first (now read) (take (first .written) (now out)))) ⌝ }
     ensures { λ r. ⌜
         PassIs (length (now (out .entry))) (now (out .exit))
-        (endOf (now (set .entry)) head (now (counts .entry)) method c (stateOf first (now (read .entry)) (now (out .entry))))
+        (endOf (now (set .entry)) head (now (counts .entry)) method c (stateOf first (now (read .entry)) (take (first .written) (now (out .entry)))))
         r ⌝ }
 {
     let mut p = first;
@@ -71,22 +120,20 @@ fn turns_of(
             };
             ahead = scan::read_ahead(set, starts, head, kmer, read, p.at);
         }
-        let Turned::To(next) = turn::turn(set, starts, head, counts, method, c, p, read, out) else {
+        let w = p.written;
+        let turned = turn::turn(set, starts, head, counts, method, c, p, read, &mut out[w..]);
+        let Turned::To(next) = turned else {
             return Pass::Full;
         };
+        if out.len() < next.written {
+            return Pass::Full;
+        }
         p = next;
     }
-    Pass::Done(Counts {
-        written: p.written,
-        turns: p.turns,
-        lookups: p.lookups,
-        attempts: p.attempts,
-        accepted: p.accepted,
-        support: p.support,
-    })
+    Pass::Done(counts_of(p))
 }
 
-// The read as it is, with nothing counted.
+// The read as it is.
 pub fn copied(read: &[u8], out: &mut [u8]) -> Pass
     ensures { λ r. ⌜ PassIs (length (now (out .entry))) (now (out .exit)) (returned (now (read .entry))) r ⌝ }
 {
@@ -94,14 +141,7 @@ pub fn copied(read: &[u8], out: &mut [u8]) -> Pass
         return Pass::Full;
     }
     copy(read, out);
-    Pass::Done(Counts {
-        written: read.len(),
-        turns: 0,
-        lookups: 0,
-        attempts: 0,
-        accepted: 0,
-        support: 0,
-    })
+    Pass::Done(unchanged(read.len()))
 }
 
 // One pass. Shorter than k: unchanged. Else the first k-mer is asked, and copied, and the turns come.
@@ -127,18 +167,6 @@ pub fn correct(
         return Pass::Full;
     }
     copy(&read[..k], out);
-    let kmer = kmer::seq2bit(read, head);
-    let asked = set::ask(set, starts, head, kmer);
-    let first = Place {
-        kmer,
-        previous: asked.solid,
-        at: k,
-        written: k,
-        turns: 0,
-        lookups: asked.lookups,
-        attempts: 0,
-        accepted: 0,
-        support: 0,
-    };
+    let first = begin(set, starts, head, read);
     turns_of(set, starts, head, counts, method, c, first, read, out)
 }

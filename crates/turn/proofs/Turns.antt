@@ -279,6 +279,11 @@ module _ (bytes starts : List ℕ) (head : Header) (counts : List ℕ) (method c
         ap (endOf bytes head counts method c) (did .is)
         ∙ sym (ap (λ (q : State). q .done) (finish-step k sol count ce (ready-steady (t .ready) counts method c (t .confirm)) st b s rest-is))
 
+    -- what it puts out is part of the result
+    pub put-within : length put + length (did .more) ≤ length (endOf bytes head counts method c st .bytes)
+    unfolding stateOf
+    put-within = omega (arith, done-within _ (sym (did .is)) .bytes, length-append put (did .more))
+
     pub fewer-left : left k sol ce (kmerOf (p′ .kmer)) (drop (p′ .at) read) < left k sol ce (kmerOf (p .kmer)) (drop (p .at) read)
     unfolding stateOf
     fewer-left =
