@@ -147,7 +147,8 @@ fn ins_sub_correction(
 ) -> Attempt
     requires { ⌜ Ready (now set) (now starts) head × IsKmer (head .k) kmer × (head .k ≤ scan .index) × (scan .lookups < 2 ^ 63) ⌝ }
     ensures { λ r. ⌜
-        Attempted (head .k) (kmerOf kmer) (countOf (setWith (now (set .entry)) (now (counts .entry)))) (scan .index) (now (out .entry)) (now (out .exit))
+        Attempted (head .k) (kmerOf kmer) (countOf (setWith (now (set .entry)) (now (counts .entry)))) (scan .index)
+        (now (out .entry)) (now (out .exit))
         (after (scan .lookups) (gapFrom (head .k) (solid (setOf (now (set .entry)))) (scan .index - head .k) (kmerOf kmer)))
         r ⌝ }
 {

@@ -93,7 +93,7 @@ move-count bytes counts k y r found choice-is a y′ {ps} {c} e h ps-is c-is =
 abbrev pub halted : ℕ → Try (List Kmer)
 halted l = record { answer = none; lookups = l }
 
--- a walk from x that arrived at t, standing at at, with that many letters, in out, after l lookups, w the smallest count of its k-mers
+-- a walk from x via others to at, which equals t: that many letters, in out, after l lookups, w the smallest count of its k-mers
 pub record Arrived (k n : ℕ) (sol : ℕ → Bool) (count : Kmer → ℕ) (t x at : Kmer) (l many w : ℕ) (out : List ℕ) : Type 0 where
   pub via : List Kmer
   pub many-are : length via + 1 ≡ many
@@ -107,7 +107,7 @@ abbrev standing : Kmer → Kmer → ℕ → ℕ → List Kmer → Walk
 standing at mark i marks-at seen =
     record { at = at; mark = mark; moves = i; marks-at = marks-at; seen = seen; lookups = 4 * i }
 
--- what a walk from x to t still does after i moves, its letters in out, w the smallest count so far
+-- what a walk from x to t still does after i moves, via others to at, its letters in out, w the smallest count so far
 pub record Going (k n : ℕ) (sol : ℕ → Bool) (count : Kmer → ℕ) (t x at mark : Kmer) (i marks-at w : ℕ) (out : List ℕ) : Type 0 where
   pub via : List Kmer
   pub many-are : length via ≡ i

@@ -103,7 +103,8 @@ pub fn from_scan(
 ) -> Attempt
     requires { ⌜ Ready (now set) (now starts) head × IsKmer (head .k) kmer × (scan .index < 2 ^ 63) × (scan .lookups < 2 ^ 63) ⌝ }
     ensures { λ r. ⌜
-        Attempted (head .k) (kmerOf kmer) (countOf (setWith (now (set .entry)) (now (counts .entry)))) (scan .index) (now (out .entry)) (now (out .exit))
+        Attempted (head .k) (kmerOf kmer) (countOf (setWith (now (set .entry)) (now (counts .entry)))) (scan .index)
+        (now (out .entry)) (now (out .exit))
         (after (scan .lookups) (graphFrom (head .k) (head .n) (solid (setOf (now (set .entry)))) (scanOf scan) (kmerOf kmer)))
         r ⌝ }
 {
