@@ -27,3 +27,5 @@ pub mod SupportSamples
 pub mod Offered
 pub mod Demands
 pub mod Told
+pub mod Calls
+pub mod Growth
