@@ -137,10 +137,14 @@ module _ (lo hi : ℕ) where
   tells-place n none l h r e = absurd (Option·none-ne-some r e)
   tells-place n (some i) l h r e = let s = ap (λ (q : Refusal). q .number) (Option·some-injective _ r e) in (omega arith, omega arith)
 
--- Refused with a number below those that the first check tells: it was not the first.
-pub not-first : (a b : Check) (lo hi : ℕ) (r : Refusal) → Tells lo hi a → (lo ≤ r .number → r .number ≤ hi → ⊥) → a orElse b ≡ some r → b ≡ some r
+pub unless-tells : (t : Bool) (n : ℕ) → Tells n n (unless t n)
+unless-tells t n = tells-unless n n t n (omega arith) (omega arith)
+
+-- Refused with a number that the first check does not tell: it passed.
+pub not-first : (a b : Check) (lo hi : ℕ) (r : Refusal) → Tells lo hi a → (lo ≤ r .number → r .number ≤ hi → ⊥) → a orElse b ≡ some r
+    → (a ≡ none) × (b ≡ some r)
 unfolding _orElse_
-not-first none b lo hi r h out e = e
+not-first none b lo hi r h out e = (refl, e)
 not-first (some q) b lo hi r h out e = let w = h r e in absurd (out (w .0) (w .1))
 
 -- The job's checks tell 2 to 4, the set's 7 to 10, those of what is offered 15 and 16.
@@ -210,3 +214,65 @@ in-one-row {A} decline go-on none bytes index counts = go (setCheck bytes)
         ]) (elim (c orElse offerCheck (setOf bytes) index counts) [ some r ↦ decline r | none ↦ go-on (setOf bytes) ])
     go none = refl
     go (some r) = refl
+
+-- ---- the batch call
+
+-- Checks 1, 5 and 6, which look at the input and the buffers.
+abbrev pub one : Given → Check
+one g = unless (leb (length (g .input)) maxRead) 1
+
+abbrev pub five : Given → Check
+five g = unless (buffersRight (length (g .input)) (length (g .output)) (length (g .work))) 5
+
+abbrev pub six : Given → Check
+six g = unless (batchRight (g .input)) 6
+
+-- Checks 7 to 10, 15 and 16.
+abbrev pub state : Given → Check
+state g = stateCheck (g .set) (g .index) (g .counts)
+
+-- All its checks before 11, in their order.
+unfoldable pub batchChecks : Given → Check
+batchChecks g = one g orElse (jobCheck (g .job) orElse (five g orElse (six g orElse state g)))
+
+module _ (g : Given) where
+  abbrev given-set : KmerSet
+  given-set = offering (g .index) (g .counts) (setOf (g .set))
+
+  abbrev all-lines : After
+  all-lines = corrected given-set (entriesOf (g .job)) (10 ∷ []) g (lines (g .input))
+
+  pub batch-in-one-row : correctBatch g ≡ elim (batchChecks g) [ some r ↦ unchanged g r | none ↦ all-lines ]
+  unfolding correctBatch call callBy givenCheck inputCheck batchChecks
+  batch-in-one-row =
+      let flat : (givenCheck g orElse six g) orElse state g ≡ batchChecks g = simp orElse-assoc in
+      in-one-row (unchanged g) (λ set. corrected (offering (g .index) (g .counts) set) (entriesOf (g .job)) (10 ∷ []) g (lines (g .input)))
+      (givenCheck g orElse six g) (g .set) (g .index) (g .counts)
+      ∙ ap (λ (c : Check). elim c [ some r ↦ unchanged g r | none ↦ all-lines ]) flat
+
+  pub batch-refused : (r : Refusal) → batchChecks g ≡ some r → correctBatch g ≡ unchanged g r
+  batch-refused r e = batch-in-one-row ∙ rw e
+
+  pub batch-passed : batchChecks g ≡ none → correctBatch g ≡ all-lines
+  batch-passed e = batch-in-one-row ∙ rw e
+
+  -- Refused with another number than 11: by one of these checks.
+  pub batch-refused-by : (r : Refusal) → correctBatch g .answer ≡ refused r → (r .number ≡ 11 → ⊥) → batchChecks g ≡ some r
+  unfolding unchanged noRoom
+  batch-refused-by r e n = go (batchChecks g) refl (tooLong given-set (entriesOf (g .job)) (10 ∷ []) 0 (length (g .output)) (lines (g .input))) refl
+    where
+      go : (c : Check) → batchChecks g ≡ c → (t : Option ℕ) → tooLong given-set (entriesOf (g .job)) (10 ∷ []) 0 (length (g .output)) (lines (g .input)) ≡ t
+          → batchChecks g ≡ some r
+      go (some q) f t h =
+          let s : refused q ≡ refused r = sym (ap (λ (a : After). a .answer) (batch-refused q f)) ∙ e in
+          let same : q ≡ r = cc in
+          f ∙ ap some same
+      go none f (some line) h =
+          let s : refused (record { number = 11; place = line }) ≡ refused r =
+          sym (ap (λ (a : After). a .answer) (batch-passed f ∙ corrected-full given-set (entriesOf (g .job)) (10 ∷ []) g (lines (g .input)) line h)) ∙ e in
+          let same : record { number = 11; place = line } ≡ r = cc in
+          absurd (n (sym (ap (λ (q : Refusal). q .number) same)))
+      go none f none h =
+          let s : accepted (report given-set (entriesOf (g .job)) (10 ∷ []) (lines (g .input))) ≡ refused r =
+          sym (ap (λ (a : After). a .answer) (batch-passed f ∙ corrected-fits given-set (entriesOf (g .job)) (10 ∷ []) g (lines (g .input)) h)) ∙ e in
+          absurd (let z : _≡_ {A = ℕ} 0 1 = cc in omega arith)

@@ -66,7 +66,7 @@ unfolding callBy givenCheck offer given sampleSet
 sixteen = readBy _ (sampleOpens .0)
 
 -- The number of a refusal, 0 if there is none.
-pub numberTold : Check → ℕ
+unfoldable pub numberTold : Check → ℕ
 numberTold none = 0
 numberTold (some r) = r .number
 
