@@ -51,7 +51,7 @@ entries = (refl, refl)
 -- ---- blocks
 
 -- The sample's index, two blocks: entries 0 to 62 and check word 113, entries 63 and 64, spare words and check word 12.
-pub sampleIndex : List ℕ
+unfoldable pub sampleIndex : List ℕ
 unfolding wordBytes
 sampleIndex =
     wordBytes (replicate 7 0 ++ replicate 17 1 ++ replicate 28 2 ++ replicate 7 3 ++ replicate 2 4 ++ replicate 2 5 ++ (113 ∷ []))

@@ -24,6 +24,10 @@ pub mod MakeSamples
 pub mod Index
 pub mod IndexSamples
 pub mod SupportSamples
+pub mod NeedsSamples
 pub mod Offered
 pub mod Demands
 pub mod Told
+pub mod Calls
+pub mod Growth
+pub mod Needs

@@ -1,5 +1,5 @@
 -- What is known of a set that opens.
-use Prim.Native.Nat.{ℕ, _*_, _-_, _%_}
+use Prim.Native.Nat.{ℕ, zero, suc, _*_, _-_, _%_, _≤_}
 use native.Mathlib.Omega.{arith}
 use borrow.Author.Tests.{eqb-true}
 use mathlib.Core.Path.{_≡_, refl, ap, _∙_}
@@ -80,3 +80,11 @@ module _ (bytes : List ℕ) (set : KmerSet) (o : opened bytes ≡ accepted set) 
   pub opened-odd : set .k % 2 ≡ 1
   unfolding setOf
   opened-odd = ap (λ (s : KmerSet). s .k % 2) opened-set ∙ header-odd bytes (checked bytes opened-check .header-right)
+
+  -- so it is at least 1
+  pub opened-pos : 1 ≤ set .k
+  opened-pos = go (set .k) opened-odd
+    where
+      go : (k : ℕ) → k % 2 ≡ 1 → 1 ≤ k
+      go zero e = absurd (omega arith)
+      go (suc j) e = omega arith
