@@ -24,7 +24,7 @@ pub mod MakeSamples
 pub mod Index
 pub mod IndexSamples
 pub mod SupportSamples
-pub mod NeedsSamples
+pub mod NeedSamples
 pub mod Offered
 pub mod Demands
 pub mod Told
