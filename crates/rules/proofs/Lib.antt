@@ -29,5 +29,6 @@ pub mod Offered
 pub mod Demands
 pub mod Told
 pub mod Calls
+pub mod Upward
 pub mod Growth
 pub mod Needs

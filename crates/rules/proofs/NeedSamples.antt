@@ -4,7 +4,7 @@ use mathlib.Core.Path.{_≡_, refl}
 use mathlib.Core.Option.{Option, none, some}
 use mathlib.Core.List.{List, [], _∷_, _++_, map}
 use lib.ListN.{length, replicate, set}
-use Rattle.rules.specs.Refusal.{Outcome, accepted, refused, Check}
+use Rattle.rules.specs.Refusal.{Outcome, accepted, refused}
 use Rattle.rules.specs.Set.{KmerSet, opened}
 use Rattle.rules.specs.Job.{lines}
 use Rattle.rules.specs.Calls.{callBy, givenCheck, batchRight, correctBatch}
