@@ -6,12 +6,12 @@ use mathlib.Core.Path.{_≡_, refl, sym, ap, _∙_, subst}
 use mathlib.Core.Bool.{Bool, true, false}
 use mathlib.Core.Option.{Option, none, some, Option·some-injective, Option·none-ne-some}
 use mathlib.Core.List.{List, [], _∷_, _++_}
-use lib.ListN.{length, take, drop, length-append, length-take, length-drop}
+use lib.ListN.{length, length-append, length-take, length-drop}
 use lib.Dec.{eqb, ltb}
 use Rattle.rules.specs.Letters.{Kmer, dropLast, lastLetter, last, same, met}
 use Rattle.rules.specs.Set.{KmerSet, solid, countOf}
 use Rattle.rules.specs.Counted.{Try, after, refuse, give}
-use Rattle.rules.specs.Scan.{Scan, ask, sole, alternative, errorLen}
+use Rattle.rules.specs.Scan.{Scan, sole, alternative, errorLen}
 use Rattle.rules.specs.Exist.{Mend, Scenario, row, one, two, exist}
 use Rattle.rules.specs.Graph.{spell, Walk, start, moved, halt, walk, walkFrom, graphFrom, graph}
 use Rattle.rules.specs.GapSize.{gap, gapFrom, gapSize}
@@ -19,7 +19,7 @@ use Rattle.rules.specs.Driver.{State, keepBase, mendBase, turn, turnsOf,
 use Rattle.rules.specs.Job.{Method, One, Two, Graph, GapSize, Entry, correctError, pass}
 use Rattle.rules.proofs.Counted.{bind-both}
 use Rattle.rules.proofs.Scan.{sole-four}
-use Rattle.rules.proofs.Exist.{Each, all-of, Kept, exist-some}
+use Rattle.rules.proofs.Exist.{all-of, Kept, exist-some}
 use Rattle.rules.proofs.Driver.{Case, is-solid, is-quiet, is-refused, is-mended, case, turn-solid, turn-quiet, turn-refused, turn-mended, turnsOf-step, turnsOf-end}
 
 last-length : (m : ℕ) (y : Kmer) → length (last m y) ≡ m

@@ -2,27 +2,28 @@
 use Prim.Native.Nat.{ℕ, suc, _+_, _-_, _≤_, _<_}
 use native.Mathlib.Omega.{arith}
 use native.Mathlib.Decide.{decLe}
-use borrow.Author.Tests.{eqb-true, leb-true}
-use mathlib.Core.Path.{_≡_, refl, sym, ap, _∙_, subst}
+use borrow.Author.Tests.{eqb-true}
+use mathlib.Core.Path.{_≡_, refl, sym, ap, _∙_}
 use mathlib.Core.Bool.{Bool, true, false}
-use mathlib.Core.Option.{Option, none, some}
+use mathlib.Core.Option.{none, some}
 use mathlib.Core.List.{List, [], _∷_, _++_}
 use lib.ListN.{length, take, replicate, length-append}
 use lib.Dec.{eqb, leb}
-use Rattle.rules.specs.Refusal.{Refusal, Outcome, accepted, refused, Check, _orElse_, unless}
+use Rattle.rules.specs.Refusal.{Refusal, accepted, refused, Check, _orElse_, unless}
 use Rattle.rules.specs.Set.{KmerSet, offering, setOf, setCheck, opened}
 use Rattle.rules.specs.Index.{indexCheck}
 use Rattle.rules.specs.Job.{Entry, entryCount, entriesOf, linesFrom, lines, result}
 use Rattle.rules.specs.Report.{Report}
 use Rattle.rules.specs.Counts.{sum, passesOf, allPasses, lookups, Demand3}
 use Rattle.rules.specs.Calls.{Given, After, maxRead, buffersRight, jobCheck, batchRight, unchanged, noRoom, longest, tooLong, results, report, corrected, countsCheck, offerCheck, correctBatch}
-use Rattle.rules.specs.Needs.{Asked, Needs, Told, needsCheck, askedCheck, declined, neededFor, needsBy, needs, real, Meets, bytesUpTo, Answers, enough, short, Declines, alike, with-17, with-5}
+use Rattle.rules.specs.Needs.{Asked, Needs, Told, needsCheck, askedCheck, declined, neededFor, needsBy, needs, real, bytesUpTo, Answers, enough, short, Declines, alike, with-17, with-5}
 use Rattle.rules.proofs.Opened.{passed, unless-passed, opened-check, opened-pos}
 use Rattle.rules.proofs.Job.{entriesOf-length}
 use Rattle.rules.proofs.Offered.{same-report as same-indexed}
 use Rattle.rules.proofs.Told.{unsupported, same-report as same-counted}
 use Rattle.rules.proofs.Demands.{ceilings}
-use Rattle.rules.proofs.Calls.{sum-first, too-long-here, too-long-later, corrected-full, corrected-fits, orElse-assoc, behind, Tells, tells-or, tells-unless, unless-tells, not-first, job-tells, set-tells, offer-tells, job-right, stateCheck, in-one-row, batchChecks, batch-refused, batch-passed, batch-refused-by}
+use Rattle.rules.proofs.Calls.{sum-first, too-long-here, too-long-later, corrected-full, corrected-fits}
+use Rattle.rules.proofs.Upward.{orElse-assoc, behind, Tells, tells-or, tells-unless, unless-tells, not-first, job-tells, set-tells, offer-tells, job-right, stateCheck, in-one-row, batchChecks, batch-refused, batch-passed, batch-refused-by}
 use Rattle.rules.proofs.Growth.{pass-within}
 
 -- ---- one entry: the only pass result is the line's result, so 11 turns on the bytes alone

@@ -3,8 +3,8 @@ use Prim.Native.Nat.{ℕ}
 use mathlib.Core.Path.{_≡_, refl}
 use mathlib.Core.Option.{Option, none, some}
 use mathlib.Core.List.{List, [], _∷_, _++_, map}
-use lib.ListN.{length, replicate, set, take}
-use Rattle.rules.specs.Refusal.{Outcome, accepted, refused, Check}
+use lib.ListN.{length, replicate, set}
+use Rattle.rules.specs.Refusal.{Outcome, accepted, refused}
 use Rattle.rules.specs.Set.{KmerSet, opened}
 use Rattle.rules.specs.Job.{lines}
 use Rattle.rules.specs.Calls.{callBy, givenCheck, batchRight, correctBatch}
@@ -61,13 +61,13 @@ pub inTurn :
     ∷ needs (asked [] (0 ∷ []) (9 ∷ []) (1 ∷ 1 ∷ []) (A ∷ 10 ∷ []) 2)
     ∷ needs (asked (set sampleBytes 520 7) (0 ∷ []) (9 ∷ []) (1 ∷ 1 ∷ []) (A ∷ 10 ∷ []) 3)
     ∷ needs (asked (set (set sampleBytes 520 6) 1016 183) (0 ∷ []) (9 ∷ []) (1 ∷ 1 ∷ []) (A ∷ 10 ∷ []) 3)
-    ∷ needs (asked sampleBytes (take 1023 sampleIndex) (9 ∷ []) (1 ∷ 1 ∷ []) (A ∷ 10 ∷ []) 9)
-    ∷ needs (asked sampleBytes sampleIndex (replicate 4 9) (1 ∷ 1 ∷ []) (A ∷ 10 ∷ []) 9)
+    ∷ needs (asked sampleBytes (0 ∷ []) (9 ∷ []) (1 ∷ 1 ∷ []) (A ∷ 10 ∷ []) 9)
+    ∷ needs (asked sampleBytes [] (replicate 4 9) (1 ∷ 1 ∷ []) (A ∷ 10 ∷ []) 9)
     ∷ [])
     ≡ (some (3, 1), replicate 1 1) ∷ (some (4, 1), replicate 1 1) ∷ (some (17, 0), replicate 1 1) ∷ (some (17, 0), replicate 1 1)
     ∷ (some (5, 0), replicate 1 1) ∷ (some (6, 0), replicate 2 1) ∷ (some (7, 0), replicate 2 1) ∷ (some (8, 1), replicate 3 1)
     ∷ (some (10, 1), replicate 3 1) ∷ (some (15, 0), replicate 9 1) ∷ (some (16, 0), replicate 9 1) ∷ []
-unfolding needsBy asked declinedWith sampleSet sampleIndex
+unfolding needsBy asked declinedWith sampleSet
 inTurn =
     λ i. map declinedWith
     (needsFor (asked [] (0 ∷ []) (9 ∷ []) (1 ∷ 0 ∷ 5 ∷ 1 ∷ []) (A ∷ A ∷ []) 1) (otherOpens .0) i
@@ -79,8 +79,8 @@ inTurn =
     ∷ needsFor (asked [] (0 ∷ []) (9 ∷ []) (1 ∷ 1 ∷ []) (A ∷ 10 ∷ []) 2) (otherOpens .0) i
     ∷ needsFor (asked (set sampleBytes 520 7) (0 ∷ []) (9 ∷ []) (1 ∷ 1 ∷ []) (A ∷ 10 ∷ []) 3) (otherOpens .1) i
     ∷ needsFor (asked (set (set sampleBytes 520 6) 1016 183) (0 ∷ []) (9 ∷ []) (1 ∷ 1 ∷ []) (A ∷ 10 ∷ []) 3) (otherOpens .3) i
-    ∷ needsFor (asked sampleBytes (take 1023 sampleIndex) (9 ∷ []) (1 ∷ 1 ∷ []) (A ∷ 10 ∷ []) 9) (sampleOpens .0) i
-    ∷ needsFor (asked sampleBytes sampleIndex (replicate 4 9) (1 ∷ 1 ∷ []) (A ∷ 10 ∷ []) 9) (sampleOpens .0) i
+    ∷ needsFor (asked sampleBytes (0 ∷ []) (9 ∷ []) (1 ∷ 1 ∷ []) (A ∷ 10 ∷ []) 9) (sampleOpens .0) i
+    ∷ needsFor (asked sampleBytes [] (replicate 4 9) (1 ∷ 1 ∷ []) (A ∷ 10 ∷ []) 9) (sampleOpens .0) i
     ∷ [])
 
 -- ---- what batches need
@@ -100,15 +100,15 @@ printedNeeds =
 abbrev pub threeLines : List ℕ
 threeLines = AACGCCG ++ (10 ∷ A ∷ A ∷ C ∷ C ∷ 10 ∷ A ∷ A ∷ C ∷ G ∷ 10 ∷ [])
 
--- Whatever is offered: nothing, the index, counts, both.
+-- The same with nothing offered, and with an index and counts.
 pub threeNeeds :
-    map (λ (offer : List ℕ × List ℕ). needs (asked sampleBytes (offer .0) (offer .1) (1 ∷ 1 ∷ []) threeLines 18))
-    (([], []) ∷ (sampleIndex, []) ∷ ([], replicate 5 9) ∷ (sampleIndex, replicate 5 9) ∷ [])
-    ≡ replicate 4 (record { answer = accepted (record { bytes = 19; turns = 7; lookups = 37 }); work = replicate 18 0 })
+    needs (asked sampleBytes [] [] (1 ∷ 1 ∷ []) threeLines 18) ∷ needs (asked sampleBytes sampleIndex (replicate 5 9) (1 ∷ 1 ∷ []) threeLines 18) ∷ []
+    ≡ replicate 2 (record { answer = accepted (record { bytes = 19; turns = 7; lookups = 37 }); work = replicate 18 0 })
 unfolding needsBy asked sampleSet sampleIndex
 threeNeeds =
-    λ i. map (λ (offer : List ℕ × List ℕ). needsFor (asked sampleBytes (offer .0) (offer .1) (1 ∷ 1 ∷ []) threeLines 18) (sampleOpens .0) i)
-    (([], []) ∷ (sampleIndex, []) ∷ ([], replicate 5 9) ∷ (sampleIndex, replicate 5 9) ∷ [])
+    λ i. needsFor (asked sampleBytes [] [] (1 ∷ 1 ∷ []) threeLines 18) (sampleOpens .0) i
+    ∷ needsFor (asked sampleBytes sampleIndex (replicate 5 9) (1 ∷ 1 ∷ []) threeLines 18) (sampleOpens .0) i
+    ∷ []
 
 -- The real call with an output of just those bytes is accepted, with these numbers.
 pub threeReal :
