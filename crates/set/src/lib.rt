@@ -1,6 +1,6 @@
 // The lookup, port of src/set.rs: the index of a k-mer's key, or that there is none (document 02, W8). A table says where the keys of each
 // prefix start; a search among those decides.
-use keys::Found;
+use few_keys::Found;
 use kmer::Header;
 use kmer::Kmer;
 ghost use mathlib.Core.Path.{_≡_};
@@ -12,7 +12,7 @@ ghost use Rattle.rules.specs.Index.{indexBlocks, indexCheck};
 ghost use Rattle.rules.specs.Letters.{canonical};
 ghost use Rattle.rules.specs.Scan as rules;
 ghost use Rattle.kmer.specs.Kmer.{Shifts, kmerOf, IsKmer};
-ghost use Rattle.keys.specs.Find.{Bracket, Answers};
+ghost use Rattle.few_keys.specs.Find.{Bracket, Answers};
 ghost use lib.Dec.{eqb};
 ghost use Rattle.set.specs.Ready as table;
 ghost use Rattle.set.specs.Ready.{tableLength, prefix, Below, Filled, InPrefix, LineOf, Table, Ready, Ranged};
@@ -94,9 +94,9 @@ fn in_few(set: &[u8], n: usize, range: Range) -> Found
     requires { ⌜ (setCheck (now set) ≡ none) × (range .from < range .end) × (range .end ≤ range .from + 4) × (range .end ≤ headerN (now set)) ⌝ }
     ensures { λ r. ⌜ Answers 0 (now (set .entry)) (range .key) (range .from) (range .end) r ⌝ }
 {
-    let skip = keys::place(range.from);
-    let stop = keys::place(range.end);
-    keys::in_few(&set[skip..stop], skip, range.key, n, range.from, range.end)
+    let skip = few_keys::place(range.from);
+    let stop = few_keys::place(range.end);
+    few_keys::in_few(&set[skip..stop], skip, range.key, n, range.from, range.end)
 }
 
 // Many keys of one prefix: the search gets the bytes from the span's first key up to the place of the key behind its last, so that it can read
@@ -107,8 +107,8 @@ fn in_many(set: &[u8], shift: u32, range: Range, span: Span) -> Found
         × (range .from < range .end) × (span .first ≤ range .from) × (range .end ≤ span .last) × (span .last ≤ headerN (now set)) ⌝ }
     ensures { λ r. ⌜ Answers 0 (now (set .entry)) (range .key) (span .first) (span .last) r ⌝ }
 {
-    let skip = keys::place(span.first);
-    let stop = keys::place(span.last);
+    let skip = few_keys::place(span.first);
+    let stop = few_keys::place(span.last);
     keys::find(
         &set[skip..stop],
         skip,
@@ -252,7 +252,7 @@ fn has_prefix(set: &[u8], shift: u32, prefix: usize, i: usize) -> bool
     requires { ⌜ (setCheck (now set) ≡ none) × (shift < 64) × (i < headerN (now set)) ⌝ }
     ensures { λ r. ⌜ r ≡ eqb (table.prefix shift (keyWord (now (set .entry)) i)) prefix ⌝ }
 {
-    prefix_of(keys::key_at(set, 0, i), shift) == prefix
+    prefix_of(few_keys::key_at(set, 0, i), shift) == prefix
 }
 
 // A few keys from key i on that have its prefix: any number is right. In a small set few keys have one prefix.
@@ -284,7 +284,7 @@ fn mark_ends(set: &[u8], n: usize, shift: u32, prefixes: usize, starts: &mut [u3
 {
     let mut i = 0;
     while i < n {
-        let prefix = prefix_of(keys::key_at(set, 0, i), shift);
+        let prefix = prefix_of(few_keys::key_at(set, 0, i), shift);
         let step = run(set, n, shift, prefix, i);
         starts[prefix + 1] = (i + step) as u32;
         i += step;
