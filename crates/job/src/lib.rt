@@ -84,7 +84,7 @@ pub fn correct_read(
         return Answer::Refused(Refusal::Counts);
     }
     let mut starts = [0u32; STARTS];
-    let head = set::prepare(set, index, k, n, read.len(), &mut starts);
+    let head = prepare::prepare(set, index, k, n, read.len(), &mut starts);
     correct_one(set, &starts, head, counts, job, read, output, work)
 }
 
@@ -122,6 +122,6 @@ pub fn correct_batch(
         return Answer::Refused(Refusal::Counts);
     }
     let mut starts = [0u32; STARTS];
-    let head = set::prepare(set, index, k, n, batch.len(), &mut starts);
+    let head = prepare::prepare(set, index, k, n, batch.len(), &mut starts);
     lines::correct_lines(set, &starts, head, counts, job, batch, output, work)
 }

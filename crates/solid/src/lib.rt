@@ -55,7 +55,7 @@ pub fn count_solid(set: &[u8], read: &[u8]) -> Count
         return Count::Solid(0, 0);
     }
     let mut starts = [0u32; STARTS];
-    let head = set::prepare(set, b"", k, n, read.len(), &mut starts);
+    let head = prepare::prepare(set, b"", k, n, read.len(), &mut starts);
     let solid = count_kmers(set, &starts, head, read);
     Count::Solid((read.len() - k + 1) as u64, solid)
 }
