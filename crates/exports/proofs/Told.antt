@@ -15,9 +15,9 @@ use Rattle.rules.specs.MakeSet.{SetMade}
 use Rattle.refusal.specs.declared.Refusal.{Refusal}
 use Rattle.refusal.specs.declared.Refusal.the-variants as Refusals
 use Rattle.refusal.specs.Refusal.{refusalOf}
-use Rattle.blocks.specs.declared.Opened.the-variants.{Set, Refused}
-use Rattle.blocks.specs.Opened.{Opens}
-use Rattle.blocks.proofs.Opening.{set-k}
+use Rattle.opening.specs.declared.Opened.the-variants.{Set, Refused}
+use Rattle.opening.specs.Opened.{Opens}
+use Rattle.opening.proofs.Opening.{set-k}
 use Rattle.set.proofs.Opened.{set-count}
 use Rattle.report.specs.declared.Answer.{Answer}
 use Rattle.report.specs.declared.Answer.the-variants as Answers

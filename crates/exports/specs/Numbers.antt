@@ -14,8 +14,8 @@ use Rattle.rules.specs.Calls.{After}
 use Rattle.rules.specs.Solid.{Solids}
 use Rattle.rules.specs.Blocks.{Made}
 use Rattle.rules.specs.MakeSet.{SetMade}
-use Rattle.blocks.specs.declared.Opened.{Opened}
-use Rattle.blocks.specs.Opened.{Opens}
+use Rattle.opening.specs.declared.Opened.{Opened}
+use Rattle.opening.specs.Opened.{Opens}
 
 -- A support: supported (1 or 0), and the smallest count, 0 where there is none.
 abbrev pub supportNumbers : Option ℕ → List ℕ

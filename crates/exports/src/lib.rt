@@ -1,7 +1,7 @@
 // The calls of documents 01 and 02 for C and Rust: a slice passes as pointer and length, and what a call answers stands as numbers in a lent slice.
 // corrector.h says the same for a host.
-use blocks::Opened;
 use lay::Made;
+use opening::Opened;
 use refusal::Refusal;
 use report::Answer;
 use solid::Count;
@@ -127,7 +127,7 @@ fn tell_answer(done: Answer, answer: &mut [u64]) -> u64
 pub extern "C" fn corrector_open(set: &[u8], answer: &mut [u64]) -> u64
     ensures { λ r. ⌜ Told (openNumbers (opened (now (set .entry)))) (now (answer .entry)) r (now (answer .exit)) ⌝ }
 {
-    let numbers = open_numbers(blocks::open(set));
+    let numbers = open_numbers(opening::open(set));
     tell(&numbers, answer)
 }
 

@@ -1,6 +1,6 @@
 use mathlib.Core.Path.{_∙_, subst}
 use borrow.Author.Needs.{needs}
-use Rattle.blocks.specs.Opened.{Opens}
+use Rattle.opening.specs.Opened.{Opens}
 use Rattle.exports.proofs.Told.{set-numbers, refused-numbers}
 use Rattle.exports.proofs.open_numbers.Statement.{statement}
 use Rattle.exports.proofs.open_numbers.Tie as tie
