@@ -2,10 +2,10 @@ use Prim.Native.Nat.{ℕ}
 use mathlib.Core.Path.{ap}
 use mathlib.Core.List.{List, _∷_}
 use borrow.Author.Needs.{needs}
-use Rattle.exports.specs.Numbers.{numbersOf}
-use Rattle.exports.proofs.Told.{support-told}
-use Rattle.exports.proofs.numbers_of.Statement.{statement}
-use Rattle.exports.proofs.numbers_of.Tie as tie
+use Rattle.answer_numbers.specs.Numbers.{numbersOf}
+use Rattle.answer_numbers.proofs.Numbers.{support-told}
+use Rattle.answer_numbers.proofs.numbers_of.Statement.{statement}
+use Rattle.answer_numbers.proofs.numbers_of.Tie as tie
 
 enum-known-answer : tie.Need-enum-known-answer
 enum-known-answer c = search needs

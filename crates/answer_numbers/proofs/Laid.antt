@@ -9,7 +9,7 @@ use lib.Dec.{leb}
 use borrow.Author.Tests.{leb-true, leb-false}
 use lib.ListN.{length, getD, take, drop, set, length-append, length-take, length-drop, drop-of-length-le, List·getD-append}
 use lib.Seq.{take-all, take-suc, drop-cons, set-at, length-take-le, getD-take}
-use Rattle.exports.specs.Numbers.{laid}
+use Rattle.answer_numbers.specs.Numbers.{laid}
 
 -- The first i of the numbers before what was there.
 abbrev pub begun : ℕ → List ℕ → List ℕ → List ℕ

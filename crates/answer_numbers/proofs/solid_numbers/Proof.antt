@@ -1,7 +1,7 @@
 use borrow.Author.Needs.{needs}
-use Rattle.exports.specs.Numbers.{solidNumbers}
-use Rattle.exports.proofs.solid_numbers.Statement.{statement}
-use Rattle.exports.proofs.solid_numbers.Tie as tie
+use Rattle.answer_numbers.specs.Numbers.{solidNumbers}
+use Rattle.answer_numbers.proofs.solid_numbers.Statement.{statement}
+use Rattle.answer_numbers.proofs.solid_numbers.Tie as tie
 
 enum-known-count : tie.Need-enum-known-count
 enum-known-count c = search needs

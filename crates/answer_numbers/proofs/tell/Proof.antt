@@ -2,9 +2,9 @@ use Prim.Native.Nat.{_≤_, _-_, min}
 use mathlib.Core.Path.{_≡_, refl, _∙_}
 use lib.ListN.{length}
 use borrow.Author.Needs.{needs}
-use Rattle.exports.proofs.Laid.{begun, one-more, begun-all}
-use Rattle.exports.proofs.tell.Statement.{statement}
-use Rattle.exports.proofs.tell.Tie as tie
+use Rattle.answer_numbers.proofs.Laid.{begun, one-more, begun-all}
+use Rattle.answer_numbers.proofs.tell.Statement.{statement}
+use Rattle.answer_numbers.proofs.tell.Tie as tie
 
 abbrev Inv-loop : tie.InvT-loop
 Inv-loop numbers answer₀ end i₀ answer i =

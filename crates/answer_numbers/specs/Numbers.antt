@@ -1,5 +1,5 @@
 -- What a host is told: a call's answer as numbers in a lent slice.
-use Prim.Native.Nat.{ℕ, _≤_}
+use Prim.Native.Nat.{ℕ}
 use mathlib.Core.Path.{_≡_}
 use mathlib.Core.Bool.{Bool, true, false}
 use mathlib.Core.Option.{Option, none, some}
@@ -8,12 +8,7 @@ use lib.ListN.{length, getD, take, drop}
 use Rattle.rules.specs.Refusal.{Refusal, Outcome, accepted, refused}
 use Rattle.rules.specs.Report.{Report}
 use Rattle.rules.specs.Set.{KmerSet, opened}
-use Rattle.rules.specs.Job.{Entry}
-use Rattle.rules.specs.Counts.{Demand3}
-use Rattle.rules.specs.Calls.{After}
 use Rattle.rules.specs.Solid.{Solids}
-use Rattle.rules.specs.Blocks.{Made}
-use Rattle.rules.specs.MakeSet.{SetMade}
 use Rattle.opening.specs.declared.Opened.{Opened}
 use Rattle.opening.specs.Opened.{Opens}
 
@@ -64,24 +59,3 @@ laid numbers old = take (length old) numbers ++ drop (length numbers) old
 pub record Told (numbers old : List ℕ) (r : ℕ) (new : List ℕ) : Type 0 where
   pub returned : r ≡ getD numbers 0 0
   pub answer : new ≡ laid numbers old
-
--- Every number and each lent byte are those of the rules.
-pub record Exact (after : After) (old : List ℕ) (r : ℕ) (o w new : List ℕ) : Type 0 where
-  pub told : Told (numbersOf (after .answer)) old r new
-  pub output : o ≡ after .output
-  pub work : w ≡ after .work
-
--- Demand 3, of an accepted call: turns and lookups are numbers 3 and 4 of an answer that has so many.
-abbrev pub Ceiling : KmerSet → List Entry → List (List ℕ) → ℕ → List ℕ → Type 0
-Ceiling set es reads r new = r ≡ 0 → 5 ≤ length new → Demand3 set es reads (getD new 3 0) (getD new 4 0)
-
--- A maker of blocks: its numbers and every byte of the lent buffer are those of the rules.
-pub record MadeExact (made : Made) (old : List ℕ) (r : ℕ) (b new : List ℕ) : Type 0 where
-  pub told : Told (madeNumbers (made .answer)) old r new
-  pub buffer : b ≡ made .buffer
-
--- The maker of the set file: its numbers, every byte of the lent blocks and every number of the lent list of counts are those of the rules.
-pub record SetMadeExact (made : SetMade) (old : List ℕ) (r : ℕ) (b c new : List ℕ) : Type 0 where
-  pub told : Told (madeNumbers (made .answer)) old r new
-  pub blocks : b ≡ made .blocks
-  pub counts : c ≡ made .counts

@@ -1,9 +1,9 @@
 use mathlib.Core.Path.{_∙_, subst}
 use borrow.Author.Needs.{needs}
 use Rattle.opening.specs.Opened.{Opens}
-use Rattle.exports.proofs.Told.{set-numbers, refused-numbers}
-use Rattle.exports.proofs.open_numbers.Statement.{statement}
-use Rattle.exports.proofs.open_numbers.Tie as tie
+use Rattle.answer_numbers.proofs.Numbers.{set-numbers, refused-numbers}
+use Rattle.answer_numbers.proofs.open_numbers.Statement.{statement}
+use Rattle.answer_numbers.proofs.open_numbers.Tie as tie
 
 enum-known-opened : tie.Need-enum-known-opened
 enum-known-opened c = search needs

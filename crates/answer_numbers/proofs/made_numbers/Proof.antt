@@ -1,7 +1,7 @@
 use borrow.Author.Needs.{needs}
-use Rattle.exports.specs.Numbers.{madeNumbers}
-use Rattle.exports.proofs.made_numbers.Statement.{statement}
-use Rattle.exports.proofs.made_numbers.Tie as tie
+use Rattle.answer_numbers.specs.Numbers.{madeNumbers}
+use Rattle.answer_numbers.proofs.made_numbers.Statement.{statement}
+use Rattle.answer_numbers.proofs.made_numbers.Tie as tie
 
 enum-known-made : tie.Need-enum-known-made
 enum-known-made c = search needs

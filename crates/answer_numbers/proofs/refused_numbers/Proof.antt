@@ -1,6 +1,6 @@
 use borrow.Author.Needs.{needs}
-use Rattle.exports.proofs.refused_numbers.Statement.{statement}
-use Rattle.exports.proofs.refused_numbers.Tie as tie
+use Rattle.answer_numbers.proofs.refused_numbers.Statement.{statement}
+use Rattle.answer_numbers.proofs.refused_numbers.Tie as tie
 
 number-of-requires : tie.Need-number-of-requires
 number-of-requires c κs = search needs
