@@ -3,7 +3,7 @@ use correct::Counts;
 use correct::Pass;
 use input::Input;
 use kmer::Header;
-use opening::Opening;
+use offered::Offered;
 use refusal::Refusal;
 use set::STARTS;
 ghost use mathlib.Core.Path.{_≡_};
@@ -112,9 +112,9 @@ pub fn needs(
         return Answer::Refused(Refusal::Batch);
     }
     let mut starts = [0u32; STARTS];
-    let opening = opening::open(set, index, counts, batch.len(), &mut starts);
-    let Opening::Ready(head) = opening else {
-        return Answer::Refused(opening::refused(opening));
+    let opened = offered::open(set, index, counts, batch.len(), &mut starts);
+    let Offered::Ready(head) = opened else {
+        return Answer::Refused(offered::refused(opened));
     };
     count_lines(set, &starts, head, counts, job, batch, work)
 }

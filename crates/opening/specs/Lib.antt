@@ -1,1 +1,1 @@
-pub mod Opening
+pub mod Opened

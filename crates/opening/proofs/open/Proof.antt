@@ -1,111 +1,95 @@
-use Prim.Native.Nat.{ℕ}
+use Prim.Native.Nat.{_%_, _≤_}
+use native.Mathlib.Omega.{arith}
 use mathlib.Core.Path.{_≡_, sym, ap, _∙_}
-use mathlib.Core.Bool.{Bool, true}
-use mathlib.Core.Option.{none, some}
-use mathlib.Core.Logic.{inl, inr}
+use mathlib.Core.Bool.{true}
+use mathlib.Core.Logic.{⊎-elim}
+use lib.ListN.{length}
 use borrow.Author.Needs.{needs}
-use borrow.Author.Tests.{not-true, not-false}
-use Rattle.rules.specs.Refusal.{accepted, _orElse_, unless}
-use Rattle.rules.specs.Set.{setOf, opened}
-use Rattle.rules.specs.Index.{indexCheck}
-use Rattle.rules.specs.Calls.{countsCheck, offerCheck}
-use Rattle.blocks.proofs.Opening.{is-refused, set-opened, set-checked, set-refused}
-use Rattle.index.specs.Index.{Opens}
-use Rattle.set.proofs.Opened.{set-count}
+use borrow.Author.Tests.{eqb-true, eqb-false, not-true, not-false}
+use Rattle.rules.specs.Refusal.{atPlace}
+use Rattle.rules.specs.Set as Rules
+use Rattle.refusal.specs.declared.Refusal.the-variants.{Header}
+use Rattle.blocks.proofs.First.{passed, failed}
+use Rattle.opening.proofs.Opening.{length-right, length-zero, length-odd, refused-by, at-7, at-8, at-9, after-8}
 use Rattle.opening.proofs.open.Statement.{statement}
 use Rattle.opening.proofs.open.Tie as tie
 
-abbrev start : tie.After-known-told → tie.Start
-start c = c .before .before .before .before .before .before .before .before
+whole : (c : tie.Else2) → length (c .before .before .before .args .set .now) % 512 ≡ 0
+whole c = eqb-true _ _ (not-false _ (c .if2 .left))
 
-open-requires : tie.Need-open-requires
-open-requires c κs = search needs
+long : (c : tie.Else2) → 512 ≤ length (c .before .before .before .args .set .now)
+long c = omega (arith, whole c)
 
-enum-known-opened : tie.Need-enum-known-opened
-enum-known-opened c = search needs
+after-7 : (c : tie.Else2) → Rules.lengthRight (c .before .before .before .args .set .now) ≡ true
+after-7 c = length-right _ (search needs) (whole c)
 
-enum-told : tie.Need-enum-told
-enum-told c = search needs
-
-refused-requires : tie.Need-refused-requires
-refused-requires c κs = is-refused (c .enum-told .given .1)
+first-right : (c : tie.Else3) → Rules.checkRight (c .before .before .before .before .before .args .set .now) 0 ≡ true
+first-right c = sym (c .before .check-right .ensures) ∙ not-false _ (c .if3 .left)
 
 returns : tie.Need-returns
-returns c = inl (set-refused _ _ _ (c .refused .ensures) (c .before .before .before .«open» .ensures))
+returns c =
+    refused-by _ _ (at-7 _ (⊎-elim (λ w. length-zero _ (w .taken)) (λ w. length-odd _ (eqb-false _ _ (not-true _ (w .1 .taken)))) (c .if1 .came)))
 
--- The set opens.
-opens : (c : tie.After-known-told) → (let a = start c .args in opened (a .set .now) ≡ accepted (setOf (a .set .now)))
-opens c = set-opened _ _ _ _ (c .before .opened .given .1) (c .before .before .before .«open» .ensures)
-
-checked : (c : tie.After-known-told) → (let o = c .before .opened .given .0 in Opens (start c .args .set .now) (o .0) (o .1 .0))
-checked c =
-    let t = set-checked _ _ _ _ (c .before .opened .given .1) (c .before .before .before .«open» .ensures) in
-    record { right = t .0; k-is = t .1; n-is = t .2 }
-
-check-index-requires : tie.Need-check-index-requires
-check-index-requires c κs = checked c
+check-right-requires : tie.Need-check-right-requires
+check-right-requires c κs = long c
 
 returns-2 : tie.Need-returns-2
-unfolding unless offerCheck _orElse_
+unfolding atPlace Rules.blocks
 returns-2 c =
-    let i = c .before in
-    let wrong = sym (i .check-index .ensures) ∙ ap (λ (t : Bool). unless t 15) (not-true (i .check-index .result) (c .if1 .taken)) in
-    inr (opens (i .before), rw wrong)
+    let e = c .before .before in
+    let l = long e in
+    let wrong = sym (c .before .check-right .ensures) ∙ not-true _ (c .if3 .taken) in
+    refused-by _ _ (at-8 _ (after-7 e) _ (ap (atPlace 8) (failed _ 0 _ (search needs) wrong)))
 
--- The index passes.
-passes : (c : tie.Else1) → (let a = start (c .before .before) .args in indexCheck (setOf (a .set .now)) (a .index .now) ≡ none)
-unfolding unless
-passes c = sym (c .before .check-index .ensures) ∙ ap (λ (t : Bool). unless t 15) (not-false (c .before .check-index .result) (c .if1 .left))
+block-word-requires : tie.Need-block-word-requires
+block-word-requires c κs = let l = long (c .before .before) in search needs
 
-check-counts-requires : tie.Need-check-counts-requires
-check-counts-requires c κs = search needs
+block-word-requires-2 : tie.Need-block-word-requires-2
+block-word-requires-2 c κs = let l = long (c .before .before .before) in search needs
 
--- What 16 says.
-sixteen : (c : tie.After-check-counts)
-    → (let a = start (c .before .before .before) .args in unless (c .check-counts .result) 16 ≡ countsCheck (setOf (a .set .now)) (a .counts .now))
-sixteen c =
-    let a = start (c .before .before .before) .args in
-    c .check-counts .ensures (setOf (a .set .now)) (set-count (a .set .now) ∙ sym (checked (c .before .before .before) .n-is))
+header-right-requires : tie.Need-header-right-requires
+unfolding Rules.headerK Rules.headerN
+header-right-requires c κs = (long (c .before .before .before .before), c .before .block-word .ensures, c .block-word2 .ensures)
+
+check-blocks-requires : tie.Need-check-blocks-requires
+check-blocks-requires c κs = search needs
 
 returns-3 : tie.Need-returns-3
-unfolding unless offerCheck _orElse_
+unfolding Rules.blocks
 returns-3 c =
-    let k = c .before in
-    let i = k .before in
-    let wrong = sym (sixteen k) ∙ ap (λ (t : Bool). unless t 16) (not-true (k .check-counts .result) (c .if2 .taken)) in
-    inr (opens (i .before .before), rw (passes i, wrong))
+    let t = c .before .before in
+    let f = t .before .before .before in
+    let e = f .before .before in
+    let l = long e in
+    let wrong = sym (t .header-right .ensures) ∙ not-true _ (c .before .if4 .taken) in
+    rw (c .check-blocks .ensures)
+    (after-8 _ (after-7 e) Header (λ right. refused-by _ _ (at-9 _ (after-7 e) right wrong)) _ (passed _ 0 _ (search needs) (first-right f)))
 
-prepare-requires : tie.Need-prepare-requires
-prepare-requires c κs =
-    let i = c .before .before .before in
-    let t = checked (i .before .before) in
-    (t .right, t .k-is, t .n-is, start (i .before .before) .pre, passes i)
-
-same-length : tie.Need-same-length
-same-length c = search needs
+check-keys-requires : tie.Need-check-keys-requires
+unfolding Rules.headerK Rules.headerN
+check-keys-requires c κs =
+    let f = c .before .before .before .before in (
+      after-7 (f .before .before),
+      first-right f,
+      sym (c .before .header-right .ensures) ∙ not-false _ (c .if4 .left),
+      c .before .before .before .block-word .ensures,
+      c .before .before .block-word2 .ensures,
+    )
 
 returns-4 : tie.Need-returns-4
-unfolding unless offerCheck _orElse_
-returns-4 c =
-    let p = c .before .before in
-    let e = p .before .before in
-    let i = e .before .before in
-    let pass = sym (sixteen (e .before)) ∙ ap (λ (t : Bool). unless t 16) (not-false (e .before .check-counts .result) (e .if2 .left)) in
-    (opens (i .before .before), rw (passes i, pass), p .prepare .ensures .0)
+returns-4 c = search needs
 
 pub open-spec : {M : Type 1} → statement M
 open-spec =
     tie.close
     (tie.spec
-    open-requires
-    enum-known-opened
-    enum-told
-    refused-requires
     returns
-    check-index-requires
+    check-right-requires
     returns-2
-    check-counts-requires
+    block-word-requires
+    block-word-requires-2
+    header-right-requires
+    check-blocks-requires
     returns-3
-    prepare-requires
-    same-length
+    check-keys-requires
     returns-4)
