@@ -101,9 +101,9 @@ pub fn needs_numbers(answer: needs::Answer) -> [u64; 5]
 {
     match answer {
         needs::Answer::Need(need) => [0, 0, need.bytes as u64, need.turns, need.lookups],
-        needs::Answer::Refused(refusal) => [
-            refusal::number_of(refusal),
-            refusal::place_of(refusal),
+        needs::Answer::Refused(reason) => [
+            refusal::number_of(reason),
+            refusal::place_of(reason),
             0,
             0,
             0,
