@@ -1,3 +1,1 @@
 pub mod Flat
-pub mod Keys
-pub mod Opened

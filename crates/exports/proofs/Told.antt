@@ -1,13 +1,11 @@
 -- What a host is told is what the rules say.
 use Prim.Native.Nat.{ℕ, _<_}
 use native.Mathlib.Omega.{arith}
-use mathlib.Core.Path.{_≡_, refl, ap, _∙_, subst}
-use mathlib.Core.Bool.{Bool, true, false}
-use mir.Val.{boolByte as bit}
-use mathlib.Core.List.{List, [], _∷_}
+use mathlib.Core.Path.{_≡_, ap, _∙_, subst}
+use mathlib.Core.List.{List}
 use lib.ListN.{length}
 use Rattle.rules.specs.Refusal.{Outcome}
-use Rattle.rules.specs.Set.{KmerSet, opened}
+use Rattle.rules.specs.Set.{KmerSet}
 use Rattle.rules.specs.Job.{Entry}
 use Rattle.rules.specs.Calls.{After}
 use Rattle.rules.specs.Blocks.{Made}
@@ -15,27 +13,13 @@ use Rattle.rules.specs.MakeSet.{SetMade}
 use Rattle.refusal.specs.declared.Refusal.{Refusal}
 use Rattle.refusal.specs.declared.Refusal.the-variants as Refusals
 use Rattle.refusal.specs.Refusal.{refusalOf}
-use Rattle.blocks.specs.declared.Opened.the-variants.{Set, Refused}
-use Rattle.blocks.specs.Opened.{Opens}
-use Rattle.blocks.proofs.Opening.{set-k}
-use Rattle.set.proofs.Opened.{set-count}
 use Rattle.report.specs.declared.Answer.{Answer}
 use Rattle.report.specs.declared.Answer.the-variants as Answers
 use Rattle.report.specs.Answer as Report
-use Rattle.report.specs.Answer.{supportTold, answerOf}
-use Rattle.exports.specs.Numbers.{supportNumbers, supportNumber, numbersOf, refusedNumbers, openNumbers, madeNumbers, Told, Exact, Ceiling, MadeExact, SetMadeExact}
-use Rattle.exports.proofs.Laid.{laid-there, laid-length}
-
--- ---- opening
-
-module _ (bytes : List ℕ) where
-  pub set-numbers : (k n : ℕ) → Opens bytes (Set k n) → (0 ∷ 0 ∷ k ∷ n ∷ []) ≡ openNumbers (opened bytes)
-  unfolding openNumbers
-  set-numbers k n t = rw (t .0, set-k bytes (t .1), t .2, set-count bytes)
-
-  pub refused-numbers : (r : Refusal) → Opens bytes (Refused r) → refusedNumbers (refusalOf r) ≡ openNumbers (opened bytes)
-  unfolding openNumbers
-  refused-numbers r t = rw t
+use Rattle.report.specs.Answer.{answerOf}
+use Rattle.answer_numbers.specs.Numbers.{numbersOf, madeNumbers, Told}
+use Rattle.exports.specs.Calls.{Exact, Ceiling, MadeExact, SetMadeExact}
+use Rattle.answer_numbers.proofs.Laid.{laid-there, laid-length}
 
 pub told-by : {ns ms old new : List ℕ} {r : ℕ} → ns ≡ ms → Told ns old r new → Told ms old r new
 told-by {ns} {ms} {old} {new} {r} e t = subst (λ (l : List ℕ). Told l old r new) e t
@@ -53,12 +37,6 @@ told-set a n t e = record {
   blocks = ap (λ (m : SetMade). m .blocks) e;
   counts = ap (λ (m : SetMade). m .counts) e;
 }
-
--- ---- a support
-
-pub support-told : (supported : Bool) (v : ℕ) → bit supported ∷ supportNumber supported v ∷ [] ≡ supportNumbers (supportTold supported v)
-support-told true v = refl
-support-told false v = refl
 
 -- ---- a call: the code's answer a, told as r and new
 

@@ -21,7 +21,7 @@ use Rattle.rules.proofs.Keys.{none-fails, is-none, keys-length, keys-at, checke
 use Rattle.rules.proofs.Blocks.{Bytes}
 use Rattle.rules.proofs.MakeSet.{none-failing}
 use Rattle.rules.proofs.Index as Rules
-use Rattle.blocks.proofs.Opening.{set-k}
+use Rattle.opening.proofs.Opening.{set-k}
 use Rattle.index.specs.Index.{wordRight}
 
 -- ---- sizes

@@ -12,7 +12,7 @@ use Rattle.rules.specs.Blocks.{blocksFor, blocksFrom, unmade}
 use Rattle.rules.specs.Index.{indexEntry, entriesFrom, indexEntries, indexList, indexBlocks, makeIndex}
 use Rattle.rules.proofs.Blocks.{Bytes, blocks-length}
 use Rattle.rules.proofs.Index.{entries-length, entries-rise, list-length, list-words}
-use Rattle.blocks.proofs.Opening.{set-k}
+use Rattle.opening.proofs.Opening.{set-k}
 use Rattle.lay.specs.Lay.{Put, Sealed, Holds, Extended}
 use Rattle.lay.proofs.Laws.{extended-none, extended-more, holds-none, sealed-is, cleared-length, laid-short, laid-fits}
 use Rattle.index.specs.Index.{Opens}

@@ -1,6 +1,6 @@
 // Document 02, W7: the index by first letters, made from a set, and an offered one checked against it.
-use blocks::Opened;
 use lay::Made;
+use opening::Opened;
 use refusal::Refusal;
 ghost use mathlib.Core.Path.{_≡_};
 ghost use mathlib.Core.Option.{none};
@@ -101,9 +101,9 @@ fn write(set: &[u8], k: usize, n: usize, count: usize, blocks: &mut [u8])
 pub fn make_index(set: &[u8], blocks: &mut [u8]) -> Made
     ensures { λ r. ⌜ madeOf r (now (blocks .exit)) ≡ makeIndex (now (set .entry)) (now (blocks .entry)) ⌝ }
 {
-    let opened = blocks::open(set);
+    let opened = opening::open(set);
     let Opened::Set(k, n) = opened else {
-        return Made::Refused(blocks::refused(opened));
+        return Made::Refused(opening::refused(opened));
     };
     let count = block_count(k);
     if blocks.len() < 512 * count {

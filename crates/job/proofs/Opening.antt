@@ -16,7 +16,7 @@ use Rattle.report.specs.declared.Answer.{Answer}
 use Rattle.report.specs.declared.Answer.the-variants.{Refused}
 use Rattle.report.specs.Answer.{Exact, Ceiling}
 use Rattle.refusal.specs.Refusal.{refusalOf}
-use Rattle.report.proofs.Calls.{call-refused, call-not-opened, call-index-wrong, call-counts-wrong, call-opened}
+use Rattle.rules.proofs.Calls.{call-refused, call-not-opened, call-index-wrong, call-counts-wrong, call-opened}
 use Rattle.report.proofs.Exact.{refused-exact, under-ceiling}
 
 -- ---- the two calls, by what the checks of the input say

@@ -1,8 +1,8 @@
 // The calls of document 01: a single read, and a batch.
-use blocks::Opened;
 use correct::Pass;
 use input::Input;
 use kmer::Header;
+use opening::Opened;
 use refusal::Refusal;
 use report::Answer;
 use set::STARTS;
@@ -73,9 +73,9 @@ pub fn correct_read(
     let Input::Fine = checked else {
         return Answer::Refused(input::refused(checked));
     };
-    let opened = blocks::open(set);
+    let opened = opening::open(set);
     let Opened::Set(k, n) = opened else {
-        return Answer::Refused(blocks::refused(opened));
+        return Answer::Refused(opening::refused(opened));
     };
     if !index::check_index(set, k, n, index) {
         return Answer::Refused(Refusal::Index);
@@ -84,7 +84,7 @@ pub fn correct_read(
         return Answer::Refused(Refusal::Counts);
     }
     let mut starts = [0u32; STARTS];
-    let head = set::prepare(set, index, k, n, read.len(), &mut starts);
+    let head = prepare::prepare(set, index, k, n, read.len(), &mut starts);
     correct_one(set, &starts, head, counts, job, read, output, work)
 }
 
@@ -111,9 +111,9 @@ pub fn correct_batch(
     if !input::check_batch(batch) {
         return Answer::Refused(Refusal::Batch);
     }
-    let opened = blocks::open(set);
+    let opened = opening::open(set);
     let Opened::Set(k, n) = opened else {
-        return Answer::Refused(blocks::refused(opened));
+        return Answer::Refused(opening::refused(opened));
     };
     if !index::check_index(set, k, n, index) {
         return Answer::Refused(Refusal::Index);
@@ -122,6 +122,6 @@ pub fn correct_batch(
         return Answer::Refused(Refusal::Counts);
     }
     let mut starts = [0u32; STARTS];
-    let head = set::prepare(set, index, k, n, batch.len(), &mut starts);
+    let head = prepare::prepare(set, index, k, n, batch.len(), &mut starts);
     lines::correct_lines(set, &starts, head, counts, job, batch, output, work)
 }

@@ -15,24 +15,8 @@ use Rattle.rules.specs.MakeSet.{textLines, textKeys, textCounts, linesCheck, te
 use Rattle.rules.proofs.Opened.{passed, unless-passed}
 use Rattle.rules.proofs.Blocks.{blocks-length}
 use Rattle.rules.proofs.MakeSet.{text-counts-length}
-use Rattle.refusal.specs.declared.Refusal.{Refusal as Reason}
-use Rattle.make_set.specs.declared.Judged.{Judged}
-use Rattle.make_set.specs.declared.Judged.the-variants.{Refused}
-use Rattle.make_set.specs.Make.{IsRefused}
-
-pub is-refused : {judged : Judged} {r : Reason} → judged ≡ Refused r → IsRefused judged
-is-refused e = rw e tt
 
 module _ (text : List ℕ) (k least : ℕ) where
-  pub text-passed : textCheck text k least ≡ none → (kRight k ≡ true) × (linesCheck k least 0 none (textLines text) ≡ none) × (length (textKeys k least text) ≤ maxKeys)
-  unfolding textCheck
-  text-passed h =
-      let lines-right : Check = linesCheck k least 0 none (textLines text) in
-      let few : Check = unless (leb (length (textKeys k least text)) maxKeys) 9 in
-      let a = passed (unless (kRight k) 9) (lines-right orElse few) h in
-      let b = passed lines-right few (a .1) in
-      (unless-passed (kRight k) 9 (a .0), b .0, leb-true (length (textKeys k least text)) maxKeys (unless-passed (leb (length (textKeys k least text)) maxKeys) 9 (b .1)))
-
   pub at-k : kRight k ≡ false → textCheck text k least ≡ some (record { number = 9; place = 0 })
   unfolding textCheck unless
   at-k e = rw e

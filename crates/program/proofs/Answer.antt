@@ -15,7 +15,7 @@ use Rattle.rules.specs.Calls.{Given, withoutIndex, After, unchanged, noRoom, to
 use Rattle.rules.specs.Program.{zeros, refusalLine, countsLine, printedFor}
 use Rattle.refusal.specs.declared.Refusal.{Refusal as Refused·by}
 use Rattle.refusal.specs.Refusal.{refusalOf}
-use Rattle.report.proofs.Calls.{corrected-full, corrected-fits, call-refused, call-not-opened, call-index-wrong, call-counts-wrong, call-opened}
+use Rattle.rules.proofs.Calls.{corrected-full, corrected-fits, call-refused, call-not-opened, call-index-wrong, call-counts-wrong, call-opened}
 use Rattle.report.specs.declared.Report.{Report}
 use Rattle.report.specs.declared.Answer.{Answer}
 use Rattle.report.specs.declared.Answer.the-variants.{Report as Reported, Refused}

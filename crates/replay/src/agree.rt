@@ -1,7 +1,7 @@
 // What the library answers and leaves, against a record.
 ghost use Prim.Native.Nat.{_<_};
 use crate::list::number;
-use blocks::Opened;
+use opening::Opened;
 use refusal::Refusal;
 use report::Answer;
 use report::Report;
@@ -22,7 +22,7 @@ fn refusal_agrees(refusal: Refusal, record: &[u8; 64]) -> bool {
 }
 
 pub fn open_agrees(set: &[u8], record: &[u8; 64]) -> bool {
-    match blocks::open(set) {
+    match opening::open(set) {
         Opened::Set(k, n) => pair_is(record, 8, 0, 0) && pair_is(record, 10, k as u64, n as u64),
         Opened::Refused(refusal) => refusal_agrees(refusal, record),
     }

@@ -12,10 +12,10 @@ use Rattle.rules.specs.Letters.{canonical}
 use Rattle.rules.specs.Set.{KmerSet, headerK, headerN, keyWord, setOf, setCheck, lookup, isNone, solid}
 use Rattle.rules.proofs.Keys.{keys-length, keys-at}
 use Rattle.rules.proofs.Lookup.{lookup-at, lookup-is, lookup-none}
-use Rattle.keys.specs.declared.Found.{Found}
-use Rattle.keys.specs.declared.Found.the-variants.{At, Nothing}
-use Rattle.keys.specs.Find.{Answers}
-use Rattle.keys.proofs.Part.{key-whole}
+use Rattle.few_keys.specs.declared.Found.{Found}
+use Rattle.few_keys.specs.declared.Found.the-variants.{At, Nothing}
+use Rattle.few_keys.specs.Find.{Answers}
+use Rattle.few_keys.proofs.Part.{key-whole}
 use Rattle.set.specs.Found.{indexOf, isKey, placeIn}
 use Rattle.set.proofs.Opened.{opened-keys-rising}
 

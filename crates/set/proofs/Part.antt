@@ -7,10 +7,10 @@ use mathlib.Core.List.{List}
 use lib.ListN.{length, take, drop, length-drop}
 use lib.Seq.{length-take-le}
 use Rattle.rules.specs.Set.{headerN, setCheck}
-use Rattle.keys.specs.declared.Found.{Found}
-use Rattle.keys.specs.declared.Found.the-variants.{At, Nothing}
-use Rattle.keys.specs.Find.{place, keyIn, Sorted, Bracket, Answers}
-use Rattle.keys.proofs.Part.{key-whole, key-part}
+use Rattle.few_keys.specs.declared.Found.{Found}
+use Rattle.few_keys.specs.declared.Found.the-variants.{At, Nothing}
+use Rattle.few_keys.specs.Find.{place, keyIn, Sorted, Bracket, Answers}
+use Rattle.few_keys.proofs.Part.{key-whole, key-part}
 use Rattle.set.proofs.Table.{opened-sorted}
 
 module _ (bytes : List ℕ) (opens : setCheck bytes ≡ none) (first last : ℕ) (some : first < last) (within : last ≤ headerN bytes) where

@@ -2,8 +2,8 @@
 use Prim.Native.Nat.{ℕ}
 use mathlib.Core.Bool.{Bool, true, false}
 use mathlib.Core.Option.{Option, none, some}
-use Rattle.keys.specs.declared.Found.{Found}
-use Rattle.keys.specs.declared.Found.the-variants.{At, Nothing}
+use Rattle.few_keys.specs.declared.Found.{Found}
+use Rattle.few_keys.specs.declared.Found.the-variants.{At, Nothing}
 
 -- The key's index, or that there is none.
 abbrev pub indexOf : Found → Option ℕ

@@ -16,7 +16,7 @@ use Rattle.rules.specs.Refusal.{Refusal, accepted, refused, unless}
 use Rattle.rules.specs.Set.{KmerSet, solid, headerK, setOf, opened}
 use Rattle.rules.specs.Scan.{ask}
 use Rattle.rules.specs.Calls.{maxRead}
-use Rattle.blocks.proofs.Opening.{set-k}
+use Rattle.opening.proofs.Opening.{set-k}
 use Rattle.rules.specs.Solid.{kmersBehind, kmersOf, solids, solidsOf, countSolid}
 
 pub bit-le : (b : Bool) → bit b ≤ 1

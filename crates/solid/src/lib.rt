@@ -1,7 +1,7 @@
 // How many of a read's k-mers are solid: every k-mer is asked once, and nothing is corrected.
-use blocks::Opened;
 use input::Input;
 use kmer::Header;
+use opening::Opened;
 use refusal::Refusal;
 use set::STARTS;
 ghost use mathlib.Core.Path.{_≡_};
@@ -47,15 +47,15 @@ pub fn count_solid(set: &[u8], read: &[u8]) -> Count
     let Input::Fine = checked else {
         return Count::Refused(input::refused(checked));
     };
-    let opened = blocks::open(set);
+    let opened = opening::open(set);
     let Opened::Set(k, n) = opened else {
-        return Count::Refused(blocks::refused(opened));
+        return Count::Refused(opening::refused(opened));
     };
     if read.len() < k {
         return Count::Solid(0, 0);
     }
     let mut starts = [0u32; STARTS];
-    let head = set::prepare(set, b"", k, n, read.len(), &mut starts);
+    let head = prepare::prepare(set, b"", k, n, read.len(), &mut starts);
     let solid = count_kmers(set, &starts, head, read);
     Count::Solid((read.len() - k + 1) as u64, solid)
 }

@@ -17,7 +17,7 @@ use Rattle.rules.specs.Scan.{ask}
 use Rattle.rules.specs.Exist.{Scenario, Mend, cons, one, two, solidRun, score, keep, tried, kept}
 use Rattle.rules.proofs.Kmer.{Known, ne-known}
 use Rattle.rules.proofs.Scan.{ask-is, ask-one, ask-none}
-use Rattle.keys.specs.declared.Found.{Found}
+use Rattle.few_keys.specs.declared.Found.{Found}
 use Rattle.set.specs.declared.Asked.{Asked}
 use Rattle.set.specs.Asked.{AskedIs}
 use Rattle.set.specs.Found.{indexOf, isKey}

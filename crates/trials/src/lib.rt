@@ -1,6 +1,6 @@
 // Document 01, "Correctors", One and Two: the trials of src/correct/exist/mod.rs. A scenario is its number in the source's order. A k-mer that
 // holds an unknown letter isn't solid, and no lookup is made or counted for it (document 02, W5).
-use keys::Found;
+use few_keys::Found;
 use kmer::Header;
 use kmer::Kmer;
 use scan::Next;

@@ -1,6 +1,6 @@
 use mathlib.Core.Path.{ap, _∙_}
 use borrow.Author.Needs.{needs}
-use Rattle.exports.specs.Numbers.{solidNumbers}
+use Rattle.answer_numbers.specs.Numbers.{solidNumbers}
 use Rattle.exports.proofs.Told.{told-by}
 use Rattle.exports.proofs.corrector_count_solid.Statement.{statement}
 use Rattle.exports.proofs.corrector_count_solid.Tie as tie

@@ -2,7 +2,7 @@ use native.Mathlib.Omega.{arith}
 use mathlib.Core.Path.{_≡_}
 use Rattle.rules.specs.Refusal.{accepted}
 use Rattle.rules.specs.Set.{setOf, opened}
-use Rattle.blocks.proofs.Opening.{is-refused, set-opened, set-checked, set-refused}
+use Rattle.opening.proofs.Opening.{is-refused, set-opened, set-checked, set-refused}
 use Rattle.index.specs.Index.{Opens}
 use Rattle.index.proofs.Laws.{count-few}
 use Rattle.index.proofs.Makes.{index-refused, index-short, index-fits}

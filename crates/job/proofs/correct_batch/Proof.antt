@@ -10,7 +10,7 @@ use Rattle.rules.specs.Index.{indexCheck}
 use Rattle.rules.specs.Calls.{withoutIndex, countsCheck, inputCheck, batchRight}
 use Rattle.input.specs.Input.{checkOf}
 use Rattle.input.proofs.Checks.{is-refused}
-use Rattle.blocks.proofs.Opening.{is-refused as set-is-refused, set-opened, set-checked, set-refused}
+use Rattle.opening.proofs.Opening.{is-refused as set-is-refused, set-opened, set-checked, set-refused}
 use Rattle.index.specs.Index.{Opens}
 use Rattle.set.specs.Ready.{tableLength}
 use Rattle.set.proofs.Opened.{set-count}

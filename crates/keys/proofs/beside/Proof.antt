@@ -3,10 +3,12 @@ use native.Mathlib.Omega.{arith}
 use native.Mathlib.Nat.{add-zero}
 use lib.Dec.{ltb}
 use borrow.Author.Needs.{needs}
-use Rattle.keys.specs.Find.{Bracket}
-use Rattle.keys.proofs.Bracket.{answers-all}
-use Rattle.keys.proofs.Part.{fewer, three-lines}
-use Rattle.keys.proofs.Window.{picked, outside}
+use Rattle.few_keys.specs.Find.{Bracket}
+use Rattle.few_keys.proofs.Bracket.{answers-all}
+use Rattle.few_keys.proofs.Part.{fewer}
+use Rattle.cache_line.proofs.Lines.{three-lines}
+use Rattle.number.proofs.Picked.{picked}
+use Rattle.cache_line.proofs.Window.{outside}
 use Rattle.keys.proofs.beside.Statement.{statement}
 use Rattle.keys.proofs.beside.Tie as tie
 

@@ -1,9 +1,9 @@
 use Prim.Native.Nat.{_+_}
 use mathlib.Core.Path.{sym, _∙_}
 use borrow.Author.Needs.{needs}
-use Rattle.keys.specs.Find.{Lines}
-use Rattle.keys.proofs.Part.{three-lines}
-use Rattle.keys.proofs.Window.{window}
+use Rattle.cache_line.specs.Lines.{Lines}
+use Rattle.cache_line.proofs.Lines.{three-lines}
+use Rattle.cache_line.proofs.Window.{window}
 use Rattle.keys.proofs.find.Statement.{statement}
 use Rattle.keys.proofs.find.Tie as tie
 

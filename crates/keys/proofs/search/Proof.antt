@@ -3,10 +3,11 @@ use native.Mathlib.Omega.{arith}
 use native.Mathlib.Nat.{add-zero}
 use mathlib.Core.Path.{sym, _∙_}
 use borrow.Author.Needs.{needs}
-use Rattle.keys.specs.Find.{Bracket, firstKey, Lines}
-use Rattle.keys.proofs.Bracket.{higher-from, answers-none}
-use Rattle.keys.proofs.Part.{three-lines}
-use Rattle.keys.proofs.Window.{window, behind-window}
+use Rattle.few_keys.specs.Find.{Bracket}
+use Rattle.cache_line.specs.Lines.{firstKey, Lines}
+use Rattle.few_keys.proofs.Bracket.{higher-from, answers-none}
+use Rattle.cache_line.proofs.Lines.{three-lines}
+use Rattle.cache_line.proofs.Window.{window, behind-window}
 use Rattle.keys.proofs.search.Statement.{statement}
 use Rattle.keys.proofs.search.Tie as tie
 

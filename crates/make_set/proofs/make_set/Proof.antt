@@ -6,9 +6,10 @@ use mathlib.Core.Bool.{true}
 use mathlib.Core.Logic.{⊎-elim}
 use Rattle.rules.specs.Set.{kRight}
 use Rattle.rules.specs.MakeSet.{textKeys, textCheck}
-use Rattle.make_set.specs.declared.Judged.the-variants.{Kept}
-use Rattle.make_set.specs.Make.{JudgedAs}
-use Rattle.make_set.proofs.Makes.{is-refused, at-k, at-line, at-keys, at-none, made-refused, blocks-short, counts-short, made-both, k-right, k-even, k-large}
+use Rattle.judge_text.specs.declared.Judged.the-variants.{Kept}
+use Rattle.judge_text.specs.Judged.{JudgedAs}
+use Rattle.judge_text.proofs.Judging.{is-refused}
+use Rattle.make_set.proofs.Makes.{at-k, at-line, at-keys, at-none, made-refused, blocks-short, counts-short, made-both, k-right, k-even, k-large}
 use borrow.Author.Needs.{needs}
 use borrow.Author.Tests.{ltb-true, ltb-false}
 use Rattle.make_set.proofs.make_set.Statement.{statement}

@@ -3,10 +3,10 @@ use mathlib.Core.Path.{_≡_, ap, _∙_}
 use borrow.Author.Needs.{needs}
 use Prim.Native.Nat.{ℕ, _+_}
 use Rattle.rules.specs.Set.{headerK, headerN, lookup, setOf}
-use Rattle.keys.specs.declared.Found.{Found}
-use Rattle.keys.specs.declared.Found.the-variants.{Nothing}
-use Rattle.keys.specs.Find.{Answers}
-use Rattle.keys.proofs.Bracket.{answers-all, answers-none}
+use Rattle.few_keys.specs.declared.Found.{Found}
+use Rattle.few_keys.specs.declared.Found.the-variants.{Nothing}
+use Rattle.few_keys.specs.Find.{Answers}
+use Rattle.few_keys.proofs.Bracket.{answers-all, answers-none}
 use Rattle.set.specs.Found.{indexOf, placeIn}
 use Rattle.set.proofs.Among.{answers-lookup}
 use Rattle.set.proofs.Table.{shift-lt, canonical-lt, prefix-bracket, prefix-in-range}

@@ -1,0 +1,3 @@
+pub mod Bracket
+pub mod Part
+pub mod Eight

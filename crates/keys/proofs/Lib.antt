@@ -1,3 +1,0 @@
-pub mod Bracket
-pub mod Part
-pub mod Window
