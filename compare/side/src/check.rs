@@ -180,7 +180,12 @@ impl Tally {
         println!("met: {}", counts(ALL_EVENTS.iter().map(|event| format!("{event:?}")), &self.events));
         let numbers = || (0..).map(|number: u32| number.to_string());
         println!("refusals: {}", counts(numbers(), &self.refusals));
-        println!("needs told: {}, of which {} more bytes than any output has; refused: {}", self.needs, self.long, counts(numbers(), &self.needs_refusals));
+        println!(
+            "needs told: {}, of which {} more bytes than any output has; refused: {}",
+            self.needs,
+            self.long,
+            counts(numbers(), &self.needs_refusals)
+        );
     }
 
     fn add_pass(&mut self, k: usize, confirm: u8, method: Method, pass: &Pass) {
