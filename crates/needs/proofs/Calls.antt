@@ -22,7 +22,7 @@ use Rattle.refusal.specs.declared.Refusal.{Refusal}
 use Rattle.refusal.specs.declared.Refusal.the-variants.{Batch}
 use Rattle.refusal.specs.Refusal.{refusalOf}
 use Rattle.needs.specs.declared.Answer.{Answer}
-use Rattle.needs.specs.declared.Answer.the-variants.{Needs as Told, Refused}
+use Rattle.needs.specs.declared.Answer.the-variants.{Need as Told, Refused}
 use Rattle.set.specs.Counted.{setWith}
 use Rattle.needs.specs.Needs.{needsOf, Exact, Ceiling, Bookable, counted}
 
@@ -42,7 +42,7 @@ module _ (batch : ℕ) (job : List ℕ) (work : ℕ) where
         input = leb-true batch maxRead (unless-passed (leb batch maxRead) 1 (a .0));
         one = eqb-true (entryCount job) 1 (unless-passed (eqb (entryCount job) 1) 17 (c .0));
         confirms = job-right job (b .0) .1;
-        work = leb-true batch work (unless-passed (leb batch work) 5 (c .1));
+        room = leb-true batch work (unless-passed (leb batch work) 5 (c .1));
       }
 
 module _ (a : rules.Asked) where
@@ -89,7 +89,7 @@ module _ (a : rules.Asked) where
           let file : KmerSet = setOf (a .set) in
           let i : indexCheck file (a .index) ≡ none = passed (indexCheck file (a .index)) (countsCheck file (a .counts)) p .0 in
           let same : neededFor (setWith (a .set) (a .counts)) (entriesOf (a .job)) (lines (a .batch))
-              ≡ neededFor (offering (a .index) (a .counts) file) (entriesOf (a .job)) (lines (a .batch)) =
+          ≡ neededFor (offering (a .index) (a .counts) file) (entriesOf (a .job)) (lines (a .batch)) =
           needed-any (a .set) file o [] (a .counts) refl (entriesOf (a .job)) (lines (a .batch))
           ∙ sym (needed-any (a .set) file o (a .index) (a .counts) i (entriesOf (a .job)) (lines (a .batch))) in
           rw (needsBy, passed-six, o, p)

@@ -20,7 +20,7 @@ use Rattle.correct.specs.declared.Counts.{Counts}
 use Rattle.correct.specs.declared.Pass.the-variants.{Done}
 use Rattle.correct.specs.Pass.{maxF}
 use Rattle.count.specs.Count.{Counted}
-use Rattle.needs.specs.declared.Needs.{Needs}
+use Rattle.needs.specs.declared.Need.{Need}
 use Rattle.needs.specs.Needs.{needsOf, plusLine}
 
 -- a job of one entry
@@ -56,7 +56,7 @@ module _ (set : KmerSet) (e : Entry) where
     left from = lines (drop from batch)
 
     -- The lines before `from` are done. Each of those that are left can count so much.
-    pub record Going (from : ℕ) (done : Needs) : Type 0 where
+    pub record Going (from : ℕ) (done : Need) : Type 0 where
       pub bytes : done .bytes + need (left from) .bytes ≡ need (lines batch) .bytes
       pub turns : done .turns + need (left from) .turns ≡ need (lines batch) .turns
       pub lookups : done .lookups + need (left from) .lookups ≡ need (lines batch) .lookups
@@ -77,7 +77,7 @@ module _ (set : KmerSet) (e : Entry) where
         }
 
     -- A line more.
-    pub next : (from end : ℕ) (done : Needs) (more : Counts) {spare : ℕ} → Going from done → LineAt batch from end
+    pub next : (from end : ℕ) (done : Need) (more : Counts) {spare : ℕ} → Going from done → LineAt batch from end
         → Counted (length (take (end - from) (drop from batch))) spare (pass set e (take (end - from) (drop from batch))) (Done more)
         → Going (end + 1) (plusLine done more)
     next from end done more g l c =
@@ -97,11 +97,11 @@ module _ (set : KmerSet) (e : Entry) where
         }
 
     -- No counter wraps.
-    pub fits : {from : ℕ} {done : Needs} → Going from done → from ≤ maxRead + 1
+    pub fits : {from : ℕ} {done : Need} → Going from done → from ≤ maxRead + 1
         → (done .bytes < 2 ^ 63) × (done .turns < 2 ^ 63) × (done .lookups < 2 ^ 63)
     fits g h = (omega (arith, g .few-bytes, g .few-lookups), omega (arith, g .few-turns), omega (arith, g .few-lookups))
 
-    pub over : {from : ℕ} {done : Needs} → Going from done → length batch ≤ from → needsOf done ≡ need (lines batch)
+    pub over : {from : ℕ} {done : Need} → Going from done → length batch ≤ from → needsOf done ≡ need (lines batch)
     unfolding lines linesFrom
     over {from} {done} g h =
         let none : left from ≡ [] = ap lines (drop-of-length-le batch h) in

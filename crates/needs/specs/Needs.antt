@@ -12,11 +12,11 @@ use Rattle.rules.specs.Needs as rules
 use Rattle.rules.specs.Needs.{neededFor}
 use Rattle.refusal.specs.Refusal.{refusalOf}
 use Rattle.correct.specs.declared.Counts.{Counts}
-use Rattle.needs.specs.declared.Needs.{Needs}
+use Rattle.needs.specs.declared.Need.{Need}
 use Rattle.needs.specs.declared.Answer.{Answer}
-use Rattle.needs.specs.declared.Answer.the-variants.{Needs as Told, Refused}
+use Rattle.needs.specs.declared.Answer.the-variants.{Need as Told, Refused}
 
-abbrev pub needsOf : Needs → rules.Needs
+abbrev pub needsOf : Need → rules.Needs
 needsOf n = record { bytes = n .bytes; turns = n .turns; lookups = n .lookups }
 
 -- The rules' outcome for each case.
@@ -46,10 +46,10 @@ pub record Bookable (job : List ℕ) (batch work : ℕ) : Type 0 where
   pub input : batch ≤ maxRead
   pub one : entryCount job ≡ 1
   pub confirms : Confirmed (entriesOf job)
-  pub work : batch ≤ work
+  pub room : batch ≤ work
 
 -- A line more, with its byte 10.
-abbrev pub plusLine : Needs → Counts → Needs
+abbrev pub plusLine : Need → Counts → Need
 plusLine done line =
     record { bytes = done .bytes + line .written + 1; turns = done .turns + line .turns; lookups = done .lookups + line .lookups }
 

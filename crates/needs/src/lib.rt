@@ -19,23 +19,23 @@ ghost use Rattle.set.specs.Counted.{setWith};
 ghost use Rattle.needs.specs.Needs.{plusLine, counted, asked, Bookable, Exact, Ceiling};
 
 // The bytes that the batch's output will be, its turns and its lookups.
-pub struct Needs {
+pub struct Need {
     pub bytes: usize,
     pub turns: u64,
     pub lookups: u64,
 }
 
 pub enum Answer {
-    Needs(Needs),
+    Need(Need),
     Refused(Refusal),
 }
 
 // A line more, with its byte 10.
-fn add(done: Needs, line: Counts) -> Needs
+fn add(done: Need, line: Counts) -> Need
     requires { ⌜ (done .bytes + line .written + 1 < 2 ^ 64) × (done .turns + line .turns < 2 ^ 64) × (done .lookups + line .lookups < 2 ^ 64) ⌝ }
     ensures { λ r. ⌜ r ≡ plusLine done line ⌝ }
 {
-    Needs {
+    Need {
         bytes: done.bytes + line.written + 1,
         turns: done.turns + line.turns,
         lookups: done.lookups + line.lookups,
@@ -60,7 +60,7 @@ fn count_lines(
 {
     let method = entries::method_of(job, 0);
     let c = entries::confirm_of(job, 0);
-    let mut done = Needs {
+    let mut done = Need {
         bytes: 0,
         turns: 0,
         lookups: 0,
@@ -86,7 +86,7 @@ fn count_lines(
         from = end + 1;
     }
     input::clear(work, 0);
-    Answer::Needs(done)
+    Answer::Need(done)
 }
 
 // The call: what a batch call with the same set, job and batch would report, if its output were long enough.

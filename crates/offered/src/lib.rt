@@ -13,13 +13,7 @@ pub enum Offered {
 }
 
 // For lookups of about so many bases.
-pub fn open(
-    set: &[u8],
-    index: &[u8],
-    counts: &[u32],
-    bases: usize,
-    starts: &mut [u32],
-) -> Offered
+pub fn open(set: &[u8], index: &[u8], counts: &[u32], bases: usize, starts: &mut [u32]) -> Offered
     requires { ⌜ length (now starts) ≡ tableLength ⌝ }
     ensures { λ r. ⌜ OfferedIs (now (set .entry)) (now (index .entry)) (now (counts .entry)) (now (starts .exit)) r ⌝ }
 {

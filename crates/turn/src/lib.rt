@@ -150,17 +150,7 @@ fn bad_base(
     ensures { λ r. ⌜ TurnIs (now (set .entry)) head (now (counts .entry)) method c p (now (read .entry)) (now (out .entry)) (now (out .exit)) r ⌝ }
 {
     let at = p.at;
-    let tried = correct_error(
-        set,
-        starts,
-        head,
-        counts,
-        method,
-        c,
-        bad,
-        &read[at..],
-        out,
-    );
+    let tried = correct_error(set, starts, head, counts, method, c, bad, &read[at..], out);
     let Attempt::Mend(letters, resume, lookups, support, kmer) = tried else {
         let Attempt::Refused(lookups) = tried else {
             return Turned::Full;

@@ -99,7 +99,7 @@ returns-2 c =
     let t = s .pre .0 in
     let e = k .keep .ensures in (
       λ put. rw (e .1)
-      (kept-went _ _ _ _ _ _ _ _ t put _ false 1 _ (attempt2 r .correct-error .last .1 .1 .1 .1 .1 .1 .1 .1 .0) (k .keep .result) (s .pre .1 .kmer) (refused-keep _ _ _ _ _ _ _ _ t put _ _ (s .pre .1) _ _ _ (refused r)) (e .0)),
+          (kept-went _ _ _ _ _ _ _ _ t put _ false 1 _ (attempt2 r .correct-error .last .1 .1 .1 .1 .1 .1 .1 .1 .0) (k .keep .result) (s .pre .1 .kmer) (refused-keep _ _ _ _ _ _ _ _ t put _ _ (s .pre .1) _ _ _ (refused r)) (e .0)),
       record { kmer = rw (e .0) (s .pre .1 .kmer .kmer); at = rw (e .0) (omega (arith, t .more)) },
     )
 
