@@ -86,20 +86,32 @@ fn noisy_reads() {
 }
 
 /// ACA, CAA, AAC and no other successor: of ACA, whose next base is C, Graph makes ACAACA, and so once more for each CA.
+fn round_line(times: usize) -> Vec<u8> {
+    [b"ACA".to_vec(), b"CA".repeat(times), vec![10]].concat()
+}
+
+/// What such lines need.
+fn round_needs(times: &[usize]) -> Needs {
+    let sum = |of: fn(usize) -> usize| times.iter().map(|times| of(*times)).sum::<usize>();
+    Needs { bytes: sum(|times| 4 + 3 * times), turns: sum(|times| times) as u64, lookups: sum(|times| 1 + 14 * times) as u64 }
+}
+
 #[test]
-fn longer_than_any_output() {
+fn as_long_as_an_output_and_longer() {
     let set = set_of(3, &keys_of(3, b"ACAACA"));
-    let (times, lines) = (262_142, 2);
-    let line = [b"ACA".to_vec(), b"CA".repeat(times), vec![10]].concat();
-    let batch = line.repeat(lines);
-    assert!(batch.len() <= MAX_INPUT);
-    let told = least(&set, GRAPH, &batch).expect("accepted");
-    assert_eq!(told, Needs { bytes: lines * (4 + 3 * times), turns: (lines * times) as u64, lookups: (lines * (1 + 14 * times)) as u64 });
-    assert!(told.bytes > MAX_OUTPUT);
-    let (mut output, mut work) = (vec![FILL; MAX_OUTPUT], vec![FILL; MAX_WORK]);
-    assert_eq!(correct_batch(&set, None, None, Job::from_bytes(GRAPH), &batch, &mut output, &mut work), Err(Refusal::NoRoom { line: 1 }));
-    // The first line alone can be had.
-    assert_eq!(booked(&set, Offered::default(), GRAPH, &line).bytes, told.bytes / lines);
+    let just = round_line(349_524);
+    assert_eq!(booked(&set, Offered::default(), GRAPH, &just), round_needs(&[349_524]));
+    assert_eq!(round_needs(&[349_524]).bytes, MAX_OUTPUT);
+    for times in [&[0, 349_524][..], &[349_524, 0], &[262_142, 262_142], &[524_286], &[3, 524_279, 0]] {
+        let batch: Vec<u8> = times.iter().flat_map(|times| round_line(*times)).collect();
+        assert!(batch.len() <= MAX_INPUT);
+        let told = least(&set, GRAPH, &batch).expect("accepted");
+        assert_eq!(told, round_needs(times));
+        assert!(told.bytes > MAX_OUTPUT);
+        let (mut output, mut work) = (vec![FILL; MAX_OUTPUT], vec![FILL; MAX_WORK]);
+        let line = (0..times.len()).find(|line| round_needs(&times[..line + 1]).bytes > MAX_OUTPUT).expect("a line that does not fit");
+        assert_eq!(correct_batch(&set, None, None, Job::from_bytes(GRAPH), &batch, &mut output, &mut work), Err(Refusal::NoRoom { line }));
+    }
 }
 
 #[test]
