@@ -133,6 +133,6 @@ pub extern "C" fn corrector_make_set(
 pub extern "C" fn corrector_make_index(set: &[u8], blocks: &mut [u8], answer: &mut [u64]) -> u64
     ensures { λ r. ⌜ MadeExact (makeIndex (now (set .entry)) (now (blocks .entry))) (now (answer .entry)) r (now (blocks .exit)) (now (answer .exit)) ⌝ }
 {
-    let numbers = answer_numbers::made_numbers(index::make_index(set, blocks));
+    let numbers = answer_numbers::made_numbers(make_index::make_index(set, blocks));
     answer_numbers::tell(&numbers, answer)
 }

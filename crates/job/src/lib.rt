@@ -77,7 +77,7 @@ pub fn correct_read(
     let Opened::Set(k, n) = opened else {
         return Answer::Refused(opening::refused(opened));
     };
-    if !index::check_index(set, k, n, index) {
+    if !check_index::check_index(set, k, n, index) {
         return Answer::Refused(Refusal::Index);
     }
     if !support::check_counts(counts, n) {
@@ -115,7 +115,7 @@ pub fn correct_batch(
     let Opened::Set(k, n) = opened else {
         return Answer::Refused(opening::refused(opened));
     };
-    if !index::check_index(set, k, n, index) {
+    if !check_index::check_index(set, k, n, index) {
         return Answer::Refused(Refusal::Index);
     }
     if !support::check_counts(counts, n) {

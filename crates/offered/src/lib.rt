@@ -21,7 +21,7 @@ pub fn open(set: &[u8], index: &[u8], counts: &[u32], bases: usize, starts: &mut
     let Opened::Set(k, n) = opened else {
         return Offered::Refused(opening::refused(opened));
     };
-    if !index::check_index(set, k, n, index) {
+    if !check_index::check_index(set, k, n, index) {
         return Offered::Refused(Refusal::Index);
     }
     if !support::check_counts(counts, n) {

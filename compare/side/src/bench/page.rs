@@ -265,7 +265,7 @@ fn split_table(page: &mut String, splits: &[Split]) {
     let _ = writeln!(
         page,
         "## Where a call's time goes\n\nOne batch call, in ms. *Opening* is `corrector_open` alone; *starts*, the table of starts, a batch call without a line less that. What is left is \
-         split by where a timer finds the call, about 2,000 times a second: *lookups* in functions of the crates `set` and `keys`, *ahead* in `scan::read_ahead`, which reads the lines of the next k-mers before lookups need them, \
+         split by where a timer finds the call, about 2,000 times a second: *lookups* in functions of the crates `set`, `keys`, `few_keys` and `cache_line`, *ahead* in `scan::read_ahead`, which reads the lines of the next k-mers before lookups need them, \
          *the rest* elsewhere; *ns a lookup* is of *lookups* and *ahead*. A function that the compiler wrote into its caller counts as the caller's: the second table shows which are there.\n"
     );
     let _ = writeln!(

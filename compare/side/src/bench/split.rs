@@ -47,17 +47,17 @@ impl Split {
     }
 }
 
-/// Functions of opening a set, the one that fills the table of starts, the lookups' own, and the one that reads ahead of them.
+/// Functions of opening a set, those that fill the table of starts, the lookups' own, and the one that reads ahead of them.
 fn opens(name: &str) -> bool {
-    name.starts_with("blocks::")
+    ["blocks::", "set_checks::", "opening::"].iter().any(|own| name.starts_with(own))
 }
 
 fn prepares(name: &str) -> bool {
-    name.starts_with("set::prepare")
+    ["starts::", "prepare::"].iter().any(|own| name.starts_with(own))
 }
 
 fn asks(name: &str) -> bool {
-    (name.starts_with("set::") || name.starts_with("keys::")) && !prepares(name)
+    ["set::", "keys::", "few_keys::", "cache_line::"].iter().any(|own| name.starts_with(own))
 }
 
 fn reads_ahead(name: &str) -> bool {
