@@ -80,7 +80,7 @@ const SCHEDULE: [(Kind, u64, bool); 20] = [
     (Kind::IndexBits, 16, false),
     (Kind::Counts, 2400, true),
     (Kind::Needs, 1600, true),
-    (Kind::NeedsLong, 32, true),
+    (Kind::NeedsLong, 16, true),
     (Kind::Large, 2, true),
 ];
 

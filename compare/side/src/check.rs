@@ -336,7 +336,11 @@ pub fn check_call(library: &dyn Library, site: &Site, job: &Job, buffers: &mut B
     }
     if job.call == Call::Batch {
         let asked = Job { call: Call::Needs, work: job.input.len(), ..job.clone() };
-        let answer = needs::needs(&site.opened, &asked).answer;
+        // The passes of an accepted call need not be made again.
+        let answer = match outcome.answer {
+            Ok(_) => needs::checked(&site.opened, &asked).map(|_| needs::sum(&outcome.passes)),
+            Err(_) => needs::needs(&site.opened, &asked).answer,
+        };
         check_booking(library, site, &asked, answer, Some(&outcome), buffers, tally)?;
     }
     tally.calls += 1;

@@ -17,15 +17,22 @@ pub struct Needed {
     pub passes: Vec<Vec<Pass>>,
 }
 
-/// Checks 1 to 10, 15 and 16 as they apply to the real call, with 17 after 4; 5 means only a work buffer shorter than the batch. The call has no output, so
-/// nothing can be too long for it.
+/// The call. It has no output, so nothing can be too long for it.
 pub fn needs(opened: &Result<Set, Refusal>, job: &Job) -> Needed {
+    match checked(opened, job) {
+        Err(refusal) => Needed { answer: Err(refusal), passes: Vec::new() },
+        Ok(set) => {
+            let passes: Vec<Vec<Pass>> = reads(job).into_iter().map(|read| passes_of(set, &entries(job), read)).collect();
+            Needed { answer: Ok(sum(&passes)), passes }
+        }
+    }
+}
+
+/// Checks 1 to 10, 15 and 16 as they apply to the real call, with 17 after 4; 5 means only a work buffer shorter than the batch.
+pub fn checked<'a>(opened: &'a Result<Set, Refusal>, job: &Job) -> Result<&'a Set, Refusal> {
     let own = || entries_refusal(job).or_else(|| work_refusal(job));
     let refused = job_refusal(job).or_else(own).or_else(|| lines_refusal(job));
-    match refused.map_or_else(|| offered(opened, job), Err) {
-        Err(refusal) => Needed { answer: Err(refusal), passes: Vec::new() },
-        Ok(set) => needed(set, job),
-    }
+    refused.map_or_else(|| offered(opened, job), Err)
 }
 
 /// Refusal 17: the job has other than one method.
@@ -38,10 +45,8 @@ fn work_refusal(job: &Job) -> Option<Refusal> {
     (job.work < job.input.len()).then_some(Refusal::new(5, 0))
 }
 
-/// Each line's result with its byte 10, and the counts of its pass.
-fn needed(set: &Set, job: &Job) -> Needed {
-    let passes: Vec<Vec<Pass>> = reads(job).into_iter().map(|read| passes_of(set, &entries(job), read)).collect();
+/// Each line's result with its byte 10, and the counts of its one pass.
+pub fn sum(passes: &[Vec<Pass>]) -> Needs {
     let sum = |of: fn(&Pass) -> u64| passes.iter().flatten().map(of).sum();
-    let answer = Needs { bytes: sum(|pass| pass.bytes.len() as u64 + 1), turns: sum(|pass| pass.turns), lookups: sum(|pass| pass.lookups) };
-    Needed { answer: Ok(answer), passes }
+    Needs { bytes: sum(|pass| pass.bytes.len() as u64 + 1), turns: sum(|pass| pass.turns), lookups: sum(|pass| pass.lookups) }
 }
