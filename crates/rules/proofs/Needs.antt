@@ -15,9 +15,9 @@ use Rattle.rules.specs.Index.{indexCheck}
 use Rattle.rules.specs.Job.{Entry, entryCount, entriesOf, Confirmed, linesFrom, lines, result}
 use Rattle.rules.specs.Report.{Report}
 use Rattle.rules.specs.Counts.{sum, passesOf, allPasses, lookups, Demand3}
-use Rattle.rules.specs.Calls.{Given, After, maxRead, buffersRight, jobCheck, batchRight, unchanged, noRoom, longest, tooLong, results, report, corrected, countsCheck, offerCheck, correctBatch}
+use Rattle.rules.specs.Calls.{Given, After, maxRead, buffersRight, jobCheck, batchRight, unchanged, noRoom, longest, tooLong, results, report, corrected, offerCheck, correctBatch}
 use Rattle.rules.specs.Needs.{Asked, Needs, Told, needsCheck, askedCheck, declined, neededFor, needsBy, needs, real, bytesUpTo, Answers, enough, short, Declines, alike, with-17, with-5}
-use Rattle.rules.proofs.Opened.{passed, unless-passed, opened-check, opened-pos}
+use Rattle.rules.proofs.Opened.{passed, unless-passed, passed-15, opened-check, opened-pos}
 use Rattle.rules.proofs.Job.{entriesOf-length}
 use Rattle.rules.proofs.Offered.{same-report as same-indexed}
 use Rattle.rules.proofs.Told.{unsupported, same-report as same-counted}
@@ -181,23 +181,18 @@ module _ (a : Asked) where
   needs-not-opened r e o = rw (needsBy, e, o)
 
   module _ (set : KmerSet) (e : askedCheck a ≡ none) (o : opened (a .set) ≡ accepted set) where
-    pub needs-index-wrong : (r : Refusal) → indexCheck set (a .index) ≡ some r → needs a ≡ declined a r
-    unfolding needs offerCheck _orElse_
-    needs-index-wrong r i = rw (needsBy, e, o, offerCheck, i)
+    pub needs-offer-wrong : (r : Refusal) → offerCheck set (a .index) (a .counts) ≡ some r → needs a ≡ declined a r
+    unfolding needs
+    needs-offer-wrong r d = rw (needsBy, e, o, d)
 
-    module _ (i : indexCheck set (a .index) ≡ none) where
-      pub needs-counts-wrong : (r : Refusal) → countsCheck set (a .counts) ≡ some r → needs a ≡ declined a r
-      unfolding needs offerCheck _orElse_
-      needs-counts-wrong r d = rw (needsBy, e, o, offerCheck, i, d)
-
-      -- With an index that passes 15 and counts that pass 16 the numbers are those without.
-      pub needs-opened : countsCheck set (a .counts) ≡ none
-          → needs a ≡ record { answer = accepted (neededFor (offering [] [] set) es ls); work = replicate (length (a .work)) 0 }
-      unfolding needs offerCheck _orElse_
-      needs-opened d =
-          rw (needsBy, e, o, offerCheck, i, d)
-          (ap (λ (n : Needs). record { answer = accepted n; work = replicate (length (a .work)) 0 })
-          (needed-any (a .set) set o (a .index) (a .counts) i es ls))
+    -- With an index that passes 15 and counts that pass 16 the numbers are those without.
+    pub needs-opened : offerCheck set (a .index) (a .counts) ≡ none
+        → needs a ≡ record { answer = accepted (neededFor (offering [] [] set) es ls); work = replicate (length (a .work)) 0 }
+    unfolding needs
+    needs-opened d =
+        rw (needsBy, e, o, d)
+        (ap (λ (n : Needs). record { answer = accepted n; work = replicate (length (a .work)) 0 })
+        (needed-any (a .set) set o (a .index) (a .counts) (passed-15 set (a .index) (a .counts) d) es ls))
 
   -- ---- all checks in one row
 
@@ -268,7 +263,7 @@ module _ (a : Asked) where
     pub zeroed : needs a .work ≡ replicate (length (a .work)) 0
 
   pub needs-accepted : (n : Needs) → needs a .answer ≡ accepted n → Accepted n
-  unfolding declined allChecks stateCheck offerCheck opened
+  unfolding declined allChecks stateCheck opened
   needs-accepted n e = go allChecks refl
     where
       go : (c : Check) → allChecks ≡ c → Accepted n
@@ -290,7 +285,7 @@ module _ (a : Asked) where
             one-entry = entriesOf-length (a .job) ∙ eqb-true (entryCount (a .job)) 1 (unless-passed (eqb (entryCount (a .job)) 1) 17 (t .0));
             lines-passed = v .0;
             opens = rw (opened, w .0);
-            index-passed = passed (indexCheck file (a .index)) (countsCheck file (a .counts)) (w .1) .0;
+            index-passed = passed-15 file (a .index) (a .counts) (w .1);
             is = same;
             zeroed = ap (λ (t : Told). t .work) (all-passed f);
           }
@@ -368,9 +363,8 @@ module _ (a : Asked) (index counts output work : List ℕ) where
     set = offering index counts (file a)
 
     bare : (reads : List (List ℕ)) → neededFor set (es a) reads ≡ neededFor (offering [] [] (file a)) (es a) reads
-    unfolding set offerCheck
-    bare reads =
-        needed-any (a .set) (file a) (h .opens) index counts (passed (indexCheck (file a) index) (countsCheck (file a) counts) right .0) (es a) reads
+    unfolding set
+    bare reads = needed-any (a .set) (file a) (h .opens) index counts (passed-15 (file a) index counts right) (es a) reads
 
     same-needs : neededFor set (es a) (ls a) ≡ n
     same-needs = bare (ls a) ∙ sym (h .is ∙ needed-any (a .set) (file a) (h .opens) (a .index) (a .counts) (h .index-passed) (es a) (ls a))
