@@ -20,6 +20,7 @@ use Rattle.rules.specs.Driver.{weakest}
 use Rattle.rules.proofs.Kmer.{Known}
 use Rattle.rules.proofs.Counted.{bind-some as given-by}
 use Rattle.rules.proofs.Few.{SolidKmer, few}
+use Rattle.rules.proofs.Growth.{length-spell}
 use Rattle.rules.proofs.Correctors.{gap-any, gap-cost}
 use Rattle.kmer.specs.declared.Header.{Header}
 use Rattle.kmer.specs.declared.Kmer.{Kmer as KmerOf}
@@ -28,7 +29,7 @@ use Rattle.set.specs.Ready.{Ready}
 use Rattle.set.proofs.Opened.{opened-n-le, set-count}
 use Rattle.scan.proofs.Laws.{addAll-snoc, known-four, alternative-four, letter-back, leads-on}
 use Rattle.scan.specs.Attempt.{MendIs}
-use Rattle.graph.proofs.Laws.{spell-snoc, length-spell, weakest-one, weakest-snoc, bind-none, bind-some}
+use Rattle.graph.proofs.Laws.{spell-snoc, weakest-one, weakest-snoc, bind-none, bind-some}
 use Rattle.passed.specs.Passed.{onward, passed}
 use Rattle.gap_size.specs.Gap.{gapMend}
 

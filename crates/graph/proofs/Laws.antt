@@ -22,6 +22,7 @@ use Rattle.rules.specs.Driver.{weaker, weakest}
 use Rattle.rules.proofs.Kmer.{Known}
 use Rattle.rules.proofs.Scan.{scan-is}
 use Rattle.rules.proofs.Support.{weakest-append}
+use Rattle.rules.proofs.Growth.{length-spell}
 use Rattle.kmer.specs.declared.Kmer.{Kmer as KmerOf}
 use Rattle.kmer.specs.Kmer.{kmerOf, IsKmer, HasLetters}
 use Rattle.set.specs.Counted.{setWith}
@@ -64,11 +65,6 @@ pub spell-snoc : (ys : List Kmer) (z : Kmer) → spell (ys ++ (z ∷ [])) ≡ sp
 unfolding spell
 spell-snoc [] z = refl
 spell-snoc (y ∷ ys) z = ap (λ (l : List ℕ). lastLetter y ∷ l) (spell-snoc ys z)
-
-pub length-spell : (ys : List Kmer) → length (spell ys) ≡ length ys
-unfolding spell
-length-spell [] = refl
-length-spell (y ∷ ys) = ap suc (length-spell ys)
 
 pub weakest-one : (count : Kmer → ℕ) (y : Kmer) → weakest count (y ∷ []) ≡ some (count y)
 unfolding weakest weaker

@@ -1,49 +1,31 @@
 -- The call up to its opened set, by the rules.
-use Prim.Native.Nat.{ℕ, _≤_}
-use borrow.Author.Tests.{leb-true, eqb-true}
-use mathlib.Core.Path.{_≡_, refl, sym, _∙_, subst}
+use Prim.Native.Nat.{ℕ}
+use mathlib.Core.Path.{_≡_, refl, sym, subst}
 use mathlib.Core.Bool.{true, false}
 use mathlib.Core.Option.{none, some}
-use mathlib.Core.Logic.{_⊎_, ⊎-elim}
+use mathlib.Core.Logic.{⊎-elim}
 use mathlib.Core.List.{List, []}
-use lib.Dec.{eqb, leb}
 use lib.ListN.{length, replicate}
-use Rattle.rules.specs.Refusal.{Check, accepted, refused, _orElse_, unless}
-use Rattle.rules.specs.Set.{KmerSet, setOf, offering, opened}
-use Rattle.rules.specs.Job.{entryCount, entriesOf, lines}
+use Rattle.rules.specs.Refusal.{Check, accepted, _orElse_, unless}
+use Rattle.rules.specs.Set.{setOf, offering, opened}
+use Rattle.rules.specs.Job.{entriesOf, lines}
 use Rattle.rules.specs.Index.{indexCheck}
-use Rattle.rules.specs.Calls.{maxRead, jobCheck, batchRight, countsCheck, offerCheck}
+use Rattle.rules.specs.Calls.{batchRight, offerCheck}
 use Rattle.rules.specs.Needs as rules
-use Rattle.rules.specs.Needs.{needsCheck, askedCheck, declined, neededFor, needsBy}
-use Rattle.rules.proofs.Opened.{passed, unless-passed}
-use Rattle.rules.proofs.Upward.{job-right}
-use Rattle.rules.proofs.Needs.{needed-any, needs-checked, needs-not-opened, needs-demand3}
+use Rattle.rules.specs.Needs.{needsCheck, askedCheck, declined}
+use Rattle.rules.proofs.Needs.{needed-any, needs-right, needs-checked, needs-not-opened, needs-offer-wrong, needs-opened, needs-demand3}
 use Rattle.refusal.specs.declared.Refusal.{Refusal}
 use Rattle.refusal.specs.declared.Refusal.the-variants.{Batch}
 use Rattle.refusal.specs.Refusal.{refusalOf}
 use Rattle.needs.specs.declared.Answer.{Answer}
 use Rattle.needs.specs.declared.Answer.the-variants.{Need as Told, Refused}
 use Rattle.set.specs.Counted.{setWith}
+use Rattle.offered.specs.Offered.{RefusedBy}
 use Rattle.needs.specs.Needs.{needsOf, Exact, Ceiling, Bookable, counted}
 
-module _ (batch : ℕ) (job : List ℕ) (work : ℕ) where
-  -- What checks 1 to 5 leave.
-  pub bookable : needsCheck batch job work ≡ none → Bookable job batch work
-  unfolding needsCheck
-  bookable h =
-      let one : Check = unless (leb batch maxRead) 1 in
-      let four : Check = jobCheck job in
-      let seventeen : Check = unless (eqb (entryCount job) 1) 17 in
-      let five : Check = unless (leb batch work) 5 in
-      let a = passed one (four orElse (seventeen orElse five)) h in
-      let b = passed four (seventeen orElse five) (a .1) in
-      let c = passed seventeen five (b .1) in
-      record {
-        input = leb-true batch maxRead (unless-passed (leb batch maxRead) 1 (a .0));
-        one = eqb-true (entryCount job) 1 (unless-passed (eqb (entryCount job) 1) 17 (c .0));
-        confirms = job-right job (b .0) .1;
-        room = leb-true batch work (unless-passed (leb batch work) 5 (c .1));
-      }
+-- What checks 1 to 5 leave.
+pub bookable : (batch : ℕ) (job : List ℕ) (work : ℕ) → needsCheck batch job work ≡ none → Bookable job batch work
+bookable batch job work h = let p = needs-right batch job work h in record { input = p .0; one = p .1; confirms = p .2; room = p .3 }
 
 module _ (a : rules.Asked) where
   refused-exact : (r : Refusal) → rules.needs a ≡ declined a (refusalOf r) → Exact (rules.needs a) (Refused r) (a .work)
@@ -73,24 +55,16 @@ module _ (a : rules.Asked) where
       unfolding askedCheck _orElse_ unless
       passed-six = rw (e, b)
 
-      pub not-opened : (r : Refusal)
-          → (opened (a .set) ≡ refused (refusalOf r)) ⊎ ((opened (a .set) ≡ accepted (setOf (a .set))) × (offerCheck (setOf (a .set)) (a .index) (a .counts) ≡ some (refusalOf r)))
-          → Exact (rules.needs a) (Refused r) (a .work)
-      unfolding rules.needs
+      pub not-opened : (r : Refusal) → RefusedBy (a .set) (a .index) (a .counts) r → Exact (rules.needs a) (Refused r) (a .work)
       not-opened r =
           ⊎-elim (λ o. refused-exact r (needs-not-opened a (refusalOf r) passed-six o))
-          (λ o. refused-exact r (rw (needsBy, passed-six, o .0, o .1)))
+          (λ o. refused-exact r (needs-offer-wrong a (setOf (a .set)) passed-six (o .0) (refusalOf r) (o .1)))
 
-      -- The numbers are the same without the index.
+      -- The numbers are the same without index and counts.
       pub counted-exact : opened (a .set) ≡ accepted (setOf (a .set)) → offerCheck (setOf (a .set)) (a .index) (a .counts) ≡ none → (r : Answer) {w : List ℕ}
           → Exact (counted (setWith (a .set) (a .counts)) (a .job) (a .batch) (a .work)) r w → Exact (rules.needs a) r w
-      unfolding rules.needs offerCheck indexCheck
+      unfolding indexCheck
       counted-exact o p r {w} x =
-          let file : KmerSet = setOf (a .set) in
-          let i : indexCheck file (a .index) ≡ none = passed (indexCheck file (a .index)) (countsCheck file (a .counts)) p .0 in
-          let same : neededFor (setWith (a .set) (a .counts)) (entriesOf (a .job)) (lines (a .batch))
-          ≡ neededFor (offering (a .index) (a .counts) file) (entriesOf (a .job)) (lines (a .batch)) =
-          needed-any (a .set) file o [] (a .counts) refl (entriesOf (a .job)) (lines (a .batch))
-          ∙ sym (needed-any (a .set) file o (a .index) (a .counts) i (entriesOf (a .job)) (lines (a .batch))) in
-          rw (needsBy, passed-six, o, p)
-          (subst (λ (n : rules.Needs). Exact (record { answer = accepted n; work = replicate (length (a .work)) 0 }) r w) same x)
+          rw (needs-opened a (setOf (a .set)) passed-six o p)
+          (subst (λ (n : rules.Needs). Exact (record { answer = accepted n; work = replicate (length (a .work)) 0 }) r w)
+          (needed-any (a .set) (setOf (a .set)) o [] (a .counts) refl (entriesOf (a .job)) (lines (a .batch))) x)

@@ -32,14 +32,19 @@ unfolding spell
 length-spell [] = refl
 length-spell (y ∷ ys) = ap suc (length-spell ys)
 
-module _ (j : ℕ) (sol : ℕ → Bool) where
-  abbrev k : ℕ
-  k = suc j
+module _ (k : ℕ) (sol : ℕ → Bool) (pos : 1 ≤ k) where
+  -- A sole successor that is found costs 4.
+  found-four : (y z : Kmer) → sole k sol y .answer ≡ some z → sole k sol y .lookups ≡ 4
+  found-four y z = go k pos
+    where
+      go : (k′ : ℕ) → 1 ≤ k′ → sole k′ sol y .answer ≡ some z → sole k′ sol y .lookups ≡ 4
+      go zero p e = absurd (omega arith)
+      go (suc j) p e = sole-four j sol y z e
 
-  -- The start of an attempt that goes on costs 4.
+  -- So does the start of an attempt that goes on.
   start-cost : (y x : Kmer) → alternative k sol y .answer ≡ some x → alternative k sol y .lookups ≡ 4
   unfolding alternative
-  start-cost y x e = sole-four j sol (dropLast y) x e
+  start-cost y x e = found-four (dropLast y) x e
 
   -- ---- One and Two: at most 3 letters, and 4 lookups for the start
 
@@ -54,7 +59,7 @@ module _ (j : ℕ) (sol : ℕ → Bool) where
       let l = w .3 in
       omega (arith, start-cost y (w .0) (w .1))
 
-  pub one-letters : (c : ℕ) (s : List ℕ) (y : Kmer) (m : Mend) → exist k sol c s (one k sol) y .answer ≡ some m → length (m .letters) ≤ 3
+  one-letters : (c : ℕ) (s : List ℕ) (y : Kmer) (m : Mend) → exist k sol c s (one k sol) y .answer ≡ some m → length (m .letters) ≤ 3
   unfolding one row Kept
   one-letters c s y m e =
       exist-some k sol c s Few3 (one k sol) y m
@@ -67,7 +72,7 @@ module _ (j : ℕ) (sol : ℕ → Bool) where
       → length (m .letters) ≤ exist k sol c s (one k sol) y .lookups
   one-grows c s y m e = omega (arith, one-letters c s y m e, exist-start c s (one k sol) y m e)
 
-  pub two-letters : (c : ℕ) (s : List ℕ) (y : Kmer) (m : Mend) → exist k sol c s (two k sol) y .answer ≡ some m → length (m .letters) ≤ 3
+  two-letters : (c : ℕ) (s : List ℕ) (y : Kmer) (m : Mend) → exist k sol c s (two k sol) y .answer ≡ some m → length (m .letters) ≤ 3
   unfolding two row Kept
   two-letters c s y m e =
       exist-some k sol c s Few3 (two k sol) y m
@@ -129,7 +134,7 @@ module _ (j : ℕ) (sol : ℕ → Bool) where
       go i (some y) q = on (same y t) refl (same y (w .mark)) refl
         where
           four : sole k sol (w .at) .lookups ≡ 4
-          four = sole-four j sol (w .at) y q
+          four = found-four (w .at) y q
 
           on : (v : Bool) → same y t ≡ v → (x : Bool) → same y (w .mark) ≡ x → length ls ≤ suc (walk k sol (suc f) t w .lookups)
           on true v x z =
@@ -177,7 +182,7 @@ module _ (j : ℕ) (sol : ℕ → Bool) where
         go i (some z) p = on (met z seen) refl
           where
             four : sole k sol y .lookups ≡ 4
-            four = sole-four j sol y z p
+            four = found-four y z p
 
             on : (q : Bool) → met z seen ≡ q → length ls ≤ suc (gap k sol (suc moves) seen y l .lookups)
             on true q = absurd (Option·none-ne-some ls (rw (p, gap, q) at e))
@@ -252,29 +257,18 @@ module _ (k : ℕ) (sol : ℕ → Bool) (count : Kmer → ℕ) (ce : List ℕ �
 
 -- ---- passes
 
-grows-at : (j : ℕ) (keys index counts : List ℕ) (c : ℕ) (m : Method) (s : List ℕ) (y : Kmer) (d : Mend)
-    → (let set : KmerSet = record { k = suc j; keys = keys; index = index; counts = counts } in
-    correctError set c m s y .answer ≡ some d → length (d .letters) ≤ correctError set c m s y .lookups)
+-- An accepted attempt gives at most a letter for each of its lookups.
+pub mend-within : (set : KmerSet) → 1 ≤ set .k → (c : ℕ) (m : Method) (s : List ℕ) (y : Kmer) (d : Mend)
+    → correctError set c m s y .answer ≡ some d → length (d .letters) ≤ correctError set c m s y .lookups
 unfolding correctError
-grows-at j keys index counts c One s y d e = one-grows j (solid (record { k = suc j; keys = keys; index = index; counts = counts })) c s y d e
-grows-at j keys index counts c Two s y d e = two-grows j (solid (record { k = suc j; keys = keys; index = index; counts = counts })) c s y d e
-grows-at j keys index counts c Graph s y d e = graph-grows j (solid (record { k = suc j; keys = keys; index = index; counts = counts })) (length keys) s y d e
-grows-at j keys index counts c GapSize s y d e = gapSize-grows j (solid (record { k = suc j; keys = keys; index = index; counts = counts })) (length keys) c s y d e
+mend-within set pos c One s y d e = one-grows (set .k) (solid set) pos c s y d e
+mend-within set pos c Two s y d e = two-grows (set .k) (solid set) pos c s y d e
+mend-within set pos c Graph s y d e = graph-grows (set .k) (solid set) pos (length (set .keys)) s y d e
+mend-within set pos c GapSize s y d e = gapSize-grows (set .k) (solid set) pos (length (set .keys)) c s y d e
 
-error-grows : (j : ℕ) (set : KmerSet) → set .k ≡ suc j → (c : ℕ) (m : Method) (s : List ℕ) (y : Kmer) (d : Mend) → correctError set c m s y .answer ≡ some d
-    → length (d .letters) ≤ correctError set c m s y .lookups
-error-grows j set q c m s y d =
-    let same-set : set ≡ record { k = suc j; keys = set .keys; index = set .index; counts = set .counts } = λ i. record { k = q i; keys = set .keys; index = set .index; counts = set .counts } in
-    subst (λ (t : KmerSet). correctError t c m s y .answer ≡ some d → length (d .letters) ≤ correctError t c m s y .lookups) (sym same-set)
-    (grows-at j (set .keys) (set .index) (set .counts) c m s y d)
-
--- A pass gives at most what it is fed and a byte for each lookup.
-pub pass-within : (set : KmerSet) → 1 ≤ set .k → (e : Entry) (read : List ℕ) → length (pass set e read .bytes) ≤ length read + pass set e read .lookups
+-- A pass gives at most the bytes that it is fed and one for each lookup.
+pub pass-within : (set : KmerSet) → 1 ≤ set .k → (e : Entry) (read : List ℕ)
+    → length (pass set e read .bytes) ≤ length read + pass set e read .lookups
 unfolding pass
 pass-within set pos e read =
-    drive-within (set .k) (solid set) (countOf set) (correctError set (e .confirm) (e .method)) (grows (set .k) refl pos) read
-  where
-    grows : (k : ℕ) → set .k ≡ k → 1 ≤ k → (s : List ℕ) (y : Kmer) (d : Mend) → correctError set (e .confirm) (e .method) s y .answer ≡ some d
-        → length (d .letters) ≤ correctError set (e .confirm) (e .method) s y .lookups
-    grows zero q p s y d a = absurd (omega arith)
-    grows (suc j) q p s y d a = error-grows j set q (e .confirm) (e .method) s y d a
+    drive-within (set .k) (solid set) (countOf set) (correctError set (e .confirm) (e .method)) (mend-within set pos (e .confirm) (e .method)) read

@@ -29,8 +29,8 @@ declinedWith t = (elim (t .answer) [ accepted n ↦ none | refused r ↦ some (r
 
 -- ---- the checks
 
--- By the lengths of batch and work. 1 comes first. A job of no entries, and of two, is 17. Work one byte short of the batch is 5, and as long as it is
--- enough; there is no upper limit on work.
+-- By the lengths of batch and work. 1 comes first. A job of no entries, and of two, is 17. Work one byte short of the batch is 5, and as long as
+-- the batch it is enough; it has no upper limit.
 pub lengthsInTurn :
     map numberTold
     (needsCheck 1048577 (replicate 18 1) 0
@@ -87,14 +87,12 @@ inTurn =
 
 -- The printed case, AACGCCG and AA through Graph: 11 bytes, 1 turn, 21 lookups. The whole work buffer is zeroed, however long.
 pub printedNeeds :
-    map needs (asked sampleBytes [] [] (3 ∷ 1 ∷ []) (AACGCCG ++ (10 ∷ A ∷ A ∷ 10 ∷ [])) 11 ∷ asked sampleBytes [] [] (3 ∷ 1 ∷ []) (AACGCCG ++ (10 ∷ A ∷ A ∷ 10 ∷ [])) 40 ∷ [])
+    map (λ work. needs (asked sampleBytes [] [] (3 ∷ 1 ∷ []) (AACGCCG ++ (10 ∷ A ∷ A ∷ 10 ∷ [])) work)) (11 ∷ 40 ∷ [])
     ≡ record { answer = accepted (record { bytes = 11; turns = 1; lookups = 21 }); work = replicate 11 0 }
     ∷ record { answer = accepted (record { bytes = 11; turns = 1; lookups = 21 }); work = replicate 40 0 } ∷ []
 unfolding needsBy asked sampleSet
 printedNeeds =
-    λ i. needsFor (asked sampleBytes [] [] (3 ∷ 1 ∷ []) (AACGCCG ++ (10 ∷ A ∷ A ∷ 10 ∷ [])) 11) (sampleOpens .0) i
-    ∷ needsFor (asked sampleBytes [] [] (3 ∷ 1 ∷ []) (AACGCCG ++ (10 ∷ A ∷ A ∷ 10 ∷ [])) 40) (sampleOpens .0) i
-    ∷ []
+    λ i. map (λ work. needsFor (asked sampleBytes [] [] (3 ∷ 1 ∷ []) (AACGCCG ++ (10 ∷ A ∷ A ∷ 10 ∷ [])) work) (sampleOpens .0) i) (11 ∷ 40 ∷ [])
 
 -- One, c 1: AACGCCG, mended; AACC, which grows to AACTC; AACG, at which an attempt is refused. With their ends 19 bytes come of 18.
 abbrev pub threeLines : List ℕ

@@ -2,7 +2,7 @@
 use Prim.Native.Nat.{ℕ, suc, _+_, _-_, _≤_, _<_}
 use native.Mathlib.Omega.{arith}
 use native.Mathlib.Decide.{decLe}
-use borrow.Author.Tests.{eqb-true}
+use borrow.Author.Tests.{eqb-true, leb-true}
 use mathlib.Core.Path.{_≡_, refl, sym, ap, _∙_}
 use mathlib.Core.Bool.{Bool, true, false}
 use mathlib.Core.Option.{none, some}
@@ -12,12 +12,12 @@ use lib.Dec.{eqb, leb}
 use Rattle.rules.specs.Refusal.{Refusal, accepted, refused, Check, _orElse_, unless}
 use Rattle.rules.specs.Set.{KmerSet, offering, setOf, setCheck, opened}
 use Rattle.rules.specs.Index.{indexCheck}
-use Rattle.rules.specs.Job.{Entry, entryCount, entriesOf, linesFrom, lines, result}
+use Rattle.rules.specs.Job.{Entry, entryCount, entriesOf, Confirmed, linesFrom, lines, result}
 use Rattle.rules.specs.Report.{Report}
 use Rattle.rules.specs.Counts.{sum, passesOf, allPasses, lookups, Demand3}
-use Rattle.rules.specs.Calls.{Given, After, maxRead, buffersRight, jobCheck, batchRight, unchanged, noRoom, longest, tooLong, results, report, corrected, countsCheck, offerCheck, correctBatch}
+use Rattle.rules.specs.Calls.{Given, After, maxRead, buffersRight, jobCheck, batchRight, unchanged, noRoom, longest, tooLong, results, report, corrected, offerCheck, correctBatch}
 use Rattle.rules.specs.Needs.{Asked, Needs, Told, needsCheck, askedCheck, declined, neededFor, needsBy, needs, real, bytesUpTo, Answers, enough, short, Declines, alike, with-17, with-5}
-use Rattle.rules.proofs.Opened.{passed, unless-passed, opened-check, opened-pos}
+use Rattle.rules.proofs.Opened.{passed, unless-passed, passed-15, opened-check, opened-pos}
 use Rattle.rules.proofs.Job.{entriesOf-length}
 use Rattle.rules.proofs.Offered.{same-report as same-indexed}
 use Rattle.rules.proofs.Told.{unsupported, same-report as same-counted}
@@ -141,6 +141,23 @@ needed-any bytes set o index counts i es reads =
 
 -- ---- the call, by what its checks say
 
+-- What checks 1 to 5 leave: a batch within 01's limit, one entry with a confirm from 1, and a work buffer as long as the batch.
+pub needs-right : (batch : ℕ) (bytes : List ℕ) (work : ℕ) → needsCheck batch bytes work ≡ none
+    → (batch ≤ maxRead) × (entryCount bytes ≡ 1) × Confirmed (entriesOf bytes) × (batch ≤ work)
+unfolding needsCheck
+needs-right batch bytes work h =
+    let one : Check = unless (leb batch maxRead) 1 in
+    let seventeen : Check = unless (eqb (entryCount bytes) 1) 17 in
+    let five : Check = unless (leb batch work) 5 in
+    let p = passed one (jobCheck bytes orElse (seventeen orElse five)) h in
+    let q = passed (jobCheck bytes) (seventeen orElse five) (p .1) in
+    let r = passed seventeen five (q .1) in (
+      leb-true batch maxRead (unless-passed (leb batch maxRead) 1 (p .0)),
+      eqb-true (entryCount bytes) 1 (unless-passed (eqb (entryCount bytes) 1) 17 (r .0)),
+      job-right bytes (q .0) .1,
+      leb-true batch work (unless-passed (leb batch work) 5 (r .1)),
+    )
+
 module _ (a : Asked) where
   abbrev file : KmerSet
   file = setOf (a .set)
@@ -164,23 +181,18 @@ module _ (a : Asked) where
   needs-not-opened r e o = rw (needsBy, e, o)
 
   module _ (set : KmerSet) (e : askedCheck a ≡ none) (o : opened (a .set) ≡ accepted set) where
-    pub needs-index-wrong : (r : Refusal) → indexCheck set (a .index) ≡ some r → needs a ≡ declined a r
-    unfolding needs offerCheck _orElse_
-    needs-index-wrong r i = rw (needsBy, e, o, offerCheck, i)
+    pub needs-offer-wrong : (r : Refusal) → offerCheck set (a .index) (a .counts) ≡ some r → needs a ≡ declined a r
+    unfolding needs
+    needs-offer-wrong r d = rw (needsBy, e, o, d)
 
-    module _ (i : indexCheck set (a .index) ≡ none) where
-      pub needs-counts-wrong : (r : Refusal) → countsCheck set (a .counts) ≡ some r → needs a ≡ declined a r
-      unfolding needs offerCheck _orElse_
-      needs-counts-wrong r d = rw (needsBy, e, o, offerCheck, i, d)
-
-      -- With an index that passes 15 and counts that pass 16 the numbers are those without.
-      pub needs-opened : countsCheck set (a .counts) ≡ none
-          → needs a ≡ record { answer = accepted (neededFor (offering [] [] set) es ls); work = replicate (length (a .work)) 0 }
-      unfolding needs offerCheck _orElse_
-      needs-opened d =
-          rw (needsBy, e, o, offerCheck, i, d)
-          (ap (λ (n : Needs). record { answer = accepted n; work = replicate (length (a .work)) 0 })
-          (needed-any (a .set) set o (a .index) (a .counts) i es ls))
+    -- With an index that passes 15 and counts that pass 16 the numbers are those without.
+    pub needs-opened : offerCheck set (a .index) (a .counts) ≡ none
+        → needs a ≡ record { answer = accepted (neededFor (offering [] [] set) es ls); work = replicate (length (a .work)) 0 }
+    unfolding needs
+    needs-opened d =
+        rw (needsBy, e, o, d)
+        (ap (λ (n : Needs). record { answer = accepted n; work = replicate (length (a .work)) 0 })
+        (needed-any (a .set) set o (a .index) (a .counts) (passed-15 set (a .index) (a .counts) d) es ls))
 
   -- ---- all checks in one row
 
@@ -251,7 +263,7 @@ module _ (a : Asked) where
     pub zeroed : needs a .work ≡ replicate (length (a .work)) 0
 
   pub needs-accepted : (n : Needs) → needs a .answer ≡ accepted n → Accepted n
-  unfolding declined allChecks stateCheck offerCheck opened
+  unfolding declined allChecks stateCheck opened
   needs-accepted n e = go allChecks refl
     where
       go : (c : Check) → allChecks ≡ c → Accepted n
@@ -273,7 +285,7 @@ module _ (a : Asked) where
             one-entry = entriesOf-length (a .job) ∙ eqb-true (entryCount (a .job)) 1 (unless-passed (eqb (entryCount (a .job)) 1) 17 (t .0));
             lines-passed = v .0;
             opens = rw (opened, w .0);
-            index-passed = passed (indexCheck file (a .index)) (countsCheck file (a .counts)) (w .1) .0;
+            index-passed = passed-15 file (a .index) (a .counts) (w .1);
             is = same;
             zeroed = ap (λ (t : Told). t .work) (all-passed f);
           }
@@ -322,7 +334,8 @@ from-six-tells : (a : Asked) (i c : List ℕ) → Tells 6 16 (six a orElse state
 unfolding stateCheck
 from-six-tells a i c =
     tells-or 6 16 _ _ (tells-unless 6 16 (batchRight (a .batch)) 6 (omega arith) (omega arith))
-    (tells-or 6 16 _ _ (λ r e. let w = set-tells (a .set) r e in (omega arith, omega arith)) (λ r e. let w = offer-tells (file a) i c r e in (omega arith, omega arith)))
+    (tells-or 6 16 _ _ (λ r e. let w = set-tells (a .set) r e in (omega arith, omega arith))
+    (λ r e. let w = offer-tells (file a) i c r e in (omega arith, omega arith)))
 
 module _ (a : Asked) (index counts output work : List ℕ) where
   abbrev g : Given
@@ -332,11 +345,11 @@ module _ (a : Asked) (index counts output work : List ℕ) where
   abbrev five : Check
   five = unless (buffersRight (length (a .batch)) (length output) (length work)) 5
 
-  real-state : Check
+  abbrev real-state : Check
   real-state = stateCheck (a .set) index counts
 
   real-checks : batchChecks g ≡ first a orElse (job a orElse (five orElse (six a orElse real-state)))
-  unfolding batchChecks real real-state
+  unfolding batchChecks real
   real-checks = refl
 
   -- Buffers within 01's limits, and an index and counts that pass 15 and 16: accepted exactly where the output holds the bytes, and then with
@@ -350,9 +363,8 @@ module _ (a : Asked) (index counts output work : List ℕ) where
     set = offering index counts (file a)
 
     bare : (reads : List (List ℕ)) → neededFor set (es a) reads ≡ neededFor (offering [] [] (file a)) (es a) reads
-    unfolding set offerCheck
-    bare reads =
-        needed-any (a .set) (file a) (h .opens) index counts (passed (indexCheck (file a) index) (countsCheck (file a) counts) right .0) (es a) reads
+    unfolding set
+    bare reads = needed-any (a .set) (file a) (h .opens) index counts (passed-15 (file a) index counts right) (es a) reads
 
     same-needs : neededFor set (es a) (ls a) ≡ n
     same-needs = bare (ls a) ∙ sym (h .is ∙ needed-any (a .set) (file a) (h .opens) (a .index) (a .counts) (h .index-passed) (es a) (ls a))
@@ -362,7 +374,7 @@ module _ (a : Asked) (index counts output work : List ℕ) where
     up-to i = ap (λ (m : Needs). m .bytes) (bare (take i (ls a)))
 
     corrects : correctBatch g ≡ corrected set (es a) (10 ∷ []) g (ls a)
-    unfolding set stateCheck real real-state _orElse_ opened
+    unfolding set stateCheck real _orElse_ opened
     corrects =
         let passes : five ≡ none = rw (fine, unless) in
         batch-passed g (real-checks ∙ rw (h .length-passed, h .job-passed, passes, h .lines-passed, opens-check, right))
@@ -398,7 +410,7 @@ module _ (a : Asked) (index counts output work : List ℕ) where
   pub real-refused : (r : Refusal) → needs a .answer ≡ refused r → (r .number ≡ 17 → ⊥) → (r .number ≡ 5 → ⊥)
       → (6 ≤ r .number → buffersRight (length (a .batch)) (length output) (length work) ≡ true)
       → (15 ≤ r .number → (a .index ≡ index) × (a .counts ≡ counts)) → correctBatch g .answer ≡ refused r
-  unfolding allChecks unchanged real-state _orElse_ unless
+  unfolding allChecks unchanged _orElse_ unless
   real-refused r e n17 n5 buffers same =
       ap (λ (x : After). x .answer)
       (batch-refused g r (real-checks ∙ behind (first a) _ _ r (behind (job a) _ _ r past-own) (refused-by a r e)))
@@ -413,7 +425,7 @@ module _ (a : Asked) (index counts output work : List ℕ) where
   -- And the other way: a real call refused with another number than 5 and 11 is refused alike here, or 17 or this call's own 5 comes before it.
   pub needs-refused : (r : Refusal) → correctBatch g .answer ≡ refused r → (r .number ≡ 5 → ⊥) → (r .number ≡ 11 → ⊥)
       → (15 ≤ r .number → (index ≡ a .index) × (counts ≡ a .counts)) → Declines a r
-  unfolding allChecks declined real-state _orElse_ unless
+  unfolding allChecks declined _orElse_ unless
   needs-refused r e n5 n11 same = on-first (first a) refl
     where
       told : (q : Refusal) → allChecks a ≡ some q → needs a .answer ≡ refused q

@@ -1,3 +1,5 @@
+use Prim.Native.Nat.{_<_, _≤_}
+use native.Mathlib.Omega.{arith}
 use mathlib.Core.Path.{_≡_, sym, _∙_}
 use lib.Dec.{eqb, leb}
 use borrow.Author.Tests.{lt-leb, le-leb, eq-eqb, ne-eqb}
@@ -54,19 +56,36 @@ by-entries c =
 
 returns-3 : tie.Need-returns-3
 unfolding unless _orElse_
-returns-3 c = sym (by-entries (c .before) ∙ rw (ne-eqb _ _ (λ e. c .if1 .taken (c .before .count .ensures ∙ e))))
+returns-3 c =
+    let n = c .before in
+    let a = n .before .before .before .before .before .before .before .before .args in
+    let other : entryCount (a .job .now) ≡ 1 → ⊥ = λ e. c .if1 .taken (omega (arith, n .count .ensures)) in
+    sym (by-entries n ∙ rw (ne-eqb _ _ other))
+
+-- One entry: 5 decides.
+by-work : (c : tie.Else1) →
+    let a = c .before .before .before .before .before .before .before .before .before .args in
+    needsCheck (a .batch) (a .job .now) (a .work) ≡ unless (leb (a .batch) (a .work)) 5
+unfolding unless _orElse_
+by-work c =
+    let n = c .before in
+    let a = n .before .before .before .before .before .before .before .before .args in
+    let one : entryCount (a .job .now) ≡ 1 = omega (arith, n .count .ensures, c .if1 .left) in
+    by-entries n ∙ rw (eq-eqb _ _ one)
 
 returns-4 : tie.Need-returns-4
-unfolding unless _orElse_
+unfolding unless
 returns-4 c =
-    let b = c .before in
-    sym (by-entries (b .before) ∙ rw (eq-eqb _ _ (sym (b .before .count .ensures) ∙ b .if1 .left), le-leb _ _ (c .if2 .taken)))
+    let a = c .before .before .before .before .before .before .before .before .before .before .args in
+    let enough : a .batch ≤ a .work = omega (arith, c .if2 .taken) in
+    sym (by-work (c .before) ∙ rw (le-leb _ _ enough))
 
 returns-5 : tie.Need-returns-5
-unfolding unless _orElse_
+unfolding unless
 returns-5 c =
-    let b = c .before in
-    sym (by-entries (b .before) ∙ rw (eq-eqb _ _ (sym (b .before .count .ensures) ∙ b .if1 .left), lt-leb _ _ (c .if2 .left)))
+    let a = c .before .before .before .before .before .before .before .before .before .before .args in
+    let short : a .work < a .batch = omega (arith, c .if2 .left) in
+    sym (by-work (c .before) ∙ rw (lt-leb _ _ short))
 
 pub check-needs-spec : {M : Type 1} → statement M
 check-needs-spec =
