@@ -12,7 +12,7 @@ ghost use Rattle.set.specs.Ready.{Ready};
 ghost use Rattle.set.specs.Counted.{setWith};
 ghost use Rattle.rules.specs.Calls.{maxRead};
 ghost use Rattle.correct.specs.Pass.{Begun, countsOf, unchangedBy, returned, PassIs, Passed};
-ghost use Rattle.turn.specs.Turn.{stateOf, Stands, Countable, endOf};
+ghost use Rattle.correct.specs.Drive.{lentFrom, Driving, Driven};
 
 // What was written and counted, and the smallest count behind the accepted corrections, if there are any.
 pub struct Counts {
@@ -88,8 +88,17 @@ pub fn unchanged(len: usize) -> Counts
     }
 }
 
-// Turns until no base is left, each into what is left of the output.
-fn turns_of(
+// Where the part of a buffer begins that a turn is lent: behind what is written, or at its start where nothing is kept.
+fn lent_from(kept: bool, written: usize) -> usize
+    ensures { λ r. ⌜ r ≡ lentFrom kept written ⌝ }
+{
+    if kept { written } else { 0 }
+}
+
+// Turns until no base is left. A pass whose bytes are kept lends each turn what is left of the buffer; one whose bytes are only counted lends
+// the whole buffer anew, for GapSize to look back at its letters. One loop for both, so that the turn becomes part of it: its stack frame
+// has GapSize's filters, too much to lay out anew for every base.
+pub fn turns_of(
     set: &[u8],
     starts: &[u32],
     head: Header,
@@ -98,15 +107,11 @@ fn turns_of(
     c: u8,
     first: Place,
     read: &[u8],
+    kept: bool,
     out: &mut [u8],
 ) -> Pass
-    requires { ⌜
-        Ready (now set) (now starts) head × (1 ≤ c) × Stands (head .k) first (now read) × (first .written ≤ length (now out))
-        × Countable (endOf (now set) head (now counts) method c (stateOf first (now read) (take (first .written) (now out)))) ⌝ }
-    ensures { λ r. ⌜
-        PassIs (length (now (out .entry))) (now (out .exit))
-        (endOf (now (set .entry)) head (now (counts .entry)) method c (stateOf first (now (read .entry)) (take (first .written) (now (out .entry)))))
-        r ⌝ }
+    requires { ⌜ Driving (now set) (now starts) head (now counts) method c first (now read) kept (now out) ⌝ }
+    ensures { λ r. ⌜ Driven (now (set .entry)) head (now (counts .entry)) method c first (now (read .entry)) kept (now (out .entry)) (now (out .exit)) r ⌝ }
 {
     let mut p = first;
     let mut ahead = scan::first_ahead(head.n, read.len());
@@ -120,12 +125,23 @@ fn turns_of(
             };
             ahead = scan::read_ahead(set, starts, head, kmer, read, p.at);
         }
-        let w = p.written;
-        let turned = turn::turn(set, starts, head, counts, method, c, p, read, &mut out[w..]);
+        let from = lent_from(kept, p.written);
+        let turned = turn::turn(
+            set,
+            starts,
+            head,
+            counts,
+            method,
+            c,
+            p,
+            read,
+            &mut out[from..],
+        );
         let Turned::To(next) = turned else {
             return Pass::Full;
         };
-        if out.len() < next.written {
+        let end = lent_from(kept, next.written);
+        if out.len() < end {
             return Pass::Full;
         }
         p = next;
@@ -168,5 +184,5 @@ pub fn correct(
     }
     copy(&read[..k], out);
     let first = begin(set, starts, head, read);
-    turns_of(set, starts, head, counts, method, c, first, read, out)
+    turns_of(set, starts, head, counts, method, c, first, read, true, out)
 }

@@ -1,5 +1,8 @@
 use Prim.Native.Nat.{ℕ, _+_, _≤_}
 use mathlib.Core.Path.{_≡_, refl, sym, ap, _∙_, subst}
+use mathlib.Core.Bool.{true, false}
+use mathlib.Core.List.{List}
+use native.Mathlib.Omega.{arith}
 use lib.ListN.{length, take}
 use lib.Seq.{length-take-le}
 use borrow.Author.Needs.{needs}
@@ -10,7 +13,8 @@ use Rattle.support.specs.Support.{supportOf}
 use Rattle.turn.specs.declared.Place.{Place}
 use Rattle.turn.specs.Turn.{Countable}
 use Rattle.correct.specs.declared.Pass.{Pass}
-use Rattle.correct.specs.declared.Pass.the-variants.{Done}
+use Rattle.correct.specs.declared.Pass.the-variants.{Done, Full}
+use Rattle.correct.specs.Drive.{DriveIs}
 use Rattle.correct.proofs.Limits.{Limited, pass-limited, one-small}
 use Rattle.correct.proofs.Passes.{countable, pass-short, pass-begun, begun-stands}
 use Rattle.count.specs.Count.{CountIs, Counted}
@@ -51,8 +55,12 @@ first-many c =
     let a = c .before .before .before .before .before .before .before .before .args in
     length-take-le (a .head .k) (a .read .now) (c .before .if1 .left) ∙ sym (ap (λ (p : Place). p .written) (c .begin .ensures .is))
 
-count-turns-requires : tie.Need-count-turns-requires
-count-turns-requires c κs =
+-- Nothing is kept.
+none-kept : {A : Type 0} → false ≡ true → A
+none-kept e = absurd (let z : _≡_ {A = ℕ} 0 1 = cc in omega arith)
+
+turns-of-requires : tie.Need-turns-of-requires
+turns-of-requires c κs =
     let g = c .before in
     let s = g .before .before .before .before .before .before .before .before in
     let a = s .args in
@@ -63,12 +71,19 @@ count-turns-requires c κs =
       stands = begun-stands _ _ (a .head) (s .pre .0) (a .counts .now) (a .method) (a .c) (a .read .now) (g .begin .ensures) le;
       put = take (a .head .k) (a .read .now);
       many = first-many g;
+      here = λ e. none-kept e;
       countable = subst Countable (sym (pass-begun _ _ (a .head) (s .pre .0) (a .counts .now) (a .method) (a .c) (a .read .now) (g .begin .ensures) le))
           (countable _ _ (s .pre .2) (limited s));
+      room = omega arith;
     }
 
 same-length : tie.Need-same-length
 same-length c = search needs
+
+-- the answer of a pass whose bytes are counted
+counted-pass : (read out out′ : List ℕ) (n : rules.Pass) (r : Pass) → DriveIs false read out out′ n r → CountIs (length read) (length out) n r
+counted-pass read out out′ n (Done r) h = h .0
+counted-pass read out out′ n Full h = h .1 refl
 
 returns-2 : tie.Need-returns-2
 returns-2 c =
@@ -78,10 +93,8 @@ returns-2 c =
     let a = s .args in
     let begun = pass-begun _ _ (a .head) (s .pre .0) (a .counts .now) (a .method) (a .c) (a .read .now) (g .begin .ensures) (g .before .if1 .left) in
     counted s _
-    (subst (λ (n : rules.Pass). CountIs (length (a .read .now)) (length (a .spare .now)) n (t .count-turns .result)) begun
-    (t .count-turns .ensures (take (a .head .k) (a .read .now)) (first-many g)))
+    (subst (λ (n : rules.Pass). CountIs (length (a .read .now)) (length (a .spare .now)) n (t .turns-of .result)) begun
+    (counted-pass (a .read .now) (a .spare .now) _ _ (t .turns-of .result) (t .turns-of .ensures (take (a .head .k) (a .read .now)) (first-many g) (λ e. none-kept e))))
 
 pub count-spec : {M : Type 1} → statement M
-count-spec =
-    tie.close
-    (tie.spec unchanged-requires returns begin-requires count-turns-requires same-length returns-2)
+count-spec = tie.close (tie.spec unchanged-requires returns begin-requires turns-of-requires same-length returns-2)
