@@ -831,6 +831,12 @@ static void test_needs_answers(const uint8_t *set)
 /* ---- threads: the set is shared, the buffers are each thread's own, and its stack is what the header asks for */
 
 static struct done alone[SAMPLES];
+static struct asked alone_needs[SAMPLES];
+
+static struct asked needs_of(const uint8_t *set, const struct sample *sample)
+{
+    return ask(set, SET, nothing, ENTRY(sample->method, sample->confirm), "AACGCCG\nAACGC\nAACC\n", WORK);
+}
 
 static void *in_thread(void *set)
 {
@@ -838,7 +844,8 @@ static void *in_thread(void *set)
     for (size_t i = 0; i < CALLS * SAMPLES; i++) {
         const struct sample *sample = &samples[i % SAMPLES];
         struct done done = run(corrector_read, set, ENTRY(sample->method, sample->confirm), sample->read, OUTPUT);
-        *differ += memcmp(&done, &alone[i % SAMPLES], sizeof done) != 0;
+        struct asked asked = needs_of(set, sample);
+        *differ += memcmp(&done, &alone[i % SAMPLES], sizeof done) != 0 || memcmp(&asked, &alone_needs[i % SAMPLES], sizeof asked) != 0;
     }
     return differ;
 }
@@ -847,8 +854,10 @@ static void test_threads(uint8_t *set)
 {
     pthread_t threads[THREADS];
     pthread_attr_t attributes;
-    for (size_t i = 0; i < SAMPLES; i++)
+    for (size_t i = 0; i < SAMPLES; i++) {
         alone[i] = run(corrector_read, set, ENTRY(samples[i].method, samples[i].confirm), samples[i].read, OUTPUT);
+        alone_needs[i] = needs_of(set, &samples[i]);
+    }
     pthread_attr_init(&attributes);
     pthread_attr_setstacksize(&attributes, CORRECTOR_STACK);
     for (size_t i = 0; i < THREADS; i++)
