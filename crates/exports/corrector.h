@@ -64,7 +64,7 @@ struct corrector_entry {
 
 /*
  * Why a call is refused: what it returns, and number 0 of its answer. Checked upward, so that the least that applies is told, but for 11,
- * which comes last; corrector_make_set has an order of its own.
+ * which comes last, and 17, which comes between 4 and 5; corrector_make_set has an order of its own.
  */
 enum corrector_refusal {
     CORRECTOR_NOT_REFUSED = 0,
@@ -72,7 +72,7 @@ enum corrector_refusal {
     CORRECTOR_ENTRY_COUNT = 2,    /* over CORRECTOR_MAX_ENTRIES entries */
     CORRECTOR_METHOD_UNKNOWN = 3, /* place: the first such entry; told before any confirm is looked at */
     CORRECTOR_CONFIRM_ZERO = 4,   /* place: the first such entry */
-    CORRECTOR_BUFFERS = 5,        /* output or work too long, or work shorter than corrector_work_length */
+    CORRECTOR_BUFFERS = 5,        /* output or work too long, or work shorter than corrector_work_length; of corrector_needs: work shorter than the batch */
     CORRECTOR_BATCH = 6,          /* not empty without a final byte 10, or over CORRECTOR_MAX_LINES lines */
     CORRECTOR_SET_LENGTH = 7,     /* 0 or not a multiple of 512 */
     CORRECTOR_SET_CHECK = 8,      /* a wrong check word; place: the first such block */
@@ -83,7 +83,8 @@ enum corrector_refusal {
     CORRECTOR_NOT_RISING = 13,    /* the canonical code of a kept line doesn't rise; place: the line */
     CORRECTOR_TOO_SHORT = 14,     /* the buffer is too short for the blocks, or the list for the counts */
     CORRECTOR_INDEX = 15,         /* an offered index isn't the set's; checked behind 10 and before 11 */
-    CORRECTOR_COUNTS = 16         /* an offered list of counts has not one for each key; checked behind 15 and before 11 */
+    CORRECTOR_COUNTS = 16,        /* an offered list of counts has not one for each key; checked behind 15 and before 11 */
+    CORRECTOR_NOT_ONE_ENTRY = 17  /* of corrector_needs: the job has other than one entry; checked behind 4 and before 5 */
 };
 
 /*
@@ -113,7 +114,10 @@ enum {
     CORRECTOR_YIELD = 7, /* accepted * 1000 / attempts to the nearest whole, an exact half to the even neighbour; 0 if there were none */
     CORRECTOR_SUPPORTED = 8, /* 1 if a support is told; 0 if nothing was accepted or no counts were offered */
     CORRECTOR_SUPPORT = 9, /* the smallest count behind the accepted corrections, which may be 0; below 2^32 */
-    CORRECTOR_CALL_NUMBERS = 10 /* how many there are */
+    CORRECTOR_CALL_NUMBERS = 10, /* how many there are */
+    /* corrector_needs; CORRECTOR_TURNS and CORRECTOR_LOOKUPS stand where they do above */
+    CORRECTOR_BYTES = 2, /* that the output will be */
+    CORRECTOR_NEEDS_NUMBERS = 5 /* how many there are */
 };
 
 /* The least work buffer for an output and an input of these lengths, if both are within the limits. */
@@ -174,6 +178,28 @@ uint64_t corrector_batch(
     const uint8_t *job, size_t job_length,
     const uint8_t *batch, size_t batch_length,
     uint8_t *output, size_t output_length,
+    uint8_t *work, size_t work_length,
+    uint64_t *answer, size_t answer_length);
+
+/*
+ * What a batch will need, by a job of one entry: the exact bytes of its output, its turns and its lookups. No output is lent, and none is written.
+ * Returns 0, or the refusal.
+ *
+ * Booking: ask this, then lend corrector_batch an output of CORRECTOR_BYTES bytes. With the same set, job and batch, and with an output and a work
+ * buffer within the limits (corrector_work_length), that call is accepted exactly when its output has at least so many bytes, and then reports these
+ * numbers; a shorter output is refused with 11. So it is whatever index and counts either of the two calls offers, if they pass 15 and 16. The bytes
+ * may be more than CORRECTOR_MAX_OUTPUT: then no output is long enough, and the batch has to be split.
+ *
+ * It checks 1 to 10, 15 and 16 as corrector_batch does, but for two: 17, behind 4, says that the job has other than one entry, none or several; and 5
+ * says that work is shorter than the batch, and nothing else. Work may be of any length from the batch's on. Afterwards: accepted, work is all zero;
+ * refused, it has not changed. Nothing else is written but the answer.
+ */
+uint64_t corrector_needs(
+    const uint8_t *set, size_t set_length,
+    const uint8_t *index, size_t index_length,
+    const uint32_t *counts, size_t counts_length,
+    const uint8_t *job, size_t job_length,
+    const uint8_t *batch, size_t batch_length,
     uint8_t *work, size_t work_length,
     uint64_t *answer, size_t answer_length);
 

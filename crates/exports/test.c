@@ -1,4 +1,4 @@
-/* The library through corrector.h: document 01's samples, jobs of several confirms, every refusal, answers of every length, indexes, counts, threads. */
+/* The library through corrector.h: document 01's samples, jobs of several confirms, every refusal, answers of every length, indexes, counts, needs, threads. */
 #include "corrector.h"
 
 #include <pthread.h>
@@ -700,9 +700,143 @@ static void test_counts_refused(const uint8_t *set)
     check("10 before 16", counts_refused(wrong, (struct offered){NO_INDEX, counts, 4}, OUTPUT, CORRECTOR_SET_KEY, 1));
 }
 
+/* ---- what a batch will need */
+
+struct asked {
+    uint64_t number;
+    uint64_t answer[CORRECTOR_NEEDS_NUMBERS];
+    uint8_t work[WORK];
+};
+
+static struct asked ask(
+    const uint8_t *set, size_t set_length, struct offered offered, const uint8_t *job, size_t job_length, const char *batch, size_t work_length)
+{
+    struct asked asked;
+    memset(&asked, FILL, sizeof asked);
+    asked.number = corrector_needs(
+        set, set_length, offered.index, offered.index_length, offered.counts, offered.counts_length, job, job_length, (const uint8_t *)batch, strlen(batch),
+        asked.work, work_length, asked.answer, CORRECTOR_NEEDS_NUMBERS);
+    return asked;
+}
+
+static const struct offered nothing = {(const uint8_t *)"", 0, (const uint32_t[]){0}, 0};
+
+/* Accepted: the work buffer is all zero, and what is behind it stays. */
+static int told(const struct asked *asked, size_t work_length, uint64_t bytes, uint64_t turns, uint64_t lookups)
+{
+    return asked->number == 0 && asked->answer[CORRECTOR_NUMBER] == 0 && asked->answer[CORRECTOR_PLACE] == 0 && asked->answer[CORRECTOR_BYTES] == bytes
+        && asked->answer[CORRECTOR_TURNS] == turns && asked->answer[CORRECTOR_LOOKUPS] == lookups && all(asked->work, work_length, 0)
+        && all(asked->work + work_length, WORK - work_length, FILL);
+}
+
+static int declined(const struct asked *asked, uint64_t number, uint64_t place)
+{
+    int numbers = asked->number == number && asked->answer[CORRECTOR_NUMBER] == number && asked->answer[CORRECTOR_PLACE] == place;
+    for (size_t i = CORRECTOR_BYTES; i < CORRECTOR_NEEDS_NUMBERS; i++)
+        numbers = numbers && asked->answer[i] == 0;
+    return numbers && all(asked->work, WORK, FILL);
+}
+
+/* The batch call with an output of just those bytes reports these numbers, and a byte less is 11 at the last line. */
+static int booked(const uint8_t *set, const uint8_t *job, size_t job_length, const char *batch, uint64_t bytes, uint64_t turns, uint64_t lookups)
+{
+    struct asked asked = ask(set, SET, nothing, job, job_length, batch, strlen(batch));
+    struct done real = run(corrector_batch, set, job, job_length, batch, bytes);
+    struct done shorter = run(corrector_batch, set, job, job_length, batch, bytes == 0 ? 0 : bytes - 1);
+    size_t lines = 0;
+    for (size_t i = 0; i < strlen(batch); i++)
+        lines += batch[i] == '\n';
+    return told(&asked, strlen(batch), bytes, turns, lookups) && real.number == 0 && real.answer[CORRECTOR_WRITTEN] == bytes
+        && real.answer[CORRECTOR_TURNS] == turns && real.answer[CORRECTOR_LOOKUPS] == lookups
+        && (bytes == 0 || refuses(&shorter, bytes - 1, CORRECTOR_NO_ROOM, lines - 1));
+}
+
+static void test_needs(const uint8_t *set)
+{
+    check("the printed batch's needs", booked(set, JOB("\3\1"), "AACGCCG\nAA\n", 11, 1, 21));
+    check("needs of each method", booked(set, JOB("\1\1"), "AACGCCG\nAACC\nAACG\n", 19, 7, 37) && booked(set, JOB("\2\2"), "AACCG\n", 8, 3, 37)
+        && booked(set, JOB("\4\1"), "AACGCCG\nAACGC\n", 14, 6, 63) && booked(set, JOB("\3\1"), "AACGCCG\nAACGC\n", 14, 3, 65));
+    check("needs of no letters", booked(set, JOB("\1\1"), "", 0, 0, 0) && booked(set, JOB("\1\1"), "\n\n", 2, 0, 0));
+    int right = 1;
+    for (size_t work = 0; work <= WORK; work++) {
+        struct asked asked = ask(set, SET, nothing, JOB("\3\1"), "AACGCCG\nAA\n", work);
+        right = right && (work < 11 ? declined(&asked, CORRECTOR_BUFFERS, 0) : told(&asked, work, 11, 1, 21));
+    }
+    check("work from the batch on", right);
+    size_t length = CORRECTOR_MAX_WORK + 1;
+    uint8_t *work = malloc(length);
+    memset(work, FILL, length);
+    uint64_t number = corrector_needs(set, SET, NO_INDEX, NO_COUNTS, JOB("\3\1"), (const uint8_t *)"AACGCCG\n", 8, work, length, (uint64_t[]){0}, 0);
+    check("work over the limit of the other calls", number == 0 && all(work, length, 0));
+    free(work);
+}
+
+static void test_needs_offered(const uint8_t *set)
+{
+    uint8_t index[SET];
+    sample_index(index);
+    struct asked both = ask(set, SET, (struct offered){index, SET, rising_counts, 5}, JOB("\3\1"), "AACGCCG\nAA\n", 11);
+    check("needs with an index and counts", told(&both, 11, 11, 1, 21));
+    struct asked cut = ask(set, SET, (struct offered){index, SET - 1, rising_counts, 4}, JOB("\3\1"), "AACGCCG\nAA\n", 11);
+    struct asked few = ask(set, SET, (struct offered){index, SET, rising_counts, 4}, JOB("\3\1"), "AACGCCG\nAA\n", 11);
+    check("15, then 16, of needs", declined(&cut, CORRECTOR_INDEX, 0) && declined(&few, CORRECTOR_COUNTS, 0));
+}
+
+/* Each call meets also what is checked behind it. */
+static void test_needs_refused(const uint8_t *set)
+{
+    struct offered wrong = {set, SET, rising_counts, 4};
+    struct asked second = ask(set, 0, wrong, JOB("\1\1\5\0"), "AA", 1), zero = ask(set, 0, wrong, JOB("\1\1\2\0"), "AA", 1);
+    struct asked half = ask(set, 0, wrong, JOB("\1\1\2"), "AA", 1), nine = ask(set, 0, wrong, JOB("\1\1\1\1\1\1\1\1\1\1\1\1\1\1\1\1\1"), "AA", 1);
+    check("2, 3 and 4 before 17", declined(&nine, CORRECTOR_ENTRY_COUNT, 0) && declined(&second, CORRECTOR_METHOD_UNKNOWN, 1)
+        && declined(&zero, CORRECTOR_CONFIRM_ZERO, 1) && declined(&half, CORRECTOR_CONFIRM_ZERO, 1));
+    struct asked none = ask(set, 0, wrong, JOB(""), "AA", 1), two = ask(set, 0, wrong, JOB("\1\1\2\1"), "AA", 1);
+    check("17, no entries", declined(&none, CORRECTOR_NOT_ONE_ENTRY, 0));
+    check("17, two entries", declined(&two, CORRECTOR_NOT_ONE_ENTRY, 0));
+    struct asked alone = ask(set, SET, nothing, JOB("\3\1\3\1"), "AACGCCG\nAA\n", 11);
+    check("17 alone", declined(&alone, CORRECTOR_NOT_ONE_ENTRY, 0));
+    struct asked short_work = ask(set, 0, wrong, JOB("\1\1"), "AA", 1), open_ended = ask(set, 0, wrong, JOB("\1\1"), "AA", 2);
+    check("5, then 6, of needs", declined(&short_work, CORRECTOR_BUFFERS, 0) && declined(&open_ended, CORRECTOR_BATCH, 0));
+    struct asked empty = ask(set, 0, wrong, JOB("\1\1"), "A\n", 2), cut = ask(set, BLOCK, wrong, JOB("\1\1"), "A\n", 2);
+    check("7 and 9 of needs", declined(&empty, CORRECTOR_SET_LENGTH, 0) && declined(&cut, CORRECTOR_SET_HEADER, 0));
+    uint8_t damaged[SET];
+    memcpy(damaged, set, SET);
+    put_word(damaged, 65, 6);
+    struct asked block = ask(damaged, SET, wrong, JOB("\1\1"), "A\n", 2);
+    put_word(damaged, 127, 183);
+    struct asked key = ask(damaged, SET, wrong, JOB("\1\1"), "A\n", 2);
+    check("8 and 10 of needs", declined(&block, CORRECTOR_SET_CHECK, 1) && declined(&key, CORRECTOR_SET_KEY, 1));
+}
+
+/* Answers of every length; a batch that is too long. */
+static void test_needs_answers(const uint8_t *set)
+{
+    static const uint64_t accepted[] = {0, 0, 11, 1, 21}, refused[] = {17, 0, 0, 0, 0}, too_long[] = {1, 0, 0, 0, 0};
+    static uint8_t long_batch[CORRECTOR_MAX_INPUT + 1], work[sizeof long_batch];
+    int right = 1;
+    for (size_t length = 0; length <= 7; length++) {
+        uint64_t answers[3][9];
+        memset(answers, KEPT & 0xff, sizeof answers);
+        uint64_t of_batch = corrector_needs(set, SET, NO_INDEX, NO_COUNTS, JOB("\3\1"), (const uint8_t *)"AACGCCG\nAA\n", 11, work, 11, answers[0], length);
+        uint64_t of_two = corrector_needs(set, SET, NO_INDEX, NO_COUNTS, JOB("\3\1\3\1"), (const uint8_t *)"\n", 1, work, 1, answers[1], length);
+        uint64_t of_long = corrector_needs(set, SET, NO_INDEX, NO_COUNTS, JOB(""), long_batch, sizeof long_batch, work, 0, answers[2], length);
+        right = right && of_batch == 0 && of_two == CORRECTOR_NOT_ONE_ENTRY && of_long == CORRECTOR_INPUT_LENGTH
+            && starts_alike(answers[0], length, accepted, CORRECTOR_NEEDS_NUMBERS, 9)
+            && starts_alike(answers[1], length, refused, CORRECTOR_NEEDS_NUMBERS, 9)
+            && starts_alike(answers[2], length, too_long, CORRECTOR_NEEDS_NUMBERS, 9);
+    }
+    check("answers of needs", right);
+}
+
 /* ---- threads: the set is shared, the buffers are each thread's own, and its stack is what the header asks for */
 
 static struct done alone[SAMPLES];
+static struct asked alone_needs[SAMPLES];
+
+static struct asked needs_of(const uint8_t *set, const struct sample *sample)
+{
+    return ask(set, SET, nothing, ENTRY(sample->method, sample->confirm), "AACGCCG\nAACGC\nAACC\n", WORK);
+}
 
 static void *in_thread(void *set)
 {
@@ -710,7 +844,8 @@ static void *in_thread(void *set)
     for (size_t i = 0; i < CALLS * SAMPLES; i++) {
         const struct sample *sample = &samples[i % SAMPLES];
         struct done done = run(corrector_read, set, ENTRY(sample->method, sample->confirm), sample->read, OUTPUT);
-        *differ += memcmp(&done, &alone[i % SAMPLES], sizeof done) != 0;
+        struct asked asked = needs_of(set, sample);
+        *differ += memcmp(&done, &alone[i % SAMPLES], sizeof done) != 0 || memcmp(&asked, &alone_needs[i % SAMPLES], sizeof asked) != 0;
     }
     return differ;
 }
@@ -719,8 +854,10 @@ static void test_threads(uint8_t *set)
 {
     pthread_t threads[THREADS];
     pthread_attr_t attributes;
-    for (size_t i = 0; i < SAMPLES; i++)
+    for (size_t i = 0; i < SAMPLES; i++) {
         alone[i] = run(corrector_read, set, ENTRY(samples[i].method, samples[i].confirm), samples[i].read, OUTPUT);
+        alone_needs[i] = needs_of(set, &samples[i]);
+    }
     pthread_attr_init(&attributes);
     pthread_attr_setstacksize(&attributes, CORRECTOR_STACK);
     for (size_t i = 0; i < THREADS; i++)
@@ -755,6 +892,10 @@ int main(void)
     test_offered(set);
     test_supports(set);
     test_counts_refused(set);
+    test_needs(set);
+    test_needs_offered(set);
+    test_needs_refused(set);
+    test_needs_answers(set);
     test_threads(set);
     printf("%d passed, %d failed\n", passed, failed);
     return failed != 0;

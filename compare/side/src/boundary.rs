@@ -1,6 +1,7 @@
 //! The corrector, through the wrapper of crates/exports.
 use crate::library::Library;
 use crate::referee::calls::{Answer, Call, Job, Report};
+use crate::referee::needs::Needs;
 use crate::referee::set::Refusal;
 
 pub struct Linked;
@@ -17,11 +18,16 @@ impl Library for Linked {
     fn correct(&self, set: &[u8], job: &Job, output: &mut [u8], work: &mut [u8]) -> Answer {
         let call = match job.call {
             Call::Read => corrector::correct_read,
-            Call::Batch => corrector::correct_batch,
+            Call::Batch | Call::Needs => corrector::correct_batch,
         };
-        let index = (!job.index.is_empty()).then_some(&job.index[..]);
-        let counts = (!job.counts.is_empty()).then_some(&job.counts[..]);
+        let (index, counts) = offered(job);
         call(set, index, counts, corrector::Job::from_bytes(&job.entries), &job.input, output, work).map(report).map_err(refusal)
+    }
+
+    fn needs(&self, set: &[u8], job: &Job, work: &mut [u8]) -> Result<Needs, Refusal> {
+        let (index, counts) = offered(job);
+        let needs = corrector::needs(set, index, counts, corrector::Job::from_bytes(&job.entries), &job.input, work).map_err(refusal)?;
+        Ok(Needs { bytes: needs.bytes as u64, turns: needs.turns, lookups: needs.lookups })
     }
 
     fn make_set(&self, text: &[u8], k: u64, least: u64, blocks: &mut [u8], counts: &mut [u32]) -> Result<u64, Refusal> {
@@ -35,6 +41,11 @@ impl Library for Linked {
     fn count_solid(&self, set: &[u8], read: &[u8]) -> Result<(u64, u64), Refusal> {
         corrector::count_solid(set, read).map(|count| (count.kmers, count.solid)).map_err(refusal)
     }
+}
+
+/// The index and the counts that a job offers.
+fn offered(job: &Job) -> (Option<&[u8]>, Option<&[u32]>) {
+    ((!job.index.is_empty()).then_some(&job.index), (!job.counts.is_empty()).then_some(&job.counts))
 }
 
 fn report(report: corrector::Report) -> Report {

@@ -9,6 +9,7 @@ pub mod counts;
 pub mod damage;
 pub mod index;
 pub mod make;
+pub mod needs;
 pub mod reads;
 pub mod sets;
 
@@ -51,12 +52,16 @@ pub enum Kind {
     IndexBits,
     /// Counts that are offered: of each kind, and other numbers of them than there are keys; refusal 16 among the others.
     Counts,
+    /// What batches need: work buffers of every length, jobs of other than one entry, whatever else is refused.
+    Needs,
+    /// The same where the result is longer than any output.
+    NeedsLong,
     /// A set of a few hundred thousand keys.
     Large,
 }
 
 /// The kinds and how many units of each a run has. The exhaustive ones have as many as there are sets; the others are repeated by --rounds.
-const SCHEDULE: [(Kind, u64, bool); 18] = [
+const SCHEDULE: [(Kind, u64, bool); 20] = [
     (Kind::AllOfOne, 4, false),
     (Kind::AllOfThree, 529, false),
     (Kind::AllReads, 400, true),
@@ -74,6 +79,8 @@ const SCHEDULE: [(Kind, u64, bool); 18] = [
     (Kind::Index, 1600, true),
     (Kind::IndexBits, 16, false),
     (Kind::Counts, 2400, true),
+    (Kind::Needs, 1600, true),
+    (Kind::NeedsLong, 16, true),
     (Kind::Large, 2, true),
 ];
 
@@ -145,6 +152,8 @@ pub fn run(unit: &Unit, seed: u64, visit: &mut Visit) {
         Kind::Index => index::offered(rng, visit),
         Kind::IndexBits => index::bits(rng, 2 * unit.number as u8 + 1, visit),
         Kind::Counts => counts::offered(rng, visit),
+        Kind::Needs => needs::asked(rng, unit.number, visit),
+        Kind::NeedsLong => needs::long(rng, unit.number, visit),
         Kind::Large => large(rng, visit),
     }
 }

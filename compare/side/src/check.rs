@@ -1,11 +1,12 @@
 //! One case on all sides.
 use crate::library::Library;
 use crate::oracle::{self, Keys};
-use crate::referee::calls::{self, Answer, Call, Entry, Job, Outcome, Report};
+use crate::referee::calls::{self, Answer, Call, Entry, Job, Outcome, Report, MOST_OUTPUT, MOST_WORK};
 use crate::referee::ceilings::ceilings;
 use crate::referee::correctors::{Method, ALL_BY, ALL_EVENTS, BY, METHODS};
 use crate::referee::driver::Pass;
 use crate::referee::letters::code;
+use crate::referee::needs::{self, Needs};
 use crate::referee::set::{open, Refusal, Set};
 use crate::rng::Rng;
 use crate::set_file::BLOCK;
@@ -61,6 +62,9 @@ pub fn any_counts(rng: &mut Rng, n: usize) -> Vec<u32> {
     (0..n).map(|_| next()).collect()
 }
 
+/// Numbers of refusals, and 0.
+const REFUSALS: usize = 18;
+
 /// What agreed.
 #[derive(Clone)]
 pub struct Tally {
@@ -77,7 +81,11 @@ pub struct Tally {
     /// Calls with counts that told a support, and how many would tell another if a part of the evidence were left out, in the order of `PARTS`.
     pub supported: u64,
     pub parts: [u64; PARTS.len()],
-    pub refusals: [u64; 17],
+    pub refusals: [u64; REFUSALS],
+    /// Calls that told what a batch needs, those of them that told more bytes than any output has, and their refusals.
+    pub needs: u64,
+    pub long: u64,
+    pub needs_refusals: [u64; REFUSALS],
     pub attempts: u64,
     pub accepted: u64,
     pub lookups: u64,
@@ -102,7 +110,10 @@ impl Default for Tally {
             counted: 0,
             supported: 0,
             parts: [0; PARTS.len()],
-            refusals: [0; 17],
+            refusals: [0; REFUSALS],
+            needs: 0,
+            long: 0,
+            needs_refusals: [0; REFUSALS],
             attempts: 0,
             accepted: 0,
             lookups: 0,
@@ -137,6 +148,9 @@ impl Tally {
         self.lookups += other.lookups;
         self.several += other.several;
         self.apart += other.apart;
+        self.needs += other.needs;
+        self.long += other.long;
+        add_each(&mut self.needs_refusals, &other.needs_refusals);
         add_each(&mut self.refusals, &other.refusals);
         add_each(self.by.as_flattened_mut(), other.by.as_flattened());
         add_each(&mut self.by_k, &other.by_k);
@@ -164,7 +178,14 @@ impl Tally {
         println!("corrections at {} of 255 confirms", self.by_confirm.iter().filter(|count| **count > 0).count());
         println!("calls with several confirms: {}, of which {} would give other bytes with any one of them alone", self.several, self.apart);
         println!("met: {}", counts(ALL_EVENTS.iter().map(|event| format!("{event:?}")), &self.events));
-        println!("refusals: {}", counts((0..).map(|number: u32| number.to_string()), &self.refusals));
+        let numbers = || (0..).map(|number: u32| number.to_string());
+        println!("refusals: {}", counts(numbers(), &self.refusals));
+        println!(
+            "needs told: {}, of which {} more bytes than any output has; refused: {}",
+            self.needs,
+            self.long,
+            counts(numbers(), &self.needs_refusals)
+        );
     }
 
     fn add_pass(&mut self, k: usize, confirm: u8, method: Method, pass: &Pass) {
@@ -199,7 +220,7 @@ impl Tally {
 
     /// What agreed, as the last line counts it.
     pub fn agreed(&self) -> u64 {
-        self.passes + self.other + self.refusals.iter().sum::<u64>()
+        self.passes + self.other + self.needs + self.refusals.iter().chain(&self.needs_refusals).sum::<u64>()
     }
 }
 
@@ -289,17 +310,11 @@ pub fn check_open(library: &dyn Library, site: &Site, tally: &mut Tally) -> Resu
 /// A call on all sides: every byte and count of every pass, its ceilings, the answer, and every lent byte afterwards; without an index and with
 /// the set's, unless the job offers one. natir/br has no part where a read holds other bytes than the ten letters.
 pub fn check_call(library: &dyn Library, site: &Site, job: &Job, buffers: &mut Buffers, tally: &mut Tally) -> Result<(), Disagreement> {
-    let outcome = calls::call(&site.opened, job);
-    if let (Some(keys), Ok(set)) = (&site.keys, &site.opened) {
-        for (read, passes) in calls::reads(job).into_iter().zip(&outcome.passes) {
-            check_ceilings(set, job, read, passes)?;
-            if has_codes(read) {
-                check_passes(keys, job, read, passes, tally)?;
-            } else {
-                tally.add_other(passes);
-            }
-        }
+    if job.call == Call::Needs {
+        return check_needs(library, site, job, buffers, tally);
     }
+    let outcome = calls::call(&site.opened, job);
+    check_reads(site, job, &outcome.passes, tally)?;
     // Nothing in the job counts here, and most reads are corrected by One, too.
     if job.call == Call::Read && job.entries.first() == Some(&Method::One.byte()) {
         same("the count of solid k-mers", calls::count_solid(&site.opened, &job.input), library.count_solid(&site.bytes, &job.input))?;
@@ -319,12 +334,114 @@ pub fn check_call(library: &dyn Library, site: &Site, job: &Job, buffers: &mut B
         tally.counted += 1;
         tally.add_support(&outcome, site.counts());
     }
+    if job.call == Call::Batch {
+        let asked = Job { call: Call::Needs, work: job.input.len(), ..job.clone() };
+        // The passes of an accepted call need not be made again.
+        let answer = match outcome.answer {
+            Ok(_) => needs::checked(&site.opened, &asked).map(|_| needs::sum(&outcome.passes)),
+            Err(_) => needs::needs(&site.opened, &asked).answer,
+        };
+        check_booking(library, site, &asked, answer, Some(&outcome), buffers, tally)?;
+    }
     tally.calls += 1;
     match outcome.answer {
         Err(refusal) => tally.refusals[refusal.number as usize] += 1,
         Ok(_) => {
             tally.several += several_confirms(&calls::entries(job)) as u64;
             tally.apart += tells_confirms_apart(site, job, &outcome) as u64;
+        }
+    }
+    Ok(())
+}
+
+/// What lines need, on all sides.
+fn check_needs(library: &dyn Library, site: &Site, job: &Job, buffers: &mut Buffers, tally: &mut Tally) -> Result<(), Disagreement> {
+    let needed = needs::needs(&site.opened, job);
+    check_reads(site, job, &needed.passes, tally)?;
+    tally.calls += 1;
+    check_booking(library, site, job, needed.answer, None, buffers, tally)
+}
+
+/// What the library tells of the needs, with the set's index and counts too unless the job offers some; and the batch call: with an output of just
+/// so many bytes, and one byte less. `outcome` is a call of the same batch, if one was made.
+fn check_booking(
+    library: &dyn Library,
+    site: &Site,
+    job: &Job,
+    expected: Result<Needs, Refusal>,
+    outcome: Option<&Outcome>,
+    buffers: &mut Buffers,
+    tally: &mut Tally,
+) -> Result<(), Disagreement> {
+    check_told(library, site, job, expected, buffers)?;
+    if job.index.is_empty() && job.counts.is_empty() {
+        let offering = Job { index: site.index().to_vec(), counts: site.counts().to_vec(), ..job.clone() };
+        check_told(library, site, &offering, expected, buffers).map_err(|found| found.with("an index and counts"))?;
+    }
+    match expected {
+        Err(refusal) => tally.needs_refusals[refusal.number as usize] += 1,
+        Ok(needs) => {
+            check_real(library, site, job, needs, outcome, buffers).map_err(|found| found.with("an output by what it needs"))?;
+            tally.needs += 1;
+            tally.long += (needs.bytes > MOST_OUTPUT as u64) as u64;
+        }
+    }
+    Ok(())
+}
+
+/// The library's answer, and every byte of the work buffer afterwards.
+fn check_told(library: &dyn Library, site: &Site, job: &Job, expected: Result<Needs, Refusal>, buffers: &mut Buffers) -> Result<(), Disagreement> {
+    buffers.work.clear();
+    buffers.work.resize(job.work, LENT);
+    let answer = library.needs(&site.bytes, job, &mut buffers.work);
+    same("what a batch needs", expected, answer)?;
+    same_everywhere("the work buffer of needs", if answer.is_ok() { 0 } else { LENT }, &buffers.work)
+}
+
+/// The batch call: with an output of just so many bytes it reports these numbers, with one byte less it is 11 at the last line. Where no output has so
+/// many, the longest is 11, too.
+fn check_real(
+    library: &dyn Library,
+    site: &Site,
+    job: &Job,
+    needs: Needs,
+    outcome: Option<&Outcome>,
+    buffers: &mut Buffers,
+) -> Result<(), Disagreement> {
+    let real = |output: usize| Job { call: Call::Batch, output, work: 2 * output.max(job.input.len()), ..job.clone() };
+    if needs.bytes > MOST_OUTPUT as u64 {
+        let longest = Job { work: MOST_WORK, ..real(MOST_OUTPUT) };
+        let refused = calls::call(&site.opened, &longest).answer;
+        same("the referee's refusal of the longest output", Some(11), refused.err().map(|refusal| refusal.number))?;
+        return check_answer(library, site, &longest, refused, &[], buffers);
+    }
+    let exact = real(needs.bytes as usize);
+    let made;
+    let fits = match outcome.filter(|outcome| outcome.answer.is_ok()) {
+        Some(outcome) => outcome,
+        None => {
+            made = calls::call(&site.opened, &exact);
+            &made
+        }
+    };
+    let told = fits.answer.map(|report| Needs { bytes: report.written, turns: report.turns, lookups: report.lookups });
+    same("the referee's batch call, by its needs", Ok(needs), told)?;
+    check_answer(library, site, &exact, fits.answer, &fits.bytes, buffers)?;
+    match job.input.iter().filter(|byte| **byte == 10).count().checked_sub(1) {
+        Some(line) => check_answer(library, site, &real(exact.output - 1), Err(Refusal::new(11, line)), &[], buffers),
+        None => Ok(()),
+    }
+}
+
+/// The passes of reads: their ceilings, and natir/br's.
+fn check_reads(site: &Site, job: &Job, passes: &[Vec<Pass>], tally: &mut Tally) -> Result<(), Disagreement> {
+    let (Some(keys), Ok(set)) = (&site.keys, &site.opened) else { return Ok(()) };
+    for (read, passes) in calls::reads(job).into_iter().zip(passes) {
+        check_ceilings(set, job, read, passes)?;
+        if has_codes(read) {
+            check_passes(keys, job, read, passes, tally)?;
+        } else {
+            tally.add_other(passes);
         }
     }
     Ok(())

@@ -2,6 +2,7 @@
 use crate::referee::calls::{call, count_solid, Answer, Call, Job};
 use crate::referee::index::make_index;
 use crate::referee::make::{make_set, Room};
+use crate::referee::needs::{needs, Needs};
 use crate::referee::set::{open, Refusal};
 
 pub trait Library: Sync {
@@ -12,6 +13,9 @@ pub trait Library: Sync {
 
     /// The call that the job names, with the index and the counts that it offers, over lent buffers of the lengths that it gives.
     fn correct(&self, set: &[u8], job: &Job, output: &mut [u8], work: &mut [u8]) -> Answer;
+
+    /// What the job's lines need, over a lent work buffer of the length that it gives.
+    fn needs(&self, set: &[u8], job: &Job, work: &mut [u8]) -> Result<Needs, Refusal>;
 
     /// The set file made from k-mer counts as text, and the counts of its keys: the length of the blocks in bytes, or a refusal.
     fn make_set(&self, text: &[u8], k: u64, least: u64, blocks: &mut [u8], counts: &mut [u32]) -> Result<u64, Refusal>;
@@ -46,6 +50,14 @@ impl Library for StandIn {
             }
         }
         outcome.answer
+    }
+
+    fn needs(&self, set: &[u8], job: &Job, work: &mut [u8]) -> Result<Needs, Refusal> {
+        let answer = needs(&open(set), job).answer;
+        if answer.is_ok() {
+            work.fill(0);
+        }
+        answer
     }
 
     fn make_set(&self, text: &[u8], k: u64, least: u64, blocks: &mut [u8], counts: &mut [u32]) -> Result<u64, Refusal> {
@@ -83,5 +95,6 @@ pub fn call_name(call: Call) -> &'static str {
     match call {
         Call::Read => "read",
         Call::Batch => "batch",
+        Call::Needs => "needs",
     }
 }

@@ -1,10 +1,12 @@
 //! The fixed list of cases, for a replay with no Rust at hand. Its format is in compare/README.md.
+use crate::cases::needs::{self, Round};
 use crate::cases::{any_entries, batch_of, counts, damage, index, job, reads, sets};
 use crate::check::{any_counts, check_call, tells_confirms_apart, Buffers, Site, Tally, LENT};
 use crate::library::{Library, StandIn};
 use crate::referee::calls::{call, entries, Answer, Call, Job, Report};
 use crate::referee::correctors::{Event, Method, BY, METHODS};
 use crate::referee::driver::Pass;
+use crate::referee::needs::Needs;
 use crate::referee::set::Refusal;
 use crate::rng::Rng;
 use crate::samples::{SAMPLES, SUPPORTED};
@@ -21,6 +23,7 @@ const READ: u32 = 3;
 const BATCH: u32 = 4;
 const INDEX: u32 = 5;
 const COUNTS: u32 = 6;
+const NEEDS: u32 = 7;
 
 /// Words of a record, and of the list's head.
 const RECORD: usize = 16;
@@ -125,14 +128,35 @@ impl List {
         self.cases += 1;
     }
 
-    /// A call, after natir/br and the referee have agreed on it; on reads with other bytes than the ten letters it is the referee's alone.
-    fn call(&mut self, site: &Site, job: &Job) {
+    /// What a call is lent, after natir/br and the referee have agreed on it; on reads with other bytes than the ten letters it is the referee's alone.
+    fn begin(&mut self, site: &Site, job: &Job) {
         assert!(site.bytes.len() <= MOST_SET && job.index.len() <= MOST_INDEX && job.entries.len() <= MOST_ENTRIES);
         assert!(job.counts.len() <= MOST_COUNTS && job.input.len() <= MOST_INPUT && job.output <= MOST_OUTPUT && job.work <= MOST_WORK);
         check_call(&StandIn, site, job, &mut self.buffers, &mut self.tally).expect("all sides agree");
         self.use_set(site);
         self.use_index(&job.index);
         self.use_counts(&job.counts);
+        self.cases += 1;
+    }
+
+    /// What a batch needs.
+    fn needs(&mut self, site: &Site, job: &Job) {
+        self.begin(site, job);
+        let mut words = [0; RECORD];
+        words[0] = NEEDS;
+        (words[2], words[3], words[5]) = (job.entries.len() as u32, job.input.len() as u32, job.work as u32);
+        match crate::referee::needs::needs(&site.opened, job).answer {
+            Ok(needs) => (words[10], words[11], words[12]) = (small(needs.bytes), small(needs.turns), small(needs.lookups)),
+            Err(refusal) => (words[8], words[9]) = (small(refusal.number), small(refusal.place)),
+        }
+        self.record(words);
+        self.bytes.extend_from_slice(&job.entries);
+        self.bytes.extend_from_slice(&job.input);
+    }
+
+    /// A read or a batch call.
+    fn call(&mut self, site: &Site, job: &Job) {
+        self.begin(site, job);
         let outcome = call(&site.opened, job);
         let kind = if job.call == Call::Read { READ } else { BATCH };
         let lengths = [job.entries.len(), job.input.len(), job.output, job.work, outcome.bytes.len()].map(|length| length as u32);
@@ -150,7 +174,6 @@ impl List {
         for part in [&job.entries, &job.input, &outcome.bytes] {
             self.bytes.extend_from_slice(part);
         }
-        self.cases += 1;
     }
 
     /// A call that shows a scenario or a confirm not seen often, or that its passes have each their own confirm; or any by chance.
@@ -568,6 +591,94 @@ fn late_counts(list: &mut List, rng: &mut Rng) {
     }
 }
 
+/// A job that the list has room for.
+fn fits(job: &Job) -> bool {
+    job.input.len() <= MOST_INPUT && job.entries.len() <= MOST_ENTRIES && job.work <= MOST_WORK
+}
+
+/// What the samples need, by work buffers of every length; the printed batch with jobs of no, two and more entries, and with whatever comes before and behind 17.
+fn needs_of_samples(list: &mut List, rng: &mut Rng) {
+    let site = Site::new(crate::samples::set());
+    let reads: Vec<Vec<u8>> = SAMPLES.map(|sample| sample.2.as_bytes().to_vec()).to_vec();
+    for method in METHODS {
+        for confirm in [1, 2] {
+            list.needs(&site, &needs::job(&[method.byte(), confirm], &batch_of(&reads)));
+            list.needs(&site, &needs::job(&[method.byte(), confirm], b"AACGCCG\nAACGC\n"));
+        }
+    }
+    let printed = needs::job(&[3, 1], b"AACGCCG\nAA\n");
+    for work in (0..=printed.input.len() + 1).chain([22, 23, MOST_WORK]) {
+        list.needs(&site, &Job { work, ..printed.clone() });
+    }
+    list.needs(&site, &needs::job(&[1, 1], b""));
+    list.needs(&site, &needs::job(&[1, 1], b"\n"));
+    for entries in
+        [&[][..], &[3, 1, 3, 1], &[1, 1, 2, 1, 3, 1], &[1; 16], &[1; 18], &[1, 1, 1], &[3], &[5, 1], &[3, 0], &[3, 1, 5, 1], &[3, 1, 3, 0], &[0; 18]]
+    {
+        let job = Job { entries: entries.to_vec(), ..printed.clone() };
+        list.needs(&site, &job);
+        for _ in 0..3 {
+            list.needs(&site, &needs::with_later_faults(rng, &job));
+        }
+        list.needs(&Site::new(site.bytes[..BLOCK].to_vec()), &job);
+        list.needs(&site, &Job { index: vec![0; BLOCK], counts: vec![7], ..job });
+    }
+}
+
+/// What batches need, by each method: for every odd k, with an index and counts that are the set's or aren't; with jobs and inputs that are refused, and with damaged sets.
+fn needs_of_batches(list: &mut List, rng: &mut Rng) {
+    for k in (1..=31).step_by(2) {
+        let (site, genome) = match k {
+            1 | 3 => (sets::dense(rng, k), reads::letters(rng, 60)),
+            _ if rng.percent(30) => sets::periodic(rng, k),
+            _ => small_genome(rng, k),
+        };
+        if site.bytes.len() > MOST_SET {
+            continue;
+        }
+        for method in METHODS {
+            let job = needs::job(&[method.byte(), rng.within(1, 5) as u8], &needs::any_batch(rng, &site, &genome));
+            list.needs(&site, &job);
+            let offered = Job { index: if k < 5 { site.index().to_vec() } else { Vec::new() }, counts: site.counts().to_vec(), ..job.clone() };
+            list.needs(&site, &offered);
+            list.needs(&site, &Job { work: rng.below(2 * job.input.len() + 1), ..offered.clone() });
+            list.needs(&site, &Job { counts: vec![1; site.counts().len() + 1], ..offered.clone() });
+            list.needs(&site, &Job { index: vec![0; BLOCK], ..offered });
+        }
+    }
+}
+
+/// Inputs, jobs and sets that are refused.
+fn needs_refused(list: &mut List, rng: &mut Rng) {
+    let (site, genome) = small_genome(rng, 9);
+    for _ in 0..150 {
+        let mut asked = None;
+        damage::input(rng, &genome, false, &mut |job| asked = Some(Job { call: Call::Needs, output: 0, ..job.clone() }));
+        let Some(job) = asked else { continue };
+        let works = needs::works(rng, job.input.len());
+        let job = Job { work: *rng.pick(&works), ..job };
+        if fits(&job) {
+            list.needs(&site, &job);
+        }
+    }
+    for _ in 0..120 {
+        let damaged = Site::new(damage::set(rng));
+        if damaged.bytes.len() <= 1024 {
+            let entry = any_entries(rng, 1, 4);
+            list.needs(&damaged, &needs::job(&entry, &needs::any_batch(rng, &damaged, b"ACGTTGCA")));
+        }
+    }
+}
+
+/// Results that are longer than any output.
+fn needs_long(list: &mut List, rng: &mut Rng) {
+    let round = Round::new(rng, 15, 1200);
+    for (method, times) in [(3, vec![1_000]), (4, vec![500, 0, 480]), (3, vec![2])] {
+        let lines: Vec<u8> = times.into_iter().flat_map(|times| round.line(times)).collect();
+        list.needs(&round.site, &needs::job(&[method, 1], &lines));
+    }
+}
+
 pub fn write(file: &str, seed: u64) -> Result<(), String> {
     let mut list = List::default();
     let rng = &mut Rng::of_unit(seed, u64::MAX);
@@ -584,6 +695,10 @@ pub fn write(file: &str, seed: u64) -> Result<(), String> {
     supports(&mut list, rng);
     offer_counts(&mut list, rng);
     late_counts(&mut list, rng);
+    needs_of_samples(&mut list, rng);
+    needs_of_batches(&mut list, rng);
+    needs_refused(&mut list, rng);
+    needs_long(&mut list, rng);
     list.tally.print();
     println!("{} cases, seed {seed}", list.cases);
     let bytes = list.finish();
@@ -632,6 +747,7 @@ pub fn replay(file: &str, library: &dyn Library) -> Result<bool, String> {
                 continue;
             }
             OPEN => library.open(set) == expected_open(&record),
+            NEEDS => replay_needs(&mut reader, &record, (set, index, &counts), head[6] as u8, library)?,
             READ | BATCH => replay_call(&mut reader, &record, (set, index, &counts), head[6] as u8, library)?,
             kind => return Err(format!("no record of kind {kind}")),
         };
@@ -655,21 +771,44 @@ fn expected_open(record: &[u32; RECORD]) -> Result<(u64, u64), Refusal> {
 /// What stands for a case from the records before it: the set, the index and the counts.
 type Offered<'a> = (&'a [u8], &'a [u8], &'a [u32]);
 
-fn replay_call(reader: &mut Reader, record: &[u32; RECORD], (set, index, counts): Offered, lent: u8, library: &dyn Library) -> Result<bool, String> {
-    let [entries, input, output, work, result] = [2, 3, 4, 5, 6].map(|at| record[at] as usize);
-    let job = Job {
-        call: if record[0] == READ { Call::Read } else { Call::Batch },
-        index: index.to_vec(),
-        counts: counts.to_vec(),
-        entries: reader.take(entries)?.to_vec(),
-        input: reader.take(input)?.to_vec(),
-        output,
-        work,
+/// The call of a record, with the bytes behind it.
+fn read_job(reader: &mut Reader, record: &[u32; RECORD], (_, index, counts): Offered) -> Result<Job, String> {
+    let [entries, input, output, work] = [2, 3, 4, 5].map(|at| record[at] as usize);
+    let call = match record[0] {
+        READ => Call::Read,
+        BATCH => Call::Batch,
+        _ => Call::Needs,
     };
+    let (entries, input) = (reader.take(entries)?.to_vec(), reader.take(input)?.to_vec());
+    Ok(Job { call, index: index.to_vec(), counts: counts.to_vec(), entries, input, output, work })
+}
+
+/// What lent bytes hold behind a result: as they were lent by any refusal but 11, else 0.
+fn rest(record: &[u32; RECORD], lent: u8) -> u8 {
+    if matches!(record[8], 0 | 11) {
+        0
+    } else {
+        lent
+    }
+}
+
+fn replay_needs(reader: &mut Reader, record: &[u32; RECORD], offered: Offered, lent: u8, library: &dyn Library) -> Result<bool, String> {
+    let job = read_job(reader, record, offered)?;
+    let mut work = vec![lent; job.work];
+    let answer = library.needs(offered.0, &job, &mut work);
+    let expected = match record[8] {
+        0 => Ok(Needs { bytes: record[10] as u64, turns: record[11] as u64, lookups: record[12] as u64 }),
+        number => Err(Refusal { number: number as u64, place: record[9] as u64 }),
+    };
+    Ok(answer == expected && work.iter().all(|byte| *byte == rest(record, lent)))
+}
+
+fn replay_call(reader: &mut Reader, record: &[u32; RECORD], offered: Offered, lent: u8, library: &dyn Library) -> Result<bool, String> {
+    let (job, result) = (read_job(reader, record, offered)?, record[6] as usize);
     let bytes = reader.take(result)?;
-    let (mut output, mut work) = (vec![lent; output], vec![lent; work]);
-    let answer = library.correct(set, &job, &mut output, &mut work);
-    let rest = if matches!(record[8], 1..=10 | 15 | 16) { lent } else { 0 };
+    let (mut output, mut work) = (vec![lent; job.output], vec![lent; job.work]);
+    let answer = library.correct(offered.0, &job, &mut output, &mut work);
+    let rest = rest(record, lent);
     let (written, spare) = output.split_at(result);
     Ok(answer == expected_answer(record) && written == bytes && spare.iter().chain(&work).all(|byte| *byte == rest))
 }

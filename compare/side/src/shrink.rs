@@ -91,7 +91,7 @@ impl Failure {
     fn smaller_call(&mut self, library: &dyn Library, begun: Instant) {
         let job_now = |failure: &Failure| failure.job.clone().expect("a call");
         let first = job_now(self);
-        if first.call == Call::Batch {
+        if first.call != Call::Read {
             for read in reads(&first) {
                 let single = Job { index: first.index.clone(), counts: first.counts.clone(), ..job(Call::Read, &first.entries, read) };
                 if self.try_with(library, None, Some(single)) {

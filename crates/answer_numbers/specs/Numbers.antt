@@ -9,6 +9,7 @@ use Rattle.rules.specs.Refusal.{Refusal, Outcome, accepted, refused}
 use Rattle.rules.specs.Report.{Report}
 use Rattle.rules.specs.Set.{KmerSet, opened}
 use Rattle.rules.specs.Solid.{Solids}
+use Rattle.rules.specs.Needs.{Needs}
 use Rattle.opening.specs.declared.Opened.{Opened}
 use Rattle.opening.specs.Opened.{Opens}
 
@@ -50,6 +51,11 @@ solidNumbers (refused r) = refusedNumbers r
 unfoldable pub madeNumbers : Outcome ℕ → List ℕ
 madeNumbers (accepted length) = 0 ∷ 0 ∷ length ∷ []
 madeNumbers (refused r) = r .number ∷ r .place ∷ 0 ∷ []
+
+-- What a job needs: the refusal's number (0: none), its place, bytes, turns, lookups.
+unfoldable pub needsNumbers : Outcome Needs → List ℕ
+needsNumbers (accepted n) = 0 ∷ 0 ∷ n .bytes ∷ n .turns ∷ n .lookups ∷ []
+needsNumbers (refused r) = r .number ∷ r .place ∷ 0 ∷ 0 ∷ 0 ∷ []
 
 -- As many of the numbers as there is room for, from the start; the rest stays as it was.
 unfoldable pub laid : List ℕ → List ℕ → List ℕ

@@ -11,7 +11,8 @@ ghost use Rattle.refusal.specs.Refusal.{refusalOf};
 ghost use Rattle.report.specs.Answer.{answerOf};
 ghost use Rattle.solid.specs.Solid.{countOf};
 ghost use Rattle.lay.specs.Made.{outcomeOf};
-ghost use Rattle.answer_numbers.specs.Numbers.{supportNumber, numbersOf, refusedNumbers, OpenNumbers, solidNumbers, madeNumbers, Told};
+ghost use Rattle.needs.specs.Needs.{answerOf as needsTold};
+ghost use Rattle.answer_numbers.specs.Numbers.{supportNumber, numbersOf, refusedNumbers, OpenNumbers, solidNumbers, madeNumbers, needsNumbers, Told};
 
 // The number of a support, 0 where there is none.
 fn support_number(supported: bool, support: u32) -> u64
@@ -91,6 +92,22 @@ pub fn made_numbers(made: Made) -> [u64; 3]
     match made {
         Made::Blocks(length) => [0, 0, length as u64],
         Made::Refused(reason) => [refusal::number_of(reason), refusal::place_of(reason), 0],
+    }
+}
+
+// The numbers of what a job needs.
+pub fn needs_numbers(answer: needs::Answer) -> [u64; 5]
+    ensures { λ r. ⌜ r ≡ needsNumbers (needsTold answer) ⌝ }
+{
+    match answer {
+        needs::Answer::Need(need) => [0, 0, need.bytes as u64, need.turns, need.lookups],
+        needs::Answer::Refused(reason) => [
+            refusal::number_of(reason),
+            refusal::place_of(reason),
+            0,
+            0,
+            0,
+        ],
     }
 }
 

@@ -3,6 +3,7 @@
 ghost use mathlib.Core.Path.{_≡_};
 ghost use lib.ListN.{length};
 use libc::STDOUT_FILENO;
+use refusal::Refusal;
 use report::Answer;
 
 // What the lent bytes are before a call.
@@ -23,6 +24,11 @@ fn print(word: &[u8], number: u64) {
     io::print_decimal(STDOUT_FILENO, number);
 }
 
+fn print_refusal(refusal: Refusal) {
+    print(b": refused ", refusal::number_of(refusal));
+    print(b" place ", refusal::place_of(refusal));
+}
+
 fn print_answer(answer: Answer) {
     match answer {
         Answer::Report(report) => {
@@ -30,10 +36,18 @@ fn print_answer(answer: Answer) {
             print(b" turns ", report.turns);
             print(b" lookups ", report.lookups);
         }
-        Answer::Refused(refusal) => {
-            print(b": refused ", refusal::number_of(refusal));
-            print(b" place ", refusal::place_of(refusal));
+        Answer::Refused(refusal) => print_refusal(refusal),
+    }
+}
+
+fn print_need(answer: needs::Answer) {
+    match answer {
+        needs::Answer::Need(need) => {
+            print(b": bytes ", need.bytes as u64);
+            print(b" turns ", need.turns);
+            print(b" lookups ", need.lookups);
         }
+        needs::Answer::Refused(refusal) => print_refusal(refusal),
     }
 }
 
@@ -55,6 +69,15 @@ fn read_case(name: &[u8], set: &[u8], job: &[u8], read: &[u8], output: &mut [u8]
 fn batch_case(name: &[u8], set: &[u8], batch: &[u8], output: &mut [u8], work: &mut [u8]) {
     let answer = job::correct_batch(set, b"", &[], b"\x01\x01", batch, output, work);
     print_case(name, answer, output, work);
+}
+
+fn needs_case(name: &[u8], set: &[u8], batch: &[u8], work: &mut [u8]) {
+    let answer = needs::needs(set, b"", &[], b"\x03\x01", batch, work);
+    io::write_all(STDOUT_FILENO, name);
+    print_need(answer);
+    print(b"; work kept ", count(work, FILL) as u64);
+    print(b" zero ", count(work, 0) as u64);
+    io::write_all(STDOUT_FILENO, b"\n");
 }
 
 // The sample set: k = 3, keys 6, 23, 51, 58, 60.
@@ -143,9 +166,10 @@ fn buffer_cases(set: &[u8], long: &[u8], output: &mut [u8], work: &mut [u8]) {
     );
 }
 
-// Refusals 1 and 5 at their limits: the last call is accepted, and clears the buffers.
+// Refusals 1 and 5 at their limits: the last two calls are accepted, and clear the buffers. For needs there is no work buffer too long.
 fn limit_cases(set: &[u8], long: &[u8], output: &mut [u8], work: &mut [u8]) {
     long_cases(set, long, output, work);
+    needs_case(b"needs of 1048577 bytes", set, long, work);
     buffer_cases(set, long, output, work);
     part_case(
         b"read of 1048576 bytes",
@@ -157,6 +181,7 @@ fn limit_cases(set: &[u8], long: &[u8], output: &mut [u8], work: &mut [u8]) {
         work,
         2097152,
     );
+    needs_case(b"needs, work of 2097153 bytes", set, b"AACGCCG\nAA\n", work);
 }
 
 fn longest_cases(set: &[u8]) {

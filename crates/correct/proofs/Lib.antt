@@ -2,3 +2,5 @@ pub mod Copies
 pub mod Drives
 pub mod Limits
 pub mod Passes
+pub mod Room
+pub mod Reached

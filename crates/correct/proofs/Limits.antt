@@ -14,6 +14,7 @@ use Rattle.rules.specs.Counts.{F}
 use Rattle.rules.proofs.Driver.{drive-turns}
 use Rattle.rules.proofs.Lookups.{drive-lookups, drive-short}
 use Rattle.rules.proofs.Demands.{fair, steady}
+use Rattle.rules.proofs.Growth.{pass-within}
 use Rattle.set.specs.Counted.{setWith}
 use Rattle.set.proofs.Opened.{opened-k-low, opened-k-high, opened-n-le, set-count}
 use Rattle.rules.specs.Calls.{maxRead}
@@ -22,6 +23,7 @@ use Rattle.correct.proofs.Drives.{drive-fewer}
 
 -- What a pass that is fed w bytes can count.
 pub record Limited (w : ℕ) (p : Pass) : Type 0 where
+  pub bytes : length (p .bytes) ≤ w + p .lookups
   pub turns : p .turns ≤ 2 * w
   pub lookups : p .lookups ≤ 1 + w * maxF
   pub attempts : p .attempts ≤ 2 * w
@@ -49,7 +51,7 @@ module _ (bytes counts : List ℕ) (opens : setCheck bytes ≡ none) (c : ℕ) (
       let t : drive (set .k) (solid set) (countOf set) ce fed .turns ≤ 2 * length fed =
       omega (arith, drive-turns (set .k) (solid set) (countOf set) ce (steady set k-low c c-low m) fed) in
       let f = drive-fewer (set .k) (solid set) (countOf set) ce fed in
-      record { turns = t; lookups = looked; attempts = omega (arith, f .attempts); accepted = omega (arith, f .accepted) }
+      record { bytes = pass-within set k-low (entry method c) fed; turns = t; lookups = looked; attempts = omega (arith, f .attempts); accepted = omega (arith, f .accepted) }
     where
       m : Method
       m = methodOf method

@@ -14,17 +14,16 @@ use Rattle.rules.specs.Driver as Rules
 use Rattle.rules.specs.Driver.{begin, drive}
 use Rattle.rules.specs.Job.{entry, pass}
 use Rattle.kmer.specs.declared.Header.{Header}
-use Rattle.kmer.specs.declared.Kmer.{Kmer}
-use Rattle.kmer.specs.Kmer.{kmerOf, HasLetters}
+use Rattle.kmer.specs.Kmer.{kmerOf}
 use Rattle.set.specs.Ready.{Ready}
-use Rattle.set.specs.declared.Asked.{Asked}
 use Rattle.set.specs.Asked.{AskedIs}
 use Rattle.set.specs.Counted.{setWith}
+use Rattle.set.proofs.Counted.{with-solid}
 use Rattle.support.specs.Support.{supportOf}
 use Rattle.turn.specs.declared.Place.{Place}
 use Rattle.rules.specs.Calls.{maxRead}
-use Rattle.correct.specs.Pass.{returned, maxF}
-use Rattle.turn.specs.Turn.{stateOf, Countable, attemptOf, endOf}
+use Rattle.correct.specs.Pass.{Begun, returned, maxF}
+use Rattle.turn.specs.Turn.{stateOf, Stands, Countable, attemptOf, endOf}
 use Rattle.turn.proofs.Turns.{set-k}
 use Rattle.correct.proofs.Drives.{drive-short-is, drive-is, drive-long}
 use Rattle.correct.proofs.Limits.{Limited}
@@ -33,15 +32,12 @@ pub countable : (w : ℕ) (p : Rules.Pass) → w ≤ maxRead → Limited w p →
 countable w p h l =
     let m = mul-le-mul-right maxF h in
     record {
+      bytes = omega (arith, l .bytes, l .lookups);
       turns = omega (arith, l .turns);
       lookups = omega (arith, l .lookups);
       attempts = omega (arith, l .attempts);
       accepted = omega (arith, l .accepted);
     }
-
--- The first k-mer, asked and copied.
-abbrev pub firstPlace : ℕ → Kmer → Asked → Place
-firstPlace k y a = record { kmer = y; previous = a .solid; at = k; written = k; turns = 0; lookups = a .lookups; attempts = 0; accepted = 0; support = 0 }
 
 module _ (bytes starts : List ℕ) (head : Header) (ready : Ready bytes starts head) (counts : List ℕ) (method c : ℕ) (read : List ℕ) where
   abbrev set : KmerSet
@@ -57,22 +53,27 @@ module _ (bytes starts : List ℕ) (head : Header) (ready : Ready bytes starts h
   pub pass-long : head .k ≤ length read → head .k ≤ length (pass set (entry method c) read .bytes)
   pass-long le = rw pass-is (drive-long (head .k) (solid set) (countOf set) (attemptOf bytes counts method c) read le)
 
-  pub pass-begun : (y : Kmer) (a : Asked) (out : List ℕ) → head .k ≤ length read → HasLetters (head .k) (kmer (head .k) (take (head .k) read)) y
-      → AskedIs (ask (solid set) (kmerOf y)) a → take (head .k) out ≡ take (head .k) read
-      → endOf bytes head counts method c (stateOf (firstPlace (head .k) y a) read out) ≡ pass set (entry method c) read
+  -- the pass from its first place
+  pub pass-begun : {p : Place} → Begun bytes head read p → head .k ≤ length read
+      → endOf bytes head counts method c (stateOf p read (take (head .k) read)) ≡ pass set (entry method c) read
   unfolding stateOf begin supportOf
-  pass-begun y a out le h e same =
+  pass-begun {p} b le =
       let k = head .k in
       let sol = solid set in
       let count = countOf set in
       let ce = attemptOf bytes counts method c in
-      let v-is : a .solid ≡ ask sol (kmer k (take k read)) .answer = e .solid ∙ ap (λ (z : letters.Kmer). ask sol z .answer) (h .is) in
-      let l-is : a .lookups ≡ ask sol (kmer k (take k read)) .lookups = e .lookups ∙ ap (λ (z : letters.Kmer). ask sol z .lookups) (h .is) in
-      let begun : stateOf (firstPlace k y a) read out ≡ begin k sol count ce read =
-      λ i. record {
-        kmer = h .is i;
+      let e : AskedIs (ask sol (kmerOf (b .kmer))) (b .asked) = rw (with-solid bytes counts) (b .answer) in
+      let v-is : b .asked .solid ≡ ask sol (kmer k (take k read)) .answer = e .solid ∙ ap (λ (z : letters.Kmer). ask sol z .answer) (b .letters .is) in
+      let l-is : b .asked .lookups ≡ ask sol (kmer k (take k read)) .lookups = e .lookups ∙ ap (λ (z : letters.Kmer). ask sol z .lookups) (b .letters .is) in
+      let begun : stateOf p read (take k read) ≡ begin k sol count ce read =
+      ap (λ (q : Place). stateOf q read (take k read)) (b .is)
+      ∙ (λ i. record {
+        kmer = b .letters .is i;
         previous = v-is i;
         rest = drop k read;
-        done = record { bytes = same i; turns = 0; lookups = l-is i; attempts = 0; accepted = 0; support = none };
-      } in
+        done = record { bytes = take k read; turns = 0; lookups = l-is i; attempts = 0; accepted = 0; support = none };
+      }) in
       ap (endOf bytes head counts method c) begun ∙ sym (drive-is k sol count ce read le) ∙ sym pass-is
+
+  pub begun-stands : {p : Place} → Begun bytes head read p → head .k ≤ length read → Stands (head .k) p read
+  begun-stands b le = record { kmer = rw (b .is) (b .letters .kmer); at = rw (b .is) le }

@@ -4,12 +4,55 @@ use mathlib.Core.Path.{_≡_}
 use mathlib.Core.Option.{none}
 use mathlib.Core.List.{List}
 use lib.ListN.{length, take}
+use Rattle.rules.specs.Letters as letters
+use Rattle.rules.specs.Set.{setOf, solid}
+use Rattle.rules.specs.Scan.{ask}
 use Rattle.rules.specs.Driver as rules
 use Rattle.rules.specs.Calls.{maxRead}
+use Rattle.kmer.specs.declared.Header.{Header}
+use Rattle.kmer.specs.declared.Kmer.{Kmer}
+use Rattle.kmer.specs.Kmer.{kmerOf, HasLetters}
+use Rattle.set.specs.declared.Asked.{Asked}
+use Rattle.set.specs.Asked.{AskedIs}
 use Rattle.support.specs.Support.{supportOf}
+use Rattle.turn.specs.declared.Place.{Place}
 use Rattle.correct.specs.declared.Counts.{Counts}
 use Rattle.correct.specs.declared.Pass.{Pass}
 use Rattle.correct.specs.declared.Pass.the-variants.{Done, Full}
+
+-- The first k-mer of the read, asked; as the rules' `begin`.
+pub record Begun (bytes : List ℕ) (head : Header) (read : List ℕ) (r : Place) : Type 0 where
+  pub kmer : Kmer
+  pub letters : HasLetters (head .k) (letters.kmer (head .k) (take (head .k) read)) kmer
+  pub asked : Asked
+  pub answer : AskedIs (ask (solid (setOf bytes)) (kmerOf kmer)) asked
+  pub is : r ≡ record {
+    kmer = kmer;
+    previous = asked .solid;
+    at = head .k;
+    written = head .k;
+    turns = 0;
+    lookups = asked .lookups;
+    attempts = 0;
+    accepted = 0;
+    support = 0;
+  }
+
+-- What is done at a place.
+abbrev pub countsOf : Place → Counts
+countsOf p =
+    record {
+      written = p .written;
+      turns = p .turns;
+      lookups = p .lookups;
+      attempts = p .attempts;
+      accepted = p .accepted;
+      support = p .support;
+    }
+
+-- Nothing done to a read of that length.
+abbrev pub unchangedBy : ℕ → Counts
+unchangedBy n = record { written = n; turns = 0; lookups = 0; attempts = 0; accepted = 0; support = 0 }
 
 -- Counts, with the bytes at the front of the output, as the rules' pass.
 abbrev pub passOf : Counts → List ℕ → rules.Pass

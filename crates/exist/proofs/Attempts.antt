@@ -3,19 +3,21 @@ use Prim.Native.Nat.{ℕ, _+_, _≤_, _<_}
 use native.Mathlib.Omega.{arith}
 use mathlib.Core.Path.{_≡_, refl, sym, ap, _∙_}
 use mathlib.Core.Bool.{Bool}
-use mathlib.Core.Option.{Option, none, some, Option·some-injective, Option·none-ne-some}
+use mathlib.Core.Option.{Option, none, some}
 use mathlib.Core.List.{List, [], _∷_}
 use lib.ListN.{length, take}
-use Rattle.rules.specs.Letters.{Kmer}
+use Rattle.rules.specs.Letters.{Kmer, inPlace}
 use Rattle.rules.specs.Set.{KmerSet}
 use Rattle.rules.specs.Counted.{Try, after}
 use Rattle.rules.specs.Scan.{alternative}
 use Rattle.rules.specs.Exist.{Scenario, kept, choose, exist}
 use Rattle.rules.specs.Exist as rules
 use Rattle.rules.specs.Driver.{weaker, weakest}
+use Rattle.kmer.specs.declared.Kmer.{Kmer as KmerOf}
+use Rattle.kmer.specs.Kmer.{HasLetters}
 use Rattle.scan.specs.Attempt.{Attempted}
 use Rattle.scan.proofs.Laws.{alternative-four}
-use Rattle.scan.specs.declared.Attempt.the-variants.{Mend as Mended, Refused, Full}
+use Rattle.scan.specs.declared.Attempt.the-variants.{Mend as Mended, Refused}
 use Rattle.scenario.specs.declared.Mend.{Mend}
 use Rattle.scenario.specs.Scenario.{ofCode, spelledOut}
 use Rattle.scenario.proofs.Trials.{refused-bind, given-bind}
@@ -50,37 +52,28 @@ module _ (k : ℕ) (sol : ℕ → Bool) (c : ℕ) (s : List ℕ) (scs : Kmer →
 
 -- ---- what is answered of the attempt t
 
-module _ {count : Kmer → ℕ} {index : ℕ} {out : List ℕ} {t : Try rules.Mend} where
-  pub refused : {l : ℕ} → t .answer ≡ none → t .lookups ≡ l → Attempted count index out out t (Refused l)
+module _ {k : ℕ} {y : Kmer} {count : Kmer → ℕ} {index : ℕ} {out : List ℕ} {t : Try rules.Mend} where
+  pub refused : {l : ℕ} → t .answer ≡ none → t .lookups ≡ l → Attempted k y count index out out t (Refused l)
   refused e p = record { is = (e, p); room = refl }
 
-  module _ (m : Mend) (e : t .answer ≡ some (spelledOut m)) where
-    pub full : length out < m .letters → Attempted count index out out t Full
-    full h =
-        record {
-          is = (
-            λ d f.
-                let same = Option·some-injective (spelledOut m) d (sym e ∙ f) in
-                omega (arith, spelled-length m, ap (λ (w : rules.Mend). length (w .letters)) same),
-            λ f. absurd (Option·none-ne-some (spelledOut m) (sym f ∙ e)),
-          );
-          room = refl;
-        }
-
-    -- it rests on its tried k-mer alone
-    pub mended : {out′ : List ℕ} {l v : ℕ} → t .lookups ≡ l → m .letters ≤ length out → take (m .letters) out′ ≡ spelledOut m .letters
-        → length out′ ≡ length out → count (ofCode (m .tried)) ≡ v → Attempted count index out out′ t (Mended (m .letters) (m .resume) l v)
-    unfolding weakest weaker
-    mended p h w n q =
-        record {
-          is = (
-            record {
-              on = ofCode (m .tried) ∷ [];
-              is = e ∙ ap (λ (ls : List ℕ). some (record { letters = ls; resume = m .resume; on = ofCode (m .tried) ∷ [] })) (sym w);
-              weakest-is = ap {B = Option ℕ} some q;
-              written = omega arith;
-            },
-            p,
-          );
-          room = n;
-        }
+  -- it rests on its tried k-mer alone
+  pub mended : {out′ : List ℕ} {l v : ℕ} {placed : KmerOf} (m : Mend) → t .answer ≡ some (spelledOut m) → t .lookups ≡ l
+      → (m .letters ≤ length out′ → take (m .letters) out′ ≡ spelledOut m .letters) → length out′ ≡ length out → count (ofCode (m .tried)) ≡ v
+      → HasLetters k (inPlace k y (spelledOut m .letters)) placed → Attempted k y count index out out′ t (Mended (m .letters) (m .resume) l v placed)
+  unfolding weakest weaker
+  mended m e p w n q h =
+      record {
+        is = (
+          record {
+            letters = spelledOut m .letters;
+            on = ofCode (m .tried) ∷ [];
+            is = e;
+            many = spelled-length m;
+            written = w;
+            weakest-is = ap {B = Option ℕ} some q;
+            placed = h;
+          },
+          p,
+        );
+        room = n;
+      }

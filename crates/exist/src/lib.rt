@@ -157,7 +157,7 @@ pub fn correct_error(
     out: &mut [u8],
 ) -> Attempt
     requires { ⌜ Ready (now set) (now starts) head × IsKmer (head .k) kmer × (1 ≤ c) × (made < 2 ^ 63) ⌝ }
-    ensures { λ r. ⌜ Attempted (countOf (setWith (now (set .entry)) (now (counts .entry))))
+    ensures { λ r. ⌜ Attempted (head .k) (kmerOf kmer) (countOf (setWith (now (set .entry)) (now (counts .entry))))
         (errorLen (head .k) (solid (setOf (now (set .entry)))) (kmerOf kmer) (now (s .entry)) .index) (now (out .entry)) (now (out .exit))
         (after made (rules.exist (head .k) (solid (setOf (now (set .entry)))) c (now (s .entry)) (scenarios two (head .k) (solid (setOf (now (set .entry))))) (kmerOf kmer))) r ⌝ }
 {
@@ -173,11 +173,11 @@ pub fn correct_error(
     let Pick::Mend(mend) = pick else {
         return Attempt::Refused(lookups);
     };
-    if out.len() < mend.letters {
-        return Attempt::Full;
+    if mend.letters <= out.len() {
+        write(mend, out);
     }
-    write(mend, out);
     let place = mend.place;
     let support = support::count_at(counts, place);
-    Attempt::Mend(mend.letters, mend.resume, lookups, support)
+    let placed = in_place(kmer, mend, head);
+    Attempt::Mend(mend.letters, mend.resume, lookups, support, placed)
 }

@@ -17,8 +17,12 @@ use Rattle.report.specs.declared.Answer.{Answer}
 use Rattle.report.specs.declared.Answer.the-variants as Answers
 use Rattle.report.specs.Answer as Report
 use Rattle.report.specs.Answer.{answerOf}
-use Rattle.answer_numbers.specs.Numbers.{numbersOf, madeNumbers, Told}
-use Rattle.exports.specs.Calls.{Exact, Ceiling, MadeExact, SetMadeExact}
+use Rattle.rules.specs.Needs as Rules
+use Rattle.needs.specs.declared.Answer.{Answer as NeedsAnswer}
+use Rattle.needs.specs.declared.Answer.the-variants as Needed
+use Rattle.needs.specs.Needs as Needs
+use Rattle.answer_numbers.specs.Numbers.{numbersOf, needsNumbers, madeNumbers, Told}
+use Rattle.exports.specs.Calls.{Exact, NeedsExact, Ceiling, MadeExact, SetMadeExact}
 use Rattle.answer_numbers.proofs.Laid.{laid-there, laid-length}
 
 pub told-by : {ns ms old new : List ℕ} {r : ℕ} → ns ≡ ms → Told ns old r new → Told ms old r new
@@ -44,6 +48,10 @@ pub told-exact : (a : Answer) {old new : List ℕ} {r : ℕ} → Told (numbersOf
     → Report.Exact after a o w → Exact after old r o w new
 told-exact a t e = record { told = told-by (ap numbersOf (e .answer)) t; output = e .output; work = e .work }
 
+pub needs-exact : (a : NeedsAnswer) {old new : List ℕ} {r : ℕ} → Told (needsNumbers (Needs.answerOf a)) old r new → {told : Rules.Told} {w : List ℕ}
+    → Needs.Exact told a w → NeedsExact told old r w new
+needs-exact a t e = record { told = told-by (ap needsNumbers (e .answer)) t; work = e .zeroed }
+
 number-pos : (x : Refusal) → 0 < refusalOf x .number
 number-pos Refusals.Long = omega arith
 number-pos Refusals.Methods = omega arith
@@ -61,6 +69,7 @@ number-pos (Refusals.NotRising line) = omega arith
 number-pos Refusals.TooShort = omega arith
 number-pos Refusals.Index = omega arith
 number-pos Refusals.Counts = omega arith
+number-pos Refusals.NotOne = omega arith
 
 module _ (set : KmerSet) (es : List Entry) (reads : List (List ℕ)) {old new : List ℕ} {r : ℕ} where
   pub told-ceiling : (a : Answer) → Told (numbersOf (answerOf a)) old r new → Report.Ceiling set es reads a → Ceiling set es reads r new
@@ -70,3 +79,12 @@ module _ (set : KmerSet) (es : List Entry) (reads : List (List ℕ)) {old new : 
       let long = ap length (t .answer) ∙ laid-length ns old in
       rw (t .answer, laid-there ns old 3 (omega arith) (omega (arith, long)), laid-there ns old 4 (omega arith) (omega (arith, long))) h
   told-ceiling (Answers.Refused x) t h z room = absurd (omega (arith, number-pos x, t .returned))
+
+  -- the same of what a job needs
+  pub needs-ceiling : (a : NeedsAnswer) → Told (needsNumbers (Needs.answerOf a)) old r new → Needs.Ceiling set es reads a → Ceiling set es reads r new
+  unfolding needsNumbers
+  needs-ceiling (Needed.Need x) t h z room =
+      let ns : List ℕ = needsNumbers (Needs.answerOf (Needed.Need x)) in
+      let long = ap length (t .answer) ∙ laid-length ns old in
+      rw (t .answer, laid-there ns old 3 (omega arith) (omega (arith, long)), laid-there ns old 4 (omega arith) (omega (arith, long))) h
+  needs-ceiling (Needed.Refused x) t h z room = absurd (omega (arith, number-pos x, t .returned))

@@ -7,15 +7,21 @@ use Rattle.rules.specs.Set.{KmerSet}
 use Rattle.rules.specs.Job.{Entry}
 use Rattle.rules.specs.Counts.{Demand3}
 use Rattle.rules.specs.Calls.{After}
+use Rattle.rules.specs.Needs as Needs
 use Rattle.rules.specs.Blocks.{Made}
 use Rattle.rules.specs.MakeSet.{SetMade}
-use Rattle.answer_numbers.specs.Numbers.{numbersOf, madeNumbers, Told}
+use Rattle.answer_numbers.specs.Numbers.{numbersOf, needsNumbers, madeNumbers, Told}
 
 -- Every number and each lent byte are those of the rules.
 pub record Exact (after : After) (old : List ℕ) (r : ℕ) (o w new : List ℕ) : Type 0 where
   pub told : Told (numbersOf (after .answer)) old r new
   pub output : o ≡ after .output
   pub work : w ≡ after .work
+
+-- What a job needs: every number, and each byte of the work buffer.
+pub record NeedsExact (needs : Needs.Told) (old : List ℕ) (r : ℕ) (w new : List ℕ) : Type 0 where
+  pub told : Told (needsNumbers (needs .answer)) old r new
+  pub work : w ≡ needs .work
 
 -- Demand 3, of an accepted call: turns and lookups are numbers 3 and 4 of an answer that has so many.
 abbrev pub Ceiling : KmerSet → List Entry → List (List ℕ) → ℕ → List ℕ → Type 0

@@ -6,12 +6,14 @@ ghost use mathlib.Core.List.{[], _∷_};
 ghost use Rattle.rules.specs.Set.{setOf, offering, opened};
 ghost use Rattle.rules.specs.Job.{entriesOf, lines};
 ghost use Rattle.rules.specs.Calls.{correctRead, correctBatch};
+ghost use Rattle.rules.specs.Needs.{needs};
 ghost use Rattle.rules.specs.Solid.{countSolid};
 ghost use Rattle.rules.specs.MakeSet.{makeSet};
 ghost use Rattle.rules.specs.Index.{makeIndex};
 ghost use Rattle.report.specs.Answer.{given, answerOf};
+ghost use Rattle.needs.specs.Needs.{asked};
 ghost use Rattle.answer_numbers.specs.Numbers.{numbersOf, openNumbers, solidNumbers, Told};
-ghost use Rattle.exports.specs.Calls.{Exact, Ceiling, MadeExact, SetMadeExact};
+ghost use Rattle.exports.specs.Calls.{Exact, NeedsExact, Ceiling, MadeExact, SetMadeExact};
 
 // What a call that corrects tells.
 fn tell_answer(done: Answer, answer: &mut [u64]) -> u64
@@ -76,6 +78,27 @@ pub extern "C" fn corrector_batch(
         job::correct_batch(set, index, counts, job, batch, output, work),
         answer,
     )
+}
+
+// What a batch call would need and report, without an output. Refusals 1 to 10, 15, 16 and 17, which leave work as it is.
+#[no_mangle]
+pub extern "C" fn corrector_needs(
+    set: &[u8],
+    index: &[u8],
+    counts: &[u32],
+    job: &[u8],
+    batch: &[u8],
+    work: &mut [u8],
+    answer: &mut [u64],
+) -> u64
+    ensures exact { λ r. ⌜
+        NeedsExact (needs (asked (now (set .entry)) (now (index .entry)) (now (counts .entry)) (now (job .entry)) (now (batch .entry)) (now (work .entry))))
+        (now (answer .entry)) r (now (work .exit)) (now (answer .exit)) ⌝ }
+    ensures ceiling { λ r. ⌜
+        Ceiling (offering (now (index .entry)) (now (counts .entry)) (setOf (now (set .entry)))) (entriesOf (now (job .entry))) (lines (now (batch .entry))) r (now (answer .exit)) ⌝ }
+{
+    let numbers = answer_numbers::needs_numbers(needs::needs(set, index, counts, job, batch, work));
+    answer_numbers::tell(&numbers, answer)
 }
 
 // The k-mers of a read, and the solid ones among them. Refusals 1 and 7 to 10.

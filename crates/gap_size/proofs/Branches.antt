@@ -25,24 +25,25 @@ module _ (k n : ℕ) (sol : ℕ → Bool) (c : ℕ) (s : List ℕ) (y : Kmer) (r
 
   module _ {count : Kmer → ℕ} {out out′ : List ℕ} {a : Attempt} where
     -- what is said of the code's scan holds of the rules'
-    by-scan : (f : rules.Scan → Try Mend) → Attempted count (r .index) out out′ (after (r .lookups) (f (scanOf r))) a
-        → Attempted count (sc .index) out out′ (after (sc .lookups) (f sc)) a
-    by-scan f h = subst (λ (w : rules.Scan). Attempted count (w .index) out out′ (after (w .lookups) (f w)) a) e h
+    by-scan : (f : rules.Scan → Try Mend) → Attempted k y count (r .index) out out′ (after (r .lookups) (f (scanOf r))) a
+        → Attempted k y count (sc .index) out out′ (after (sc .lookups) (f sc)) a
+    by-scan f h = subst (λ (w : rules.Scan). Attempted k y count (w .index) out out′ (after (w .lookups) (f w)) a) e h
 
-    pub gap-below : r .index < k → Attempted count (r .index) out out′ (after (r .lookups) (graphFrom k n sol (scanOf r) y)) a
-        → Attempted count (sc .index) out out′ (gapSize k n sol c s y) a
+    pub gap-below : r .index < k → Attempted k y count (r .index) out out′ (after (r .lookups) (graphFrom k n sol (scanOf r) y)) a
+        → Attempted k y count (sc .index) out out′ (gapSize k n sol c s y) a
     unfolding gapSize
     gap-below lt h = rw (gapSize, lt-ltb (sc .index) k (rw (← index-is) lt)) (by-scan (λ w. graphFrom k n sol w y) h)
 
-    pub gap-at : k ≤ r .index → r .index ≡ k → Attempted count (sc .index) out out′ (after (r .lookups) (exist k sol c s (one k sol) y)) a
-        → Attempted count (sc .index) out out′ (gapSize k n sol c s y) a
+    pub gap-at : k ≤ r .index → r .index ≡ k → Attempted k y count (sc .index) out out′ (after (r .lookups) (exist k sol c s (one k sol) y)) a
+        → Attempted k y count (sc .index) out out′ (gapSize k n sol c s y) a
     unfolding gapSize
     gap-at le q h =
         rw (gapSize, le-ltb (sc .index) k (rw (← index-is) le), eq-eqb (sc .index) k (sym index-is ∙ q))
         (rw (ap (λ (w : rules.Scan). w .lookups) e) at h)
 
-    pub gap-above : k ≤ r .index → (r .index ≡ k → ⊥) → Attempted count (r .index) out out′ (after (r .lookups) (gapFrom k sol (r .index - k) y)) a
-        → Attempted count (sc .index) out out′ (gapSize k n sol c s y) a
+    pub gap-above : k ≤ r .index → (r .index ≡ k → ⊥)
+        → Attempted k y count (r .index) out out′ (after (r .lookups) (gapFrom k sol (r .index - k) y)) a
+        → Attempted k y count (sc .index) out out′ (gapSize k n sol c s y) a
     unfolding gapSize
     gap-above le ne h =
         rw (gapSize, le-ltb (sc .index) k (rw (← index-is) le), ne-eqb (sc .index) k (λ q. ne (index-is ∙ q)))

@@ -7,9 +7,9 @@ use mathlib.Core.Path.{_≡_, refl, sym, ap, _∙_}
 use mathlib.Core.Bool.{Bool, true, false}
 use mathlib.Core.Option.{Option, none, some, Option·some-injective}
 use mathlib.Core.List.{List, [], _∷_, _++_}
-use lib.ListN.{length, take, set}
+use lib.ListN.{length, take, drop, set}
 use lib.Seq.{slice, slice-empty, take-suc-set, drop-append-le, length-take-le}
-use Rattle.rules.specs.Letters.{Kmer, met, addBase, addAll, last, lastLetter}
+use Rattle.rules.specs.Letters.{Kmer, met, addBase, addAll, lastLetter, inPlace}
 use Rattle.rules.specs.Set.{maxKeys, headerK, setOf, solid}
 use Rattle.rules.specs.Counted.{Try, after, refuse, give, next, _>>=_}
 use Rattle.rules.specs.Scan.{ask, sole, alternative}
@@ -17,17 +17,19 @@ use Rattle.rules.specs.Exist.{Mend}
 use Rattle.rules.specs.Graph.{end, also, end-distinct, also-distinct, spell}
 use Rattle.rules.specs.GapSize.{gap, gapFrom}
 use Rattle.rules.specs.Driver.{weakest}
-use Rattle.rules.proofs.Kmer.{Known, last-one}
+use Rattle.rules.proofs.Kmer.{Known}
 use Rattle.rules.proofs.Counted.{bind-some as given-by}
-use Rattle.rules.proofs.Scan.{sole-is}
 use Rattle.rules.proofs.Few.{SolidKmer, few}
+use Rattle.rules.proofs.Growth.{length-spell}
 use Rattle.rules.proofs.Correctors.{gap-any, gap-cost}
 use Rattle.kmer.specs.declared.Header.{Header}
+use Rattle.kmer.specs.declared.Kmer.{Kmer as KmerOf}
+use Rattle.kmer.specs.Kmer.{kmerOf, IsKmer}
 use Rattle.set.specs.Ready.{Ready}
 use Rattle.set.proofs.Opened.{opened-n-le, set-count}
-use Rattle.scan.proofs.Laws.{known-four, alternative-four}
+use Rattle.scan.proofs.Laws.{addAll-snoc, known-four, alternative-four, letter-back, leads-on}
 use Rattle.scan.specs.Attempt.{MendIs}
-use Rattle.graph.proofs.Laws.{spell-snoc, length-spell, weakest-one, weakest-snoc, bind-none, bind-some}
+use Rattle.graph.proofs.Laws.{spell-snoc, weakest-one, weakest-snoc, bind-none, bind-some}
 use Rattle.passed.specs.Passed.{onward, passed}
 use Rattle.gap_size.specs.Gap.{gapMend}
 
@@ -38,24 +40,11 @@ unfolding onward addAll
 onward-snoc k y [] b = refl
 onward-snoc k y (a ∷ bs) b = ap (λ (l : List Kmer). addBase k y a ∷ l) (onward-snoc k (addBase k y a) bs b)
 
-addAll-snoc : (k : ℕ) (y : Kmer) (bs : List ℕ) (b : ℕ) → addAll k y (bs ++ (b ∷ [])) ≡ addBase k (addAll k y bs) b
-unfolding addAll
-addAll-snoc k y [] b = refl
-addAll-snoc k y (a ∷ bs) b = addAll-snoc k (addBase k y a) bs b
-
 -- one letter more
 slice-more : (out : List ℕ) (i a : ℕ) → i + 1 < length out → slice 1 (i + 1 + 1) (set out (i + 1) a) ≡ slice 1 (i + 1) out ++ (a ∷ [])
 slice-more out i a l =
     rw (add-one (i + 1), take-suc-set out (i + 1) a l)
     (drop-append-le 1 (take (i + 1) out) (a ∷ []) (rw (length-take-le (i + 1) out (omega arith)) (omega arith)))
-
--- a move's letter gives its k-mer back
-letter-back : (k : ℕ) (sol : ℕ → Bool) (y z : Kmer) → 1 ≤ k → sole k sol y .answer ≡ some z → addBase k y (lastLetter z) ≡ z
-unfolding addAll last
-letter-back zero sol y z l e = absurd (omega arith)
-letter-back (suc j) sol y z l e =
-    let o = sole-is (suc j) sol y z e in
-    rw (o .is) (last-one j y (o .by) (o .by-lt))
 
 -- ---- a gap
 
@@ -173,21 +162,27 @@ module _ (k : ℕ) (sol : ℕ → Bool) (m : ℕ) (x : Kmer) (l : ℕ) where
   unfolding after gapMend _>>=_ next refuse
   gap-refused i l′ e q = (rw (e, gapMend), rw (e, gapMend) (omega arith))
 
-  pub gap-mends : {count : Kmer → ℕ} {at : Kmer} {i w : ℕ} {out : List ℕ} → Filling k sol count m x at i w out → m ≤ i → i ≤ m → m < length out
-      → (l′ : ℕ) → l′ ≡ l + 4 * i → MendIs count out (tried .answer) (m + 1) (m + 1) w × (tried .lookups ≡ l′)
-  unfolding after gapMend _>>=_ next give gap
-  gap-mends {count} {at} {i} {w} {out} f le ge room l′ q =
+  -- z is where it ended, y a bad k-mer in whose place x stands
+  pub gap-mends : {count : Kmer → ℕ} {z : KmerOf} {i w : ℕ} {out : List ℕ} → Filling k sol count m x (kmerOf z) i w out → IsKmer k z → m ≤ i → i ≤ m
+      → (l′ : ℕ) → l′ ≡ l + 4 * i → (y : Kmer) → inPlace k y (lastLetter x ∷ []) ≡ x
+      → MendIs k y count out (tried .answer) (m + 1) (m + 1) w z × (tried .lookups ≡ l′)
+  unfolding after gapMend _>>=_ next give gap spell
+  gap-mends {i = i} {out = out} f is-kmer le ge l′ q y h =
       let none-left : m - i ≡ 0 = omega arith in
       let all : i ≡ m = omega arith in
       let v : gap k sol m (x ∷ []) x 0 ≡ record { answer = some (passed k x i out); lookups = 4 * i } = f .rest ∙ rw none-left in
       let many : length (passed k x i out) ≡ m + 1 =
       gap-any k sol m (x ∷ []) x 0 .1 (passed k x i out) (ap (λ (t : Try (List Kmer)). t .answer) v) ∙ omega arith in
-      let letters : spell (passed k x i out) ≡ take (m + 1) out = f .spelled ∙ ap (λ (n : ℕ). take (n + 1) out) all in (
+      let letters : List ℕ = spell (passed k x i out) in
+      let ends : addAll k x (drop 1 letters) ≡ kmerOf _ = ap (λ (ls : List ℕ). addAll k x (drop 1 ls)) (f .spelled) ∙ f .ends in (
         record {
+          letters = letters;
           on = passed k x i out;
-          is = rw (v, gapMend) (λ j. some (record { letters = letters j; resume = many j; on = passed k x i out }));
+          is = rw (v, gapMend) (λ j. some (record { letters = letters; resume = many j; on = passed k x i out }));
+          many = length-spell (passed k x i out) ∙ many;
+          written = λ r. sym (f .spelled ∙ ap (λ (n : ℕ). take (n + 1) out) all);
           weakest-is = f .weakest-is;
-          written = omega arith;
+          placed = record { is = sym (leads-on k y x (drop 1 letters) h ∙ ends); kmer = is-kmer };
         },
         rw (v, gapMend) (omega arith),
       )
@@ -211,9 +206,9 @@ module _ (k : ℕ) (sol : ℕ → Bool) (m : ℕ) (y : Kmer) (l : ℕ) where
   attempt = after l (gapFrom k sol m y)
 
   pub gap-full : (room index : ℕ) → room ≤ m → m < index
-      → ((d : Mend) → attempt .answer ≡ some d → room < length (d .letters)) × (attempt .answer ≡ none → room < index)
+      → ((d : Mend) → attempt .answer ≡ some d → room < length (d .letters)) × (room < index)
   unfolding after
-  gap-full room index h g = (λ d e. omega (arith, gap-letters d e), λ e. omega arith)
+  gap-full room index h g = (λ d e. omega (arith, gap-letters d e), omega arith)
 
   pub no-alternative : alternative k sol y .answer ≡ none → (attempt .answer ≡ none) × (attempt .lookups ≡ l + alternative k sol y .lookups)
   unfolding gapFrom

@@ -35,9 +35,10 @@ pub record Fillable (bytes starts : List ℕ) (head : Header) (counts : List ℕ
   pub room : scan .index - head .k < length out
   pub few : scan .lookups < 2 ^ 63
 
--- What they give.
+-- What they give at any bad k-mer y in whose place x stands.
 abbrev pub GapIs : List ℕ → Header → List ℕ → Scan → Kmer → List ℕ → List ℕ → Attempt → Type 0
 GapIs bytes head counts scan x out out′ r =
-    Attempted (countOf (setWith bytes counts)) (scan .index) out out′
+    (y : rules.Kmer) → rules.inPlace (head .k) y (rules.lastLetter (kmerOf x) ∷ []) ≡ kmerOf x
+    → Attempted (head .k) y (countOf (setWith bytes counts)) (scan .index) out out′
     (after (scan .lookups + 4) (gapMend (head .k) (solid (setOf bytes)) (scan .index - head .k) (kmerOf x)))
     r

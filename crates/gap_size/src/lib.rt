@@ -56,7 +56,7 @@ fn fill(
         at = next;
     }
     let letters = moves + 1;
-    Attempt::Mend(letters, letters, lookups, weakest)
+    Attempt::Mend(letters, letters, lookups, weakest, at)
 }
 
 // The filter goes by the number of moves, a word for two of them where it can, so that a short gap clears little.
@@ -134,8 +134,8 @@ fn fill_by_length(
     fill_longest(set, starts, head, counts, scan, x, count, out)
 }
 
-// Above k, after the scan. Without room for index − k + 1 letters the attempt is Full even if it would be refused, since the bases that
-// the scan passed have no room either.
+// Above k, after the scan. A gap looks back at its letters: without room for index − k + 1 of them the attempt is Full even if it would be
+// refused, since the bases that the scan passed have no room either.
 fn ins_sub_correction(
     set: &[u8],
     starts: &[u32],
@@ -147,7 +147,8 @@ fn ins_sub_correction(
 ) -> Attempt
     requires { ⌜ Ready (now set) (now starts) head × IsKmer (head .k) kmer × (head .k ≤ scan .index) × (scan .lookups < 2 ^ 63) ⌝ }
     ensures { λ r. ⌜
-        Attempted (countOf (setWith (now (set .entry)) (now (counts .entry)))) (scan .index) (now (out .entry)) (now (out .exit))
+        Attempted (head .k) (kmerOf kmer) (countOf (setWith (now (set .entry)) (now (counts .entry)))) (scan .index)
+        (now (out .entry)) (now (out .exit))
         (after (scan .lookups) (gapFrom (head .k) (solid (setOf (now (set .entry)))) (scan .index - head .k) (kmerOf kmer)))
         r ⌝ }
 {
@@ -183,7 +184,7 @@ pub fn correct_error(
 ) -> Attempt
     requires { ⌜ Ready (now set) (now starts) head × IsKmer (head .k) kmer × (1 ≤ length (now s)) × (1 ≤ c) ⌝ }
     ensures { λ r. ⌜
-        Attempted (countOf (setWith (now (set .entry)) (now (counts .entry))))
+        Attempted (head .k) (kmerOf kmer) (countOf (setWith (now (set .entry)) (now (counts .entry))))
         (errorLen (head .k) (solid (setOf (now (set .entry)))) (kmerOf kmer) (now (s .entry)) .index) (now (out .entry)) (now (out .exit))
         (gapSize (head .k) (head .n) (solid (setOf (now (set .entry)))) c (now (s .entry)) (kmerOf kmer))
         r ⌝ }

@@ -7,11 +7,11 @@ use native.Mathlib.Numerals.{add-one}
 use borrow.Author.Tests.{eq-eqb, ne-eqb}
 use mathlib.Core.Path.{_≡_, refl, sym, ap, _∙_, subst}
 use mathlib.Core.Bool.{Bool, true, false}
-use mathlib.Core.Option.{Option, none, some, Option·some-injective, Option·none-ne-some}
+use mathlib.Core.Option.{Option, none, some}
 use mathlib.Core.List.{List, [], _∷_, _++_}
 use lib.ListN.{length, take, drop, getD, set, length-drop, length-append, length-set}
 use lib.Seq.{take-append-le, take-all, take-nil, take-suc-set, set-out}
-use Rattle.rules.specs.Letters.{Kmer, add, same, lastLetter}
+use Rattle.rules.specs.Letters.{Kmer, add, addBase, addAll, same, lastLetter, inPlace}
 use Rattle.rules.specs.Set.{setOf, solid, countOf}
 use Rattle.rules.specs.Counted.{Try, after, refuse, give, next, _>>=_}
 use Rattle.rules.specs.Scan as rules
@@ -22,8 +22,9 @@ use Rattle.rules.specs.Driver.{weaker, weakest}
 use Rattle.rules.proofs.Kmer.{Known}
 use Rattle.rules.proofs.Scan.{scan-is}
 use Rattle.rules.proofs.Support.{weakest-append}
+use Rattle.rules.proofs.Growth.{length-spell}
 use Rattle.kmer.specs.declared.Kmer.{Kmer as KmerOf}
-use Rattle.kmer.specs.Kmer.{kmerOf, HasLetters}
+use Rattle.kmer.specs.Kmer.{kmerOf, IsKmer, HasLetters}
 use Rattle.set.specs.Counted.{setWith}
 use Rattle.set.proofs.Counted.{with-count}
 use Rattle.scan.specs.declared.Attempt.{Attempt}
@@ -32,7 +33,7 @@ use Rattle.scan.specs.declared.Sole.{Sole}
 use Rattle.scan.specs.declared.Sole.the-variants.{Nuc}
 use Rattle.scan.specs.Scan.{nucOf, placesOf, scanOf}
 use Rattle.scan.specs.Attempt.{MendIs, Attempted}
-use Rattle.scan.proofs.Laws.{known-four, alternative-four, nuc-lt, next-kmer, sole-place}
+use Rattle.scan.proofs.Laws.{addAll-snoc, known-four, alternative-four, letter-back, leads-on, nuc-lt, next-kmer, sole-place}
 use Rattle.graph.specs.Walk.{Holds, walkMend}
 
 -- ---- letters in a lent output
@@ -65,11 +66,6 @@ unfolding spell
 spell-snoc [] z = refl
 spell-snoc (y ∷ ys) z = ap (λ (l : List ℕ). lastLetter y ∷ l) (spell-snoc ys z)
 
-pub length-spell : (ys : List Kmer) → length (spell ys) ≡ length ys
-unfolding spell
-length-spell [] = refl
-length-spell (y ∷ ys) = ap suc (length-spell ys)
-
 pub weakest-one : (count : Kmer → ℕ) (y : Kmer) → weakest count (y ∷ []) ≡ some (count y)
 unfolding weakest weaker
 weakest-one count y = refl
@@ -93,35 +89,38 @@ move-count bytes counts k y r found choice-is a y′ {ps} {c} e h ps-is c-is =
 abbrev pub halted : ℕ → Try (List Kmer)
 halted l = record { answer = none; lookups = l }
 
--- a walk from x that arrived at t with that many letters, in out, after l lookups, w the smallest count of its k-mers
-pub record Arrived (k n : ℕ) (sol : ℕ → Bool) (count : Kmer → ℕ) (t x : Kmer) (l many w : ℕ) (out : List ℕ) : Type 0 where
-  pub seen : List Kmer
-  pub many-are : length seen ≡ many
-  pub holds : Holds (spell seen) out
-  pub weakest-is : weakest count seen ≡ some w
-  pub is : walkFrom k n sol t x ≡ record { answer = some seen; lookups = l }
+-- a walk from x via others to at, which equals t: that many letters, in out, after l lookups, w the smallest count of its k-mers
+pub record Arrived (k n : ℕ) (sol : ℕ → Bool) (count : Kmer → ℕ) (t x at : Kmer) (l many w : ℕ) (out : List ℕ) : Type 0 where
+  pub via : List Kmer
+  pub many-are : length via + 1 ≡ many
+  pub holds : Holds (spell (x ∷ via)) out
+  pub ends : addAll k x (spell via) ≡ at
+  pub weakest-is : weakest count (x ∷ via) ≡ some w
+  pub is : walkFrom k n sol t x ≡ record { answer = some (x ∷ via); lookups = l }
 
 -- where a walk stands after i moves
 abbrev standing : Kmer → Kmer → ℕ → ℕ → List Kmer → Walk
 standing at mark i marks-at seen =
     record { at = at; mark = mark; moves = i; marks-at = marks-at; seen = seen; lookups = 4 * i }
 
--- what a walk from x to t still does after i moves, its letters in out, w the smallest count so far
+-- what a walk from x to t still does after i moves, via others to at, its letters in out, w the smallest count so far
 pub record Going (k n : ℕ) (sol : ℕ → Bool) (count : Kmer → ℕ) (t x at mark : Kmer) (i marks-at w : ℕ) (out : List ℕ) : Type 0 where
-  pub seen : List Kmer
-  pub many-are : length seen ≡ i + 1
-  pub holds : Holds (spell seen) out
-  pub weakest-is : weakest count seen ≡ some w
-  pub rest : walkFrom k n sol t x ≡ walk k sol (6 * n - i) t (standing at mark i marks-at seen)
+  pub via : List Kmer
+  pub many-are : length via ≡ i
+  pub holds : Holds (spell (x ∷ via)) out
+  pub ends : addAll k x (spell via) ≡ at
+  pub weakest-is : weakest count (x ∷ via) ≡ some w
+  pub rest : walkFrom k n sol t x ≡ walk k sol (6 * n - i) t (standing at mark i marks-at (x ∷ via))
 
 pub going-start : (k n : ℕ) (sol : ℕ → Bool) (count : Kmer → ℕ) (t x : Kmer) (out : List ℕ) → same x t ≡ false
     → Going k n sol count t x x x 0 1 (count x) (set out 0 (lastLetter x))
-unfolding walkFrom start spell
+unfolding walkFrom start spell addAll
 going-start k n sol count t x out e =
     record {
-      seen = x ∷ [];
+      via = [];
       many-are = refl;
       holds = holds-more [] out (lastLetter x) 0 refl (take-nil (length out));
+      ends = refl;
       weakest-is = weakest-one count x;
       rest = rw (e, walkFrom, sub-zero);
     }
@@ -140,25 +139,42 @@ module _ {k n : ℕ} {sol : ℕ → Bool} {count : Kmer → ℕ} {t x at mark : 
   walk-dead e = g .rest ∙ rw (one-move, walk, e, four)
 
   module _ (y : Kmer) (e : sole k sol at .answer ≡ some y) where
-    seen′ : List Kmer
-    seen′ = g .seen ++ (y ∷ [])
+    via′ : List Kmer
+    via′ = g .via ++ (y ∷ [])
 
-    many′ : length seen′ ≡ i + 2
-    unfolding seen′
-    many′ = length-append (g .seen) (y ∷ []) ∙ omega (arith, g .many-are)
+    many′ : length via′ ≡ i + 1
+    unfolding via′
+    many′ = length-append (g .via) (y ∷ []) ∙ omega (arith, g .many-are)
 
-    holds′ : Holds (spell seen′) (set out (i + 1) (lastLetter y))
-    unfolding seen′
-    holds′ = rw (spell-snoc (g .seen) y) (holds-more (spell (g .seen)) out (lastLetter y) (i + 1) (length-spell (g .seen) ∙ g .many-are) (g .holds))
+    holds′ : Holds (spell (x ∷ via′)) (set out (i + 1) (lastLetter y))
+    unfolding via′
+    holds′ =
+        rw (spell-snoc (x ∷ g .via) y)
+        (holds-more (spell (x ∷ g .via)) out (lastLetter y) (i + 1) (length-spell (x ∷ g .via) ∙ omega (arith, g .many-are)) (g .holds))
 
-    weakest′ : weakest count seen′ ≡ some (min w (count y))
-    unfolding seen′
-    weakest′ = weakest-snoc count (g .seen) y w (g .weakest-is)
+    ends′ : addAll k x (spell via′) ≡ y
+    unfolding via′
+    ends′ =
+        ap (addAll k x) (spell-snoc (g .via) y)
+        ∙ addAll-snoc k x (spell (g .via)) (lastLetter y)
+        ∙ ap (λ (z : Kmer). addBase k z (lastLetter y)) (g .ends)
+        ∙ letter-back k sol at y low e
 
-    pub walk-arrives : same y t ≡ true → Arrived k n sol count t x (4 * i + 4) (i + 2) (min w (count y)) (set out (i + 1) (lastLetter y))
-    unfolding walk seen′
+    weakest′ : weakest count (x ∷ via′) ≡ some (min w (count y))
+    unfolding via′
+    weakest′ = weakest-snoc count (x ∷ g .via) y w (g .weakest-is)
+
+    pub walk-arrives : same y t ≡ true → Arrived k n sol count t x y (4 * i + 4) (i + 2) (min w (count y)) (set out (i + 1) (lastLetter y))
+    unfolding walk via′
     walk-arrives h =
-        record { seen = seen′; many-are = many′; holds = holds′; weakest-is = weakest′; is = g .rest ∙ rw (one-move, walk, e, h, four) }
+        record {
+          via = via′;
+          many-are = omega (arith, many′);
+          holds = holds′;
+          ends = ends′;
+          weakest-is = weakest′;
+          is = g .rest ∙ rw (one-move, walk, e, h, four);
+        }
 
     module _ (ne : same y t ≡ false) where
       pub walk-meets : same y mark ≡ true → walkFrom k n sol t x ≡ halted (4 * i + 4)
@@ -166,7 +182,7 @@ module _ {k n : ℕ} {sol : ℕ → Bool} {count : Kmer → ℕ} {t x at mark : 
       walk-meets h = g .rest ∙ rw (one-move, walk, e, ne, h, four)
 
       module _ (new : same y mark ≡ false) where
-        goes : walkFrom k n sol t x ≡ walk k sol (6 * n - (i + 1)) t (moved (standing at mark i marks-at (g .seen)) y 4)
+        goes : walkFrom k n sol t x ≡ walk k sol (6 * n - (i + 1)) t (moved (standing at mark i marks-at (x ∷ g .via)) y 4)
         unfolding walk
         goes = g .rest ∙ rw (one-move, walk, e, ne, new, four)
 
@@ -175,24 +191,26 @@ module _ {k n : ℕ} {sol : ℕ → Bool} {count : Kmer → ℕ} {t x at mark : 
 
         pub walk-marks : i + 1 ≡ marks-at
             → Going k n sol count t x y y (i + 1) (2 * marks-at) (min w (count y)) (set out (i + 1) (lastLetter y))
-        unfolding moved seen′
+        unfolding moved via′
         walk-marks h =
             record {
-              seen = seen′;
-              many-are = many′ ∙ omega arith;
+              via = via′;
+              many-are = many′;
               holds = holds′;
+              ends = ends′;
               weakest-is = weakest′;
               rest = goes ∙ rw (cost, add-one, eq-eqb (suc i) marks-at (sym (add-one i) ∙ h));
             }
 
         pub walk-goes : (i + 1 ≡ marks-at → ⊥)
             → Going k n sol count t x y mark (i + 1) marks-at (min w (count y)) (set out (i + 1) (lastLetter y))
-        unfolding moved seen′
+        unfolding moved via′
         walk-goes h =
             record {
-              seen = seen′;
-              many-are = many′ ∙ omega arith;
+              via = via′;
+              many-are = many′;
               holds = holds′;
+              ends = ends′;
               weakest-is = weakest′;
               rest = goes ∙ rw (cost, add-one, ne-eqb (suc i) marks-at (λ q. h (add-one i ∙ q)));
             }
@@ -221,32 +239,25 @@ module _ (k n : ℕ) (sol : ℕ → Bool) (sc : rules.Scan) (x : Kmer) (m : ℕ)
   unfolding after walkMend _>>=_ next refuse
   walk-refused l l′ e q = (rw (e, walkMend), rw (e, walkMend) (omega arith))
 
-  module _ {count : Kmer → ℕ} {l many w : ℕ} {out : List ℕ} (r : Arrived k n sol count (sc .end) x l many w out) where
-    pub walk-mends : (l′ : ℕ) → l′ ≡ m + l → many ≤ length out
-        → MendIs count out (tried .answer) many (sc .index + 1) w × (tried .lookups ≡ l′)
-    unfolding after walkMend _>>=_ next give
-    walk-mends l′ q h =
-        let c : length (spell (r .seen)) ≡ many = length-spell (r .seen) ∙ r .many-are in
-        let all : spell (r .seen) ≡ take many out =
-        holds-all (spell (r .seen)) out (omega arith) (r .holds) ∙ ap (λ (i : ℕ). take i out) c in (
-          record {
-            on = r .seen;
-            is = rw (r .is, walkMend, add-one)
-                (ap (λ (ls : List ℕ). some (record { letters = ls; resume = suc (sc .index); on = r .seen })) all);
-            weakest-is = r .weakest-is;
-            written = h;
-          },
-          rw (r .is, walkMend) (omega arith),
-        )
-
-    pub walk-full : (room : ℕ) → room < many
-        → ((d : Mend) → tried .answer ≡ some d → room < length (d .letters)) × (tried .answer ≡ none → room < sc .index)
-    unfolding after walkMend _>>=_ next give
-    walk-full room h =
-        let a : tried .answer ≡ some (record { letters = spell (r .seen); resume = suc (sc .index); on = r .seen }) = rw (r .is, walkMend) in (
-          λ d b. rw (← (Option·some-injective _ d (sym a ∙ b))) (omega (arith, length-spell (r .seen), r .many-are)),
-          λ b. absurd (Option·none-ne-some _ (sym b ∙ a)),
-        )
+  -- z is where it arrived, y a bad k-mer in whose place x stands
+  pub walk-mends : {count : Kmer → ℕ} {l many w : ℕ} {out : List ℕ} {z : KmerOf} → Arrived k n sol count (sc .end) x (kmerOf z) l many w out
+      → IsKmer k z → (l′ : ℕ) → l′ ≡ m + l → (y : Kmer) → inPlace k y (lastLetter x ∷ []) ≡ x
+      → MendIs k y count out (tried .answer) many (sc .index + 1) w z × (tried .lookups ≡ l′)
+  unfolding after walkMend _>>=_ next give spell
+  walk-mends {many = many} {out = out} r is-kmer l′ q y h =
+      let letters : List ℕ = spell (x ∷ r .via) in
+      let c : length letters ≡ many = length-spell (x ∷ r .via) ∙ omega (arith, r .many-are) in (
+        record {
+          letters = letters;
+          on = x ∷ r .via;
+          is = rw (r .is, walkMend, add-one);
+          many = c;
+          written = λ le. sym (holds-all letters out (omega arith) (r .holds) ∙ ap (λ (i : ℕ). take i out) c);
+          weakest-is = r .weakest-is;
+          placed = record { is = sym (leads-on k y x (spell (r .via)) h ∙ r .ends); kmer = is-kmer };
+        },
+        rw (r .is, walkMend) (omega arith),
+      )
 
 -- ---- from the bad k-mer to x
 
@@ -291,8 +302,8 @@ scan-fits k sol y s r e h l = let w = scan-within k sol y s r e h in (omega arit
 
 -- Graph is Graph from its scan
 pub graph-scanned : (k n : ℕ) (sol : ℕ → Bool) (s : List ℕ) (y : Kmer) {count : Kmer → ℕ} {sc : rules.Scan} {out out′ : List ℕ} {r : Attempt}
-    → sc ≡ errorLen k sol y s → Attempted count (sc .index) out out′ (after (sc .lookups) (graphFrom k n sol sc y)) r
-    → Attempted count (errorLen k sol y s .index) out out′ (graph k n sol s y) r
+    → sc ≡ errorLen k sol y s → Attempted k y count (sc .index) out out′ (after (sc .lookups) (graphFrom k n sol sc y)) r
+    → Attempted k y count (errorLen k sol y s .index) out out′ (graph k n sol s y) r
 unfolding graph
 graph-scanned k n sol s y {count} {sc} {out} {out′} {r} e h =
-    subst (λ (sc′ : rules.Scan). Attempted count (sc′ .index) out out′ (after (sc′ .lookups) (graphFrom k n sol sc′ y)) r) e h
+    subst (λ (sc′ : rules.Scan). Attempted k y count (sc′ .index) out out′ (after (sc′ .lookups) (graphFrom k n sol sc′ y)) r) e h

@@ -7,9 +7,11 @@ use scan::Attempt;
 use scan::Scan;
 use scan::Sole;
 ghost use mathlib.Core.Path.{_≡_};
+ghost use mathlib.Core.List.{[], _∷_};
 ghost use Prim.Native.Nat.{_+_, _^_, _≤_, _<_};
 ghost use lib.ListN.{length, set as put};
-ghost use Rattle.rules.specs.Letters.{lastLetter};
+ghost use Rattle.rules.specs.Letters as letters;
+ghost use Rattle.rules.specs.Letters.{lastLetter, inPlace};
 ghost use Rattle.rules.specs.Set.{solid, setOf, countOf};
 ghost use Rattle.rules.specs.Counted.{after};
 ghost use Rattle.rules.specs.Scan.{errorLen};
@@ -30,8 +32,8 @@ pub fn write_last(out: &mut [u8], at: usize, kmer: Kmer)
     }
 }
 
-// The walk from x, which has that count, to the last k-mer of the scan, after all lookups up to x. Letters beyond the room are only
-// counted, since the walk may yet be refused.
+// The walk from x, which has that count and stands in the place of the bad k-mer, to the last k-mer of the scan, after all lookups up to x.
+// Letters beyond the room are only counted.
 fn walk(
     set: &[u8],
     starts: &[u32],
@@ -45,10 +47,10 @@ fn walk(
     requires { ⌜
         Ready (now set) (now starts) head × IsKmer (head .k) x × (x .unknown ≡ 0) × (scan .index < 2 ^ 63) × (scan .lookups < 2 ^ 63)
         × (count ≡ countOf (setWith (now set) (now counts)) (kmerOf x)) ⌝ }
-    ensures { λ r. ⌜
-        Attempted (countOf (setWith (now (set .entry)) (now (counts .entry)))) (scan .index) (now (out .entry)) (now (out .exit))
+    ensures { λ r. ⌜ ((y : letters.Kmer) → inPlace (head .k) y (lastLetter (kmerOf x) ∷ []) ≡ kmerOf x →
+        Attempted (head .k) y (countOf (setWith (now (set .entry)) (now (counts .entry)))) (scan .index) (now (out .entry)) (now (out .exit))
         (after (scan .lookups + 4) (walkMend (head .k) (head .n) (solid (setOf (now (set .entry)))) (scanOf scan) (kmerOf x)))
-        r ⌝ }
+        r) ⌝ }
 {
     let end = scan.end;
     let resume = scan.index + 1;
@@ -75,10 +77,7 @@ fn walk(
         write_last(out, moves + 1, next);
         if kmer::same(next, end) {
             let letters = moves + 2;
-            if letters <= out.len() {
-                return Attempt::Mend(letters, resume, lookups, weakest);
-            }
-            return Attempt::Full;
+            return Attempt::Mend(letters, resume, lookups, weakest, next);
         }
         if kmer::same(next, mark) {
             return Attempt::Refused(lookups);
@@ -104,7 +103,8 @@ pub fn from_scan(
 ) -> Attempt
     requires { ⌜ Ready (now set) (now starts) head × IsKmer (head .k) kmer × (scan .index < 2 ^ 63) × (scan .lookups < 2 ^ 63) ⌝ }
     ensures { λ r. ⌜
-        Attempted (countOf (setWith (now (set .entry)) (now (counts .entry)))) (scan .index) (now (out .entry)) (now (out .exit))
+        Attempted (head .k) (kmerOf kmer) (countOf (setWith (now (set .entry)) (now (counts .entry)))) (scan .index)
+        (now (out .entry)) (now (out .exit))
         (after (scan .lookups) (graphFrom (head .k) (head .n) (solid (setOf (now (set .entry)))) (scanOf scan) (kmerOf kmer)))
         r ⌝ }
 {
@@ -136,7 +136,7 @@ pub fn correct_error(
 ) -> Attempt
     requires { ⌜ Ready (now set) (now starts) head × IsKmer (head .k) kmer × (1 ≤ length (now s)) ⌝ }
     ensures { λ r. ⌜
-        Attempted (countOf (setWith (now (set .entry)) (now (counts .entry))))
+        Attempted (head .k) (kmerOf kmer) (countOf (setWith (now (set .entry)) (now (counts .entry))))
         (errorLen (head .k) (solid (setOf (now (set .entry)))) (kmerOf kmer) (now (s .entry)) .index) (now (out .entry)) (now (out .exit))
         (graph (head .k) (head .n) (solid (setOf (now (set .entry)))) (now (s .entry)) (kmerOf kmer))
         r ⌝ }

@@ -3,7 +3,7 @@ use Prim.Native.Nat.{ℕ, suc, _+_, _*_, _-_, max, _≤_, _<_}
 use native.Mathlib.Omega.{arith}
 use native.Mathlib.Numerals.{add-one}
 use borrow.Author.Tests.{le-leb, lt-leb, leb-true, leb-false}
-use mathlib.Core.Path.{_≡_, refl}
+use mathlib.Core.Path.{_≡_, refl, sym, ap, _∙_}
 use mathlib.Core.Bool.{Bool, true, false}
 use mathlib.Core.Option.{none, some}
 use lib.Dec.{leb}
@@ -11,7 +11,7 @@ use Rattle.rules.specs.Refusal.{Check, _orElse_, firstFailing}
 use Rattle.rules.specs.Calls.{maxOutput, maxWork, buffersRight}
 use Rattle.refusal.specs.declared.Refusal.{Refusal}
 use Rattle.input.specs.declared.Input.{Input}
-use Rattle.input.specs.declared.Input.the-variants.{Refused}
+use Rattle.input.specs.declared.Input.the-variants.{Fine, Refused}
 use Rattle.input.specs.Input.{checkOf, IsRefused}
 
 -- The first failing index from i on, of n.
@@ -38,6 +38,10 @@ is-refused e = rw e tt
 pub refuses : {checked : Input} {r : Refusal} (later : Check) → checked ≡ Refused r → checkOf checked ≡ (checkOf checked orElse later)
 unfolding _orElse_
 refuses later e = rw e
+
+-- A check that let pass.
+pub is-fine : {checked : Input} {check : Check} → checkOf checked ≡ check → checked ≡ Fine → check ≡ none
+is-fine is e = sym is ∙ ap checkOf e
 
 module _ (input output work : ℕ) where
   pub long-output : maxOutput < output → buffersRight input output work ≡ false

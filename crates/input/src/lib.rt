@@ -7,7 +7,8 @@ ghost use lib.ListN.{length, getD, take, replicate};
 ghost use lib.Dec.{leb, ltb};
 ghost use Rattle.rules.specs.Refusal.{unless, atPlace, firstFailing};
 ghost use Rattle.rules.specs.Job.{known, methodByte, confirmByte, entryCount, lines};
-ghost use Rattle.rules.specs.Calls.{maxRead, buffersRight, inputCheck, batchRight};
+ghost use Rattle.rules.specs.Calls.{maxRead, buffersRight, jobCheck, inputCheck, batchRight};
+ghost use Rattle.rules.specs.Needs.{needsCheck};
 ghost use Rattle.input.specs.Input.{checkOf, IsRefused, LineAt};
 
 const MAX_READ: usize = 1048576;
@@ -81,14 +82,10 @@ fn buffers_right(input: usize, output: usize, work: usize) -> bool
     2 * output <= work && 2 * input <= work
 }
 
-// Checks 1 to 5, upward, by the job and the lengths of input, output and work. All methods are looked at before any confirm.
-pub fn check_input(input: usize, job: &[u8], output: usize, work: usize) -> Input
-    ensures { λ r. ⌜ checkOf r ≡ inputCheck input (now (job .entry)) output work ⌝ }
+// Checks 2 to 4, upward. All methods are looked at before any confirm.
+fn check_job(job: &[u8]) -> Input
+    ensures { λ r. ⌜ checkOf r ≡ jobCheck (now (job .entry)) ⌝ }
 {
-    let length_checked = check_length(input);
-    let Input::Fine = length_checked else {
-        return length_checked;
-    };
     if MAX_METHODS < entries::count(job) {
         return Input::Refused(Refusal::Methods);
     }
@@ -96,14 +93,46 @@ pub fn check_input(input: usize, job: &[u8], output: usize, work: usize) -> Inpu
     let Input::Fine = methods_checked else {
         return methods_checked;
     };
-    let confirms_checked = check_confirms(job);
-    let Input::Fine = confirms_checked else {
-        return confirms_checked;
+    check_confirms(job)
+}
+
+// Checks 1 to 5, upward, by the job and the lengths of input, output and work.
+pub fn check_input(input: usize, job: &[u8], output: usize, work: usize) -> Input
+    ensures { λ r. ⌜ checkOf r ≡ inputCheck input (now (job .entry)) output work ⌝ }
+{
+    let length_checked = check_length(input);
+    let Input::Fine = length_checked else {
+        return length_checked;
+    };
+    let job_checked = check_job(job);
+    let Input::Fine = job_checked else {
+        return job_checked;
     };
     if !buffers_right(input, output, work) {
         return Input::Refused(Refusal::Buffers);
     }
     Input::Fine
+}
+
+// The same for a call without output, which takes a job of one method: 17 after 4, and 5 by the work buffer alone.
+pub fn check_needs(batch: usize, job: &[u8], work: usize) -> Input
+    ensures { λ r. ⌜ checkOf r ≡ needsCheck batch (now (job .entry)) work ⌝ }
+{
+    let length_checked = check_length(batch);
+    let Input::Fine = length_checked else {
+        return length_checked;
+    };
+    let job_checked = check_job(job);
+    let Input::Fine = job_checked else {
+        return job_checked;
+    };
+    if entries::count(job) != 1 {
+        return Input::Refused(Refusal::NotOne);
+    }
+    if batch <= work {
+        return Input::Fine;
+    }
+    Input::Refused(Refusal::Buffers)
 }
 
 // Why an input was refused.

@@ -24,7 +24,7 @@ use Rattle.report.specs.Answer.{given, Exact}
 use Rattle.input.specs.Input.{Within}
 use Rattle.report.specs.Ending.{Cleared, reportOn}
 use Rattle.rules.proofs.Job.{entriesOf-length}
-use Rattle.report.proofs.Calls.{too-long-here, too-long-later}
+use Rattle.rules.proofs.Calls.{too-long-here, too-long-later}
 use Rattle.report.proofs.Exact.{throughAll, full-exact, fits-exact}
 
 module _ (set : KmerSet) (es : List Entry) (read : List ℕ) where

@@ -2,7 +2,7 @@
 use correct::Pass;
 use input::Input;
 use kmer::Header;
-use opening::Opened;
+use offered::Offered;
 use refusal::Refusal;
 use report::Answer;
 use set::STARTS;
@@ -73,18 +73,11 @@ pub fn correct_read(
     let Input::Fine = checked else {
         return Answer::Refused(input::refused(checked));
     };
-    let opened = opening::open(set);
-    let Opened::Set(k, n) = opened else {
-        return Answer::Refused(opening::refused(opened));
-    };
-    if !check_index::check_index(set, k, n, index) {
-        return Answer::Refused(Refusal::Index);
-    }
-    if !support::check_counts(counts, n) {
-        return Answer::Refused(Refusal::Counts);
-    }
     let mut starts = [0u32; STARTS];
-    let head = prepare::prepare(set, index, k, n, read.len(), &mut starts);
+    let opened = offered::open(set, index, counts, read.len(), &mut starts);
+    let Offered::Ready(head) = opened else {
+        return Answer::Refused(offered::refused(opened));
+    };
     correct_one(set, &starts, head, counts, job, read, output, work)
 }
 
@@ -111,17 +104,10 @@ pub fn correct_batch(
     if !input::check_batch(batch) {
         return Answer::Refused(Refusal::Batch);
     }
-    let opened = opening::open(set);
-    let Opened::Set(k, n) = opened else {
-        return Answer::Refused(opening::refused(opened));
-    };
-    if !check_index::check_index(set, k, n, index) {
-        return Answer::Refused(Refusal::Index);
-    }
-    if !support::check_counts(counts, n) {
-        return Answer::Refused(Refusal::Counts);
-    }
     let mut starts = [0u32; STARTS];
-    let head = prepare::prepare(set, index, k, n, batch.len(), &mut starts);
+    let opened = offered::open(set, index, counts, batch.len(), &mut starts);
+    let Offered::Ready(head) = opened else {
+        return Answer::Refused(offered::refused(opened));
+    };
     lines::correct_lines(set, &starts, head, counts, job, batch, output, work)
 }

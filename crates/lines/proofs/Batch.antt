@@ -35,7 +35,7 @@ use Rattle.report.proofs.Exact.{throughAll, full-exact, fits-exact}
 use Rattle.rules.proofs.Support.{weaker-none, weaker-assoc}
 use Rattle.support.specs.Support.{supportOf}
 use Rattle.set.specs.Counted.{setWith}
-use Rattle.report.proofs.Calls.{sum-first, support-first, too-long-here, too-long-later}
+use Rattle.rules.proofs.Calls.{sum-first, support-first, too-long-here, too-long-later}
 
 -- What q writes and counts, behind p.
 abbrev pub behind : Rules.Pass → Rules.Pass → Rules.Pass

@@ -10,12 +10,11 @@ use Rattle.rules.specs.Refusal.{Refusal, Check, Outcome, accepted, refused, _or
 use Rattle.rules.specs.Report as Reports
 use Rattle.rules.specs.Set.{KmerSet, offering, opened}
 use Rattle.rules.specs.Job.{Entry, entriesOf, lines}
-use Rattle.rules.specs.Index.{indexCheck}
-use Rattle.rules.specs.Calls.{Given, withoutIndex, After, unchanged, noRoom, tooLong, results, report, corrected, countsCheck, call, batchRight, givenCheck, correctBatch}
+use Rattle.rules.specs.Calls.{Given, withoutIndex, After, unchanged, noRoom, tooLong, results, report, corrected, offerCheck, call, batchRight, givenCheck, correctBatch}
 use Rattle.rules.specs.Program.{zeros, refusalLine, countsLine, printedFor}
 use Rattle.refusal.specs.declared.Refusal.{Refusal as Refused·by}
 use Rattle.refusal.specs.Refusal.{refusalOf}
-use Rattle.report.proofs.Calls.{corrected-full, corrected-fits, call-refused, call-not-opened, call-index-wrong, call-counts-wrong, call-opened}
+use Rattle.rules.proofs.Calls.{corrected-full, corrected-fits, call-refused, call-not-opened, call-offer-wrong, call-opened}
 use Rattle.report.specs.declared.Report.{Report}
 use Rattle.report.specs.declared.Answer.{Answer}
 use Rattle.report.specs.declared.Answer.the-variants.{Report as Reported, Refused}
@@ -90,15 +89,11 @@ module _ (n : ℕ) (g : Given) (out : g .output ≡ zeros n) where
       where
         go : (o : Outcome KmerSet) → opened (g .set) ≡ o → Leaves n (call ending reads none g)
         go (refused x) o = rw (call-not-opened ending reads none g x refl o) (unchanged-leaves x)
-        go (accepted set) o = at (indexCheck set (g .index)) refl
+        go (accepted set) o = on (offerCheck set (g .index) (g .counts)) refl
           where
-            at : (i : Check) → indexCheck set (g .index) ≡ i → Leaves n (call ending reads none g)
-            at (some x) i = rw (call-index-wrong ending reads none g set refl o x i) (unchanged-leaves x)
-            at none i = on (countsCheck set (g .counts)) refl
-              where
-                on : (d : Check) → countsCheck set (g .counts) ≡ d → Leaves n (call ending reads none g)
-                on (some x) d = rw (call-counts-wrong ending reads none g set refl o i x d) (unchanged-leaves x)
-                on none d = rw (call-opened ending reads none g set refl o i d) (corrected-leaves (offering [] (g .counts) set) (entriesOf (g .job)))
+            on : (d : Check) → offerCheck set (g .index) (g .counts) ≡ d → Leaves n (call ending reads none g)
+            on (some x) d = rw (call-offer-wrong ending reads none g set refl o x d) (unchanged-leaves x)
+            on none d = rw (call-opened ending reads none g set refl o d) (corrected-leaves (offering [] (g .counts) set) (entriesOf (g .job)))
 
   batch-leaves : Leaves n (correctBatch g)
   unfolding correctBatch

@@ -20,6 +20,7 @@ pub enum Refusal {
     TooShort,
     Index,
     Counts,
+    NotOne,
 }
 
 pub fn number_of(refusal: Refusal) -> u64
@@ -42,6 +43,7 @@ pub fn number_of(refusal: Refusal) -> u64
         Refusal::TooShort => 14,
         Refusal::Index => 15,
         Refusal::Counts => 16,
+        Refusal::NotOne => 17,
     }
 }
 
@@ -65,5 +67,6 @@ pub fn place_of(refusal: Refusal) -> u64
         Refusal::TooShort => 0,
         Refusal::Index => 0,
         Refusal::Counts => 0,
+        Refusal::NotOne => 0,
     }
 }

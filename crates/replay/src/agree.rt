@@ -65,7 +65,7 @@ fn lent_is(lent: &[u8], result: &[u8], rest: u8) -> bool {
 fn rest_of(record: &[u8; 64], fill: u8) -> u8 {
     match number(record, 8) {
         1..=10 => fill,
-        15..=16 => fill,
+        15..=17 => fill,
         _ => 0,
     }
 }
@@ -84,6 +84,32 @@ fn call(
         return job::correct_read(set, index, counts, job, input, output, work);
     }
     job::correct_batch(set, index, counts, job, input, output, work)
+}
+
+fn need_agrees(answer: needs::Answer, record: &[u8; 64]) -> bool {
+    match answer {
+        needs::Answer::Need(need) => {
+            pair_is(record, 8, 0, 0)
+                && pair_is(record, 10, need.bytes as u64, need.turns)
+                && number(record, 12) == need.lookups
+        }
+        needs::Answer::Refused(refusal) => refusal_agrees(refusal, record),
+    }
+}
+
+pub fn needs_agrees(
+    set: &[u8],
+    index: &[u8],
+    counts: &[u32],
+    record: &[u8; 64],
+    fill: u8,
+    job: &[u8],
+    batch: &[u8],
+    work: &mut [u8],
+) -> bool {
+    let answer = needs::needs(set, index, counts, job, batch, work);
+    let rest = rest_of(record, fill);
+    need_agrees(answer, record) && lent_is(work, b"", rest)
 }
 
 pub fn call_agrees(

@@ -1,10 +1,11 @@
 // Replays the list of cases on standard input, as `compare/run --list` writes it (compare/README.md has its format), and prints how many
-// agree in the answer, the report and every byte of both lent buffers.
+// agree in the answer, the report and every byte of the lent buffers.
 mod agree;
 mod list;
 
 ghost use Rattle.io.specs.Counts.{Counts};
 use agree::call_agrees;
+use agree::needs_agrees;
 use agree::open_agrees;
 use libc::STDIN_FILENO;
 use libc::STDOUT_FILENO;
@@ -37,6 +38,9 @@ const SET: u64 = 1;
 const INDEX: u64 = 5;
 
 const COUNTS: u64 = 6;
+
+// A case that has no output and no result.
+const NEEDS: u64 = 7;
 
 enum Case {
     Agrees,
@@ -89,6 +93,33 @@ fn compare(
     ))
 }
 
+fn compare_needs(
+    set: &[u8],
+    index: &[u8],
+    counts: &[u32],
+    record: &[u8; 64],
+    fill: u8,
+    job: &[u8],
+    batch: &[u8],
+) -> Case {
+    let mut work = [fill; MAX_WORK];
+    let work_part = part_of(&work, number(record, 5) as usize);
+    if !work_part.whole {
+        return Case::Malformed;
+    }
+    let work_end = work_part.length;
+    told(needs_agrees(
+        set,
+        index,
+        counts,
+        record,
+        fill,
+        job,
+        batch,
+        &mut work[..work_end],
+    ))
+}
+
 fn replay_call(set: &[u8], index: &[u8], counts: &[u32], record: &[u8; 64], fill: u8) -> Case {
     let mut job = [0u8; MAX_JOB];
     let mut input = [0u8; MAX_INPUT];
@@ -102,6 +133,17 @@ fn replay_call(set: &[u8], index: &[u8], counts: &[u32], record: &[u8; 64], fill
     let job_end = job_part.length;
     let input_end = input_part.length;
     let result_end = result_part.length;
+    if number(record, 0) == NEEDS {
+        return compare_needs(
+            set,
+            index,
+            counts,
+            record,
+            fill,
+            &job[..job_end],
+            &input[..input_end],
+        );
+    }
     compare(
         set,
         index,
@@ -135,6 +177,7 @@ fn replay_case(set: &[u8], index: &[u8], count_bytes: &[u8], record: &[u8; 64], 
     match number(record, 0) {
         2 => told(open_agrees(set, record)),
         3..=4 => replay_counted(set, index, count_bytes, record, fill),
+        NEEDS => replay_counted(set, index, count_bytes, record, fill),
         _ => Case::Malformed,
     }
 }

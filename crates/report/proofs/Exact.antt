@@ -33,7 +33,7 @@ use Rattle.support.specs.Support.{supportOf}
 use Rattle.correct.specs.Pass.{passOf}
 use Rattle.report.specs.Answer.{supportTold, reportOf, answerOf, Exact, Ceiling}
 use Rattle.report.specs.Ending.{Cleared, supportedBy, reportOn}
-use Rattle.report.proofs.Calls.{corrected-full, corrected-fits}
+use Rattle.rules.proofs.Calls.{corrected-full, corrected-fits}
 
 -- All of a call's reads: the bytes written, and what all passes count.
 unfoldable pub throughAll : KmerSet → List Entry → List ℕ → List (List ℕ) → Pass

@@ -1,4 +1,3 @@
-pub mod Calls
 pub mod Exact
 pub mod Yield
 pub mod Within

@@ -6,13 +6,13 @@ use mathlib.Core.Path.{_≡_}
 use mathlib.Core.Bool.{true, _&&_, _||_}
 use mathlib.Core.Option.{none}
 use mathlib.Core.List.{List}
-use lib.Dec.{eqb, ltb, leb}
+use lib.Dec.{eqb, leb}
 use lib.ListN.{length, getD}
-use Rattle.rules.specs.Refusal.{Check, _orElse_, unless, atPlace, firstFailing}
-use Rattle.rules.specs.Job.{known, methodByte, confirmByte, entryCount, lines}
-use Rattle.rules.specs.Calls.{maxRead, maxMethods, maxOutput, maxWork, maxLines, buffersRight, inputCheck, batchRight}
-use Rattle.rules.proofs.Opened.{both as and-true, passed, unless-passed, at-none}
-use Rattle.rules.proofs.Job.{confirmed}
+use Rattle.rules.specs.Refusal.{Check, _orElse_, unless}
+use Rattle.rules.specs.Job.{lines}
+use Rattle.rules.specs.Calls.{maxRead, maxOutput, maxWork, maxLines, buffersRight, jobCheck, inputCheck, batchRight}
+use Rattle.rules.proofs.Opened.{both as and-true, passed, unless-passed}
+use Rattle.rules.proofs.Upward.{job-right}
 use Rattle.input.specs.Input.{Within}
 
 module _ (i : ℕ) (job : List ℕ) (o w : ℕ) where
@@ -27,20 +27,15 @@ module _ (i : ℕ) (job : List ℕ) (o w : ℕ) where
   unfolding inputCheck
   within h =
       let one : Check = unless (leb i maxRead) 1 in
-      let two : Check = unless (leb (entryCount job) maxMethods) 2 in
-      let three : Check = atPlace 3 (firstFailing (λ j. known (methodByte job j)) 0 (entryCount job)) in
-      let confirms = firstFailing (λ j. ltb 0 (confirmByte job j)) 0 (entryCount job) in
-      let four : Check = atPlace 4 confirms in
       let five : Check = unless (buffersRight i o w) 5 in
-      let a = passed one (two orElse (three orElse (four orElse five))) h in
-      let b = passed two (three orElse (four orElse five)) (a .1) in
-      let d = passed three (four orElse five) (b .1) in
-      let e = passed four five (d .1) in
-      let room = buffers (unless-passed (buffersRight i o w) 5 (e .1)) in
+      let a = passed one (jobCheck job orElse five) h in
+      let b = passed (jobCheck job) five (a .1) in
+      let right = job-right job (b .0) in
+      let room = buffers (unless-passed (buffersRight i o w) 5 (b .1)) in
       record {
         input = leb-true i maxRead (unless-passed (leb i maxRead) 1 (a .0));
-        entries = leb-true (entryCount job) maxMethods (unless-passed (leb (entryCount job) maxMethods) 2 (b .0));
-        confirms = confirmed job (at-none 4 confirms (e .0));
+        entries = right .0;
+        confirms = right .1;
         output = room .0;
         work = omega arith;
       }

@@ -33,6 +33,15 @@ module _ {A B : Type 0} (m : Try A) (f : A → Try B) where
   unfolding _>>=_ next after
   bind-is a e = rw e
 
+  -- both parts answered, with what both cost
+  pub bind-both : (b : B) → (m >>= f) .answer ≡ some b
+      → (a : A) × (m .answer ≡ some a) × (f a .answer ≡ some b) × ((m >>= f) .lookups ≡ m .lookups + f a .lookups)
+  unfolding _>>=_ next after
+  bind-both b e = (let w = bind-some b e in (w .0, w .1, w .2, cost (w .0) (w .1)))
+    where
+      cost : (a : A) → m .answer ≡ some a → (m >>= f) .lookups ≡ m .lookups + f a .lookups
+      cost a q = rw q
+
 pub then-cost : {A B : Type 0} (m : Try A) (n : Try B) → (m >> n) .lookups ≤ m .lookups + n .lookups
 unfolding _>>_
 then-cost m n = bind-cost m (λ a. n) (n .lookups) (λ a. le-refl (n .lookups))

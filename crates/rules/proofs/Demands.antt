@@ -1,5 +1,5 @@
 -- What the papers ask to be proved of the rules: of every set that opens, every index and counts offered with it, every list of entries with confirms from 1, every list of reads.
-use Prim.Native.Nat.{ℕ, zero, suc, _+_, _*_, _-_, _%_, _≤_, _<_}
+use Prim.Native.Nat.{ℕ, zero, suc, _+_, _*_, _-_, _≤_, _<_}
 use native.Mathlib.Omega.{arith}
 use borrow.Author.Tests.{ltb-true, ltb-false}
 use mathlib.Core.Path.{_≡_, refl, sym, subst}
@@ -18,7 +18,7 @@ use Rattle.rules.specs.Graph.{All, also, start, walk, walkFrom, Exactly}
 use Rattle.rules.specs.Driver.{State, turn, turnsOf, begin}
 use Rattle.rules.specs.Job.{Method, One, Two, Graph, GapSize, Entry, Confirmed, correctError, pass}
 use Rattle.rules.specs.Counts.{Fed, sum, allPasses, turns, lookups, W, F, ceiling, Demand3}
-use Rattle.rules.proofs.Opened.{opened-odd}
+use Rattle.rules.proofs.Opened.{opened-pos}
 use Rattle.rules.proofs.Job.{all-confirmed}
 use Rattle.rules.proofs.Few.{few}
 use Rattle.rules.proofs.Driver.{Steady, drive-turns, turns-fuel, takes-base, turnsOf-grows, refused-kept}
@@ -76,11 +76,7 @@ module _ (bytes : List ℕ) (file : KmerSet) (o : opened bytes ≡ accepted file
 
   k-pos : 1 ≤ k
   unfolding offering
-  k-pos = let odd = opened-odd bytes file o in positive (file .k) odd
-    where
-      positive : (k′ : ℕ) → k′ % 2 ≡ 1 → 1 ≤ k′
-      positive zero e = absurd (omega arith)
-      positive (suc j) e = omega arith
+  k-pos = opened-pos bytes file o
 
   -- ---- the theorem `ceilings`: demand 3
 

@@ -24,6 +24,11 @@ pub mod MakeSamples
 pub mod Index
 pub mod IndexSamples
 pub mod SupportSamples
+pub mod NeedSamples
 pub mod Offered
 pub mod Demands
 pub mod Told
+pub mod Calls
+pub mod Upward
+pub mod Growth
+pub mod Needs

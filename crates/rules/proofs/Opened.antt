@@ -1,5 +1,5 @@
 -- What is known of a set that opens.
-use Prim.Native.Nat.{ℕ, _*_, _-_, _%_}
+use Prim.Native.Nat.{ℕ, zero, suc, _*_, _-_, _%_, _≤_}
 use native.Mathlib.Omega.{arith}
 use borrow.Author.Tests.{eqb-true}
 use mathlib.Core.Path.{_≡_, refl, ap, _∙_}
@@ -9,6 +9,8 @@ use mathlib.Core.List.{List}
 use lib.Dec.{eqb}
 use Rattle.rules.specs.Refusal.{accepted, refused, Check, _orElse_, unless, atPlace, firstFailing}
 use Rattle.rules.specs.Set.{KmerSet, blocks, headerK, lengthRight, checkRight, headerRight, keyRight, setCheck, setOf, opened}
+use Rattle.rules.specs.Index.{indexCheck}
+use Rattle.rules.specs.Calls.{countsCheck, offerCheck}
 
 -- both tests hold
 pub both : (a b : Bool) → (a && b) ≡ true → (a ≡ true) × (b ≡ true)
@@ -30,6 +32,11 @@ pub at-none : (r : ℕ) (p : Option ℕ) → atPlace r p ≡ none → p ≡ none
 unfolding atPlace
 at-none r none h = refl
 at-none r (some p) h = absurd (let z : _≡_ {A = ℕ} 0 1 = cc in omega arith)
+
+-- What is offered passes 15 and 16, so its index passes 15.
+pub passed-15 : (set : KmerSet) (index counts : List ℕ) → offerCheck set index counts ≡ none → indexCheck set index ≡ none
+unfolding offerCheck
+passed-15 set index counts h = passed (indexCheck set index) (countsCheck set counts) h .0
 
 -- Checks 7 to 10, all passed.
 pub record Checked (bytes : List ℕ) : Type 0 where
@@ -80,3 +87,11 @@ module _ (bytes : List ℕ) (set : KmerSet) (o : opened bytes ≡ accepted set) 
   pub opened-odd : set .k % 2 ≡ 1
   unfolding setOf
   opened-odd = ap (λ (s : KmerSet). s .k % 2) opened-set ∙ header-odd bytes (checked bytes opened-check .header-right)
+
+  -- so it is at least 1
+  pub opened-pos : 1 ≤ set .k
+  opened-pos = go (set .k) opened-odd
+    where
+      go : (k : ℕ) → k % 2 ≡ 1 → 1 ≤ k
+      go zero e = absurd (omega arith)
+      go (suc j) e = omega arith

@@ -66,23 +66,23 @@ unfolding callBy givenCheck offer given sampleSet
 sixteen = readBy _ (sampleOpens .0)
 
 -- The number of a refusal, 0 if there is none.
-pub numberTold : Check → ℕ
+unfoldable pub numberTold : Check → ℕ
 numberTold none = 0
 numberTold (some r) = r .number
 
 -- Counts of n − 1, n + 1 and n entries; one with no keys; none with no keys, which are not offered; 15 comes before 16.
 pub countsOffered :
     map numberTold
-    (offerCheck sampleSet (offer [] (replicate 4 10) (given [] [] [] 0 0))
-    ∷ offerCheck sampleSet (offer [] (replicate 6 10) (given [] [] [] 0 0))
-    ∷ offerCheck sampleSet (offer [] (replicate 5 10) (given [] [] [] 0 0))
-    ∷ offerCheck noKeys (offer [] (10 ∷ []) (given [] [] [] 0 0))
-    ∷ offerCheck noKeys (offer [] [] (given [] [] [] 0 0))
-    ∷ offerCheck sampleSet (offer (0 ∷ []) (replicate 4 10) (given [] [] [] 0 0))
-    ∷ offerCheck sampleSet (offer (indexBlocks sampleSet) (replicate 4 10) (given [] [] [] 0 0))
+    (offerCheck sampleSet [] (replicate 4 10)
+    ∷ offerCheck sampleSet [] (replicate 6 10)
+    ∷ offerCheck sampleSet [] (replicate 5 10)
+    ∷ offerCheck noKeys [] (10 ∷ [])
+    ∷ offerCheck noKeys [] []
+    ∷ offerCheck sampleSet (0 ∷ []) (replicate 4 10)
+    ∷ offerCheck sampleSet (indexBlocks sampleSet) (replicate 4 10)
     ∷ [])
     ≡ 16 ∷ 16 ∷ 0 ∷ 16 ∷ 0 ∷ 15 ∷ 16 ∷ []
-unfolding numberTold offerCheck offer given indexBlocks sampleSet noKeys
+unfolding numberTold offerCheck indexBlocks sampleSet noKeys
 countsOffered = refl
 
 -- With counts of n − 1: 6 of a batch and the set's 7 come before 16; 16 comes before 11, which counts of n meet.

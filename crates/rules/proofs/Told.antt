@@ -167,7 +167,7 @@ module _ (set : KmerSet) (index counts : List ℕ) where
 -- ---- the calls
 
 -- A report, an answer and what a call leaves, without the support.
-pub unsupported : Report → Report
+unfoldable pub unsupported : Report → Report
 unsupported r =
     record {
       written = r .written;
@@ -189,7 +189,7 @@ unfolding answered
 uncounted a = record { answer = answered (a .answer); output = a .output; work = a .work }
 
 module _ (set : KmerSet) (index counts : List ℕ) (es : List Entry) (ending : List ℕ) where
-  same-report : (reads : List (List ℕ)) → unsupported (report (offering index counts set) es ending reads) ≡ report (offering index [] set) es ending reads
+  pub same-report : (reads : List (List ℕ)) → unsupported (report (offering index counts set) es ending reads) ≡ report (offering index [] set) es ending reads
   unfolding unsupported report offering
   same-report reads =
       let s : KmerSet = offering index counts set in

@@ -37,14 +37,20 @@ maxLines = 1024
 unfoldable pub buffersRight : ℕ → ℕ → ℕ → Bool
 buffersRight input output work = leb output maxOutput && leb work maxWork && leb (2 * max output input) work
 
--- Checks 1 to 5, upward: the input's length, the number of entries, all methods, then all confirms, and the lengths of output and work.
-unfoldable pub inputCheck : ℕ → List ℕ → ℕ → ℕ → Check
-unfolding unless atPlace firstFailing known methodByte confirmByte entryCount buffersRight _orElse_
-inputCheck input job output work =
-    unless (leb input maxRead) 1
-    orElse unless (leb (entryCount job) maxMethods) 2
+-- Checks 2 to 4, upward, of the job alone: the number of entries, all methods, then all confirms.
+unfoldable pub jobCheck : List ℕ → Check
+unfolding unless atPlace firstFailing known methodByte confirmByte entryCount _orElse_
+jobCheck job =
+    unless (leb (entryCount job) maxMethods) 2
     orElse atPlace 3 (firstFailing (λ i. known (methodByte job i)) 0 (entryCount job))
     orElse atPlace 4 (firstFailing (λ i. ltb 0 (confirmByte job i)) 0 (entryCount job))
+
+-- Checks 1 to 5, upward: the input's length, the job's, and the lengths of output and work.
+unfoldable pub inputCheck : ℕ → List ℕ → ℕ → ℕ → Check
+unfolding unless jobCheck buffersRight _orElse_
+inputCheck input job output work =
+    unless (leb input maxRead) 1
+    orElse jobCheck job
     orElse unless (buffersRight input output work) 5
 
 -- 6: a batch is empty or has a final 10, and no more than 1,024 lines.
@@ -154,9 +160,9 @@ countsCheck set [] = none
 countsCheck set (c ∷ cs) = unless (eqb (length (c ∷ cs)) (length (set .keys))) 16
 
 -- What is offered with an opened set: the index, 15, then the counts, 16.
-unfoldable pub offerCheck : KmerSet → Given → Check
+unfoldable pub offerCheck : KmerSet → List ℕ → List ℕ → Check
 unfolding indexCheck countsCheck _orElse_
-offerCheck set g = indexCheck set (g .index) orElse (let c = countsCheck set (g .counts) in c)
+offerCheck set index counts = indexCheck set index orElse (let c = countsCheck set counts in c)
 
 -- After the checks of the input come the set's, 7 to 10, then those of what is offered, 15 and 16, then 11. Lookups go by the index, where one
 -- is offered.
@@ -167,7 +173,7 @@ callBy opening ending reads refusal g =
       | some r ↦ unchanged g r
       | none ↦ elim opening [
         | refused r ↦ unchanged g r
-        | accepted set ↦ elim (offerCheck set g) [
+        | accepted set ↦ elim (offerCheck set (g .index) (g .counts)) [
           | some r ↦ unchanged g r
           | none ↦ corrected (offering (g .index) (g .counts) set) (entriesOf (g .job)) ending g reads
         ]

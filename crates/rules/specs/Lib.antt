@@ -18,6 +18,7 @@ pub mod Solid
 pub mod Blocks
 pub mod MakeSet
 pub mod Index
+pub mod Needs
 pub mod Samples
 pub mod Scenarios
 pub mod Supports

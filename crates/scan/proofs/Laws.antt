@@ -7,16 +7,16 @@ use native.Mathlib.Numerals.{add-one}
 use mathlib.Core.Path.{_≡_, refl, sym, ap, ap₂, _∙_}
 use mathlib.Core.Bool.{Bool, true, false, not, false≢true}
 use mathlib.Core.Option.{Option, none, some}
-use mathlib.Core.List.{List, [], _∷_}
+use mathlib.Core.List.{List, [], _∷_, _++_}
 use lib.ListN.{length, drop, getD, set as put, drop-of-length-le}
 use lib.Dec.{lit<, ltb}
 use lib.Seq.{drop-cons, getD-set-same, getD-set-other}
 use mir.Val.{boolByte as bit}
-use Rattle.rules.specs.Letters.{Kmer, add, addBase, addAll, dropLast}
+use Rattle.rules.specs.Letters.{Kmer, add, addBase, addAll, dropLast, last, lastLetter, inPlace}
 use Rattle.rules.specs.Set.{KmerSet, lookup, isNone, solid}
 use Rattle.rules.specs.Counted.{Counted, Try, give, _>>=_, next, after, refuse}
 use Rattle.rules.specs.Scan.{ask, only, yesFrom, successor, successors, fourCost, u, sole, alternative, scanFrom}
-use Rattle.rules.proofs.Kmer.{Known, add-unknown, ne-known}
+use Rattle.rules.proofs.Kmer.{Known, add-unknown, ne-known, last-one}
 use Rattle.rules.proofs.Scan.{ask-known, ask-is, ask-none, only-yes, sole-lookups, sole-cost, four-cost, four-free, sole-four}
 use Rattle.rules.proofs.Scan.{sole-is as only-is}
 use Rattle.kmer.specs.declared.Kmer.{Kmer as KmerOf}
@@ -40,6 +40,11 @@ module _ (k : ℕ) (z : Kmer) (bs : List ℕ) (i : ℕ) where
   pub add-end : length bs ≤ i → addAll k z (drop i bs) ≡ z
   unfolding addAll
   add-end h = rw (drop-of-length-le bs h)
+
+pub addAll-snoc : (k : ℕ) (y : Kmer) (bs : List ℕ) (b : ℕ) → addAll k y (bs ++ (b ∷ [])) ≡ addBase k (addAll k y bs) b
+unfolding addAll
+addAll-snoc k y [] b = refl
+addAll-snoc k y (a ∷ bs) b = addAll-snoc k (addBase k y a) bs b
 
 -- ---- the sole successor
 
@@ -232,6 +237,23 @@ module _ (k : ℕ) (y : Kmer) (low : 1 ≤ k) where
     sole-none z =
         let u : Known (add k y 0) → ⊥ = λ h. (let q = four-made h in omega arith) in
         ap (λ (t : Try Kmer). t .answer) (sole-is k sol y ∙ ap (λ (l : List Bool). soleBy k sol y (only (yesFrom 0 l))) (four-no u))
+
+-- ---- a k-mer given back by its last letter
+
+pub letter-back : (k : ℕ) (sol : ℕ → Bool) (y z : Kmer) → 1 ≤ k → sole k sol y .answer ≡ some z → addBase k y (lastLetter z) ≡ z
+unfolding addAll last
+letter-back zero sol y z l e = absurd (omega arith)
+letter-back (suc j) sol y z l e = let o = only-is (suc j) sol y z e in rw (o .is) (last-one j y (o .by) (o .by-lt))
+
+-- the sole alternative stands in the place of the bad k-mer y
+pub alternative-back : (k : ℕ) (sol : ℕ → Bool) (y x : Kmer) → 1 ≤ k → alternative k sol y .answer ≡ some x → inPlace k y (lastLetter x ∷ []) ≡ x
+unfolding alternative inPlace addAll
+alternative-back k sol y x l e = letter-back k sol (dropLast y) x l e
+
+-- and letters that follow its own lead on from it
+pub leads-on : (k : ℕ) (y x : Kmer) (ls : List ℕ) → inPlace k y (lastLetter x ∷ []) ≡ x → inPlace k y (lastLetter x ∷ ls) ≡ addAll k x ls
+unfolding inPlace addAll
+leads-on k y x ls h = ap (λ (z : Kmer). addAll k z ls) h
 
 -- ---- the places of the four
 

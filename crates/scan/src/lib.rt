@@ -38,10 +38,11 @@ pub struct Scan {
     pub lookups: u64,
 }
 
-// An attempt at a bad base: the letters written at the start of the lent output, the resume, the lookups and the smallest count behind it;
-// or the lookups of a refused one; or no room in the output. This is the source's Option<(Vec<u8>, usize)>.
+// An attempt at a bad base: the number of its letters, which stand at the start of the lent output if that has room for all of them, the
+// resume, the lookups, the smallest count behind it, and the bad k-mer with the letters in place of its last one; or the lookups of a
+// refused one; or no room for letters that have to be looked at again. This is the source's Option<(Vec<u8>, usize)>.
 pub enum Attempt {
-    Mend(usize, usize, u64, u32),
+    Mend(usize, usize, u64, u32, Kmer),
     Refused(u64),
     Full,
 }

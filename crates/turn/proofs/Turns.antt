@@ -9,17 +9,18 @@ use mathlib.Core.Bool.{Bool, true, false}
 use mathlib.Core.Option.{Option, none, some}
 use mathlib.Core.Logic.{inl, inr}
 use mathlib.Core.List.{List, [], _∷_, _++_}
-use lib.ListN.{length, getD, take, drop, length-append, length-drop, length-set, drop-of-length-le}
+use lib.ListN.{length, getD, take, drop, set, length-append, length-drop, length-set, drop-of-length-le}
 use types.Run.{OneOf}
-use lib.Seq.{drop-cons, drop-drop, take-suc-set, take-at, drop-at, take-append-add, length-take-le}
+use lib.Seq.{drop-cons, drop-drop, take-suc-set}
 use Rattle.rules.specs.Letters as letters
-use Rattle.rules.specs.Letters.{addBase}
+use Rattle.rules.specs.Letters.{addBase, inPlace}
 use Rattle.rules.specs.Set.{KmerSet, setOf, offering, solid, countOf}
 use Rattle.rules.specs.Counted.{Try}
 use Rattle.rules.specs.Scan.{ask, errorLen}
 use Rattle.rules.specs.Exist.{Mend}
 use Rattle.rules.specs.Driver.{State, weaker, weakest, keepBase, mendBase}
 use Rattle.rules.specs.Job.{methodOf}
+use Rattle.rules.proofs.Scan.{scan-is}
 use Rattle.rules.proofs.Driver.{turn-solid, turn-quiet, turn-refused, turn-mended, Steady, finish-step, left, left-step}
 use Rattle.rules.proofs.Demands.{steady}
 use Rattle.kmer.specs.declared.Header.{Header}
@@ -32,13 +33,10 @@ use Rattle.set.specs.Counted.{setWith}
 use Rattle.set.proofs.Counted.{with-solid}
 use Rattle.support.specs.Support.{supportOf}
 use Rattle.turn.specs.declared.Place.{Place}
-use Rattle.turn.specs.declared.Turned.{Turned}
-use Rattle.turn.specs.declared.Turned.the-variants.{To, Full}
 use Rattle.scan.specs.declared.Attempt.{Attempt}
 use Rattle.scan.specs.declared.Attempt.the-variants.{Mend as Mends, Refused, Full as NoRoom}
 use Rattle.scan.specs.Attempt.{Attempted}
-use Rattle.turn.specs.Turn.{stateOf, Stands, attemptOf, turnOf, endOf, Fits, Kept, Mended, Turning, BadAt, TurnIs}
-use Rattle.turn.proofs.Parts.{tail-back}
+use Rattle.turn.specs.Turn.{stateOf, Countable, attemptOf, turnOf, endOf, placeOf, Fits, Mended, Turning, BadAt, Went}
 use Rattle.turn.proofs.Ends.{Within, turn-within, refused-within}
 
 -- k is the set's
@@ -55,8 +53,8 @@ ready-steady {bytes} r counts method c lc =
     (steady set (rw (set-k r) (r .shifts .k-low)) c lc (methodOf method))
 
 -- a Full attempt is neither of the others, whose tags are 0 and 1
-pub is-full : (a : Attempt) → ((n r l v : ℕ) → a ≡ Mends n r l v → ⊥) → ((l : ℕ) → a ≡ Refused l → ⊥) → a ≡ NoRoom
-is-full (Mends n r l v) f g = absurd (f n r l v refl)
+pub is-full : (a : Attempt) → ((n r l v : ℕ) (z : Kmer) → a ≡ Mends n r l v z → ⊥) → ((l : ℕ) → a ≡ Refused l → ⊥) → a ≡ NoRoom
+is-full (Mends n r l v z) f g = absurd (f n r l v z refl)
 is-full (Refused l) f g = absurd (g l refl)
 is-full NoRoom f g = refl
 
@@ -68,8 +66,9 @@ pub not-refused : OneOf (0 ∷ 2 ∷ []) 1 → ⊥
 not-refused (inl e) = omega arith
 not-refused (inr e) = omega arith
 
-module _ (bytes starts : List ℕ) (head : Header) (counts : List ℕ) (method c : ℕ) (p : Place) (read out : List ℕ)
-    (t : Turning bytes starts head counts method c p read out) where
+-- put: the bytes put out before the turn
+module _ (bytes starts : List ℕ) (head : Header) (counts : List ℕ) (method c : ℕ) (p : Place) (read : List ℕ)
+    (t : Turning bytes starts head counts method c p read) (put : List ℕ) where
   abbrev k : ℕ
   k = head .k
 
@@ -83,7 +82,7 @@ module _ (bytes starts : List ℕ) (head : Header) (counts : List ℕ) (method c
   ce = attemptOf bytes counts method c
 
   abbrev st : State
-  st = stateOf p read out
+  st = stateOf p read put
 
   abbrev b : ℕ
   b = getD read (p .at) 0
@@ -97,9 +96,6 @@ module _ (bytes starts : List ℕ) (head : Header) (counts : List ℕ) (method c
   -- the turn's own lookups
   abbrev own : ℕ
   own = ask sol y .lookups
-
-  abbrev w : ℕ
-  w = p .written
 
   pub rest-is : drop (p .at) read ≡ b ∷ s
   rest-is = drop-cons read (p .at) 0 (t .more) ∙ ap (λ (i : ℕ). b ∷ drop i read) (sym (add-one (p .at)))
@@ -115,12 +111,12 @@ module _ (bytes starts : List ℕ) (head : Header) (counts : List ℕ) (method c
   unfolding stateOf
   quiet-turn r a e f = turn-quiet k sol count ce st b s (sym (a .solid) ∙ e) f ∙ ap (keepBase st b s y false 0) (sym (a .lookups))
 
-  pub refused-turn : ask sol y .answer ≡ false → p .previous ≡ true → ce (b ∷ s) y .answer ≡ none
+  refused-turn : ask sol y .answer ≡ false → p .previous ≡ true → ce (b ∷ s) y .answer ≡ none
       → turnOf bytes head counts method c st b s ≡ keepBase st b s y false 1 (own + ce (b ∷ s) y .lookups)
   unfolding stateOf
   refused-turn e f a = turn-refused k sol count ce st b s e f a
 
-  pub mended-turn : (m : Mend) → ask sol y .answer ≡ false → p .previous ≡ true → ce (b ∷ s) y .answer ≡ some m
+  mended-turn : (m : Mend) → ask sol y .answer ≡ false → p .previous ≡ true → ce (b ∷ s) y .answer ≡ some m
       → turnOf bytes head counts method c st b s ≡ mendBase k count st (b ∷ s) y m (own + ce (b ∷ s) y .lookups)
   unfolding stateOf
   mended-turn m e f a = turn-mended k sol count ce st b s m e f a
@@ -131,50 +127,47 @@ module _ (bytes starts : List ℕ) (head : Header) (counts : List ℕ) (method c
   unfolding stateOf
   done-within x e = subst (λ (q : State). Within (q .done) (endOf bytes head counts method c st)) e (turn-within k sol count ce (ready-steady (t .ready) counts method c (t .confirm)) st b s rest-is)
 
-  pub keep-fits : length out < 2 ^ 63 → (v : Bool) (a l : ℕ) → turnOf bytes head counts method c st b s ≡ keepBase st b s y v a l → Fits p 1 l a 0
-  unfolding stateOf keepBase
-  keep-fits small v a l e =
-      let d = done-within _ e in
-      let n = t .countable in
-      record {
-        written = omega (arith, t .stands .written);
-        turns = omega (arith, d .turns, n .turns);
-        lookups = omega (arith, d .lookups, n .lookups);
-        attempts = omega (arith, d .attempts, n .attempts);
-        accepted = omega (arith, d .accepted, n .accepted);
-      }
+  module _ (many : length put ≡ p .written) (n : Countable (endOf bytes head counts method c st)) where
+    pub keep-fits : (v : Bool) (a l : ℕ) → turnOf bytes head counts method c st b s ≡ keepBase st b s y v a l → Fits p 1 l a 0
+    unfolding stateOf keepBase
+    keep-fits v a l e =
+        let d = done-within _ e in
+        record {
+          written = omega (arith, d .bytes, n .bytes, length-append put (b ∷ []), many);
+          turns = omega (arith, d .turns, n .turns);
+          lookups = omega (arith, d .lookups, n .lookups);
+          attempts = omega (arith, d .attempts, n .attempts);
+          accepted = omega (arith, d .accepted, n .accepted);
+        }
 
-  pub mend-fits : (w′ : ℕ) → w + w′ < 2 ^ 64 → (m : Mend) (l : ℕ) → turnOf bytes head counts method c st b s ≡ mendBase k count st (b ∷ s) y m l → Fits p w′ l 1 1
-  unfolding stateOf mendBase
-  mend-fits w′ small m l e =
-      let d = done-within _ e in
-      let n = t .countable in
-      record {
-        written = small;
-        turns = omega (arith, d .turns, n .turns);
-        lookups = omega (arith, d .lookups, n .lookups);
-        attempts = omega (arith, d .attempts, n .attempts);
-        accepted = omega (arith, d .accepted, n .accepted);
-      }
+    mend-fits : (m : Mend) (l : ℕ) → turnOf bytes head counts method c st b s ≡ mendBase k count st (b ∷ s) y m l → Fits p (length (m .letters)) l 1 1
+    unfolding stateOf mendBase
+    mend-fits m l e =
+        let d = done-within _ e in
+        record {
+          written = omega (arith, d .bytes, n .bytes, length-append put (m .letters), many);
+          turns = omega (arith, d .turns, n .turns);
+          lookups = omega (arith, d .lookups, n .lookups);
+          attempts = omega (arith, d .attempts, n .attempts);
+          accepted = omega (arith, d .accepted, n .accepted);
+        }
 
-  -- ---- a base kept, in an output that an attempt may have changed behind what is written
+  -- ---- a base kept
 
-  pub kept-is : (next : Kmer) (v : Bool) (a l : ℕ) (out₁ out′ : List ℕ) (r : Turned) → HasLetters k y next
-      → take w out₁ ≡ take w out → length out₁ ≡ length out
+  pub kept-went : (next : Kmer) (v : Bool) (a l : ℕ) (out : List ℕ) (r : Place) → HasLetters k y next
       → turnOf bytes head counts method c st b s ≡ keepBase st b s y v a l
-      → Kept p b next v a l out₁ out′ r → TurnIs bytes head counts method c p read out out′ r
+      → r ≡ placeOf p next v (p .at + 1) 1 l a 0 (p .support) → Went bytes head counts method c p read put (set out 0 b) r
   unfolding stateOf keepBase
-  kept-is next v a l out₁ out′ (To r) h same len e (r-is, out-is, room) =
-      let by : take (w + 1) out′ ≡ take w out ++ (b ∷ []) =
-      rw (out-is, add-one) (take-suc-set out₁ w b room ∙ ap (λ (o : List ℕ). o ++ (b ∷ [])) same) in
-      let len′ : length out′ ≡ length out₁ = ap length out-is ∙ length-set out₁ w b in (
-        ap (λ (q : Place). stateOf q read out′) r-is
+  kept-went next v a l out r h e r-is =
+      record {
+        more = b ∷ [];
+        is = ap (λ (q : Place). stateOf q read (put ++ (b ∷ []))) r-is
             ∙ (λ i. record {
               kmer = h .is i;
               previous = v;
               rest = s;
               done = record {
-                bytes = by i;
+                bytes = put ++ (b ∷ []);
                 turns = p .turns + 1;
                 lookups = p .lookups + l;
                 attempts = p .attempts + a;
@@ -182,13 +175,10 @@ module _ (bytes starts : List ℕ) (head : Header) (counts : List ℕ) (method c
                 support = supportOf (add-zero (p .accepted) i) (p .support);
               };
             })
-            ∙ sym e,
-        subst (λ (q : Place). Stands k q read out′) (sym r-is)
-            (record { kmer = h .kmer; at = omega (arith, t .more); written = omega arith }),
-      )
-  kept-is next v a l out₁ out′ Full h same len e full =
-      let n = t .stands .written in
-      omega (arith, done-within _ e .bytes, length-append (take w out) (b ∷ []), length-take-le w out n)
+            ∙ sym e;
+        many = ap (λ (q : Place). q .written) r-is;
+        written = λ le. take-suc-set out 0 b (omega (arith, le, length-set out 0 b));
+      }
 
   -- ---- a base mended
 
@@ -201,24 +191,24 @@ module _ (bytes starts : List ℕ) (head : Header) (counts : List ℕ) (method c
       same : drop (p .at + r) read ≡ drop r (b ∷ s)
       same = sym (drop-drop r (p .at) read) ∙ ap (drop r) rest-is
 
-  pub mended-is : (m : Mend) (l v : ℕ) (out₁ : List ℕ) (r : Place) → weakest count (m .on) ≡ some v
-      → Mended k p y (m .letters) (m .resume) l v (length read) r
-      → take (w + length (m .letters)) out₁ ≡ take w out ++ m .letters → w + length (m .letters) ≤ length out₁
+  mended-went : (m : Mend) (l v : ℕ) (out : List ℕ) (z : Kmer) (r : Place) → weakest count (m .on) ≡ some v → HasLetters k (inPlace k y (m .letters)) z
+      → Mended p z (length (m .letters)) (m .resume) l v (length read) r
+      → (length (m .letters) ≤ length out → take (length (m .letters)) out ≡ m .letters)
       → turnOf bytes head counts method c st b s ≡ mendBase k count st (b ∷ s) y m l
-      → TurnIs bytes head counts method c p read out out₁ (To r)
+      → Went bytes head counts method c p read put out r
   unfolding stateOf mendBase
-  mended-is m l v out₁ r least d by room e =
-      let stop : r .at ≡ min (p .at + m .resume) (length read) = ap (λ (q : Place). q .at) (d .is) in
+  mended-went m l v out z r least h d written e =
       let behind : supportOf (p .accepted + 1) (d .support) ≡ weaker (st .done .support) (weakest count (m .on)) =
       d .weighed ∙ ap (weaker (st .done .support)) (sym least) in
-      let end : r .written ≡ w + length (m .letters) = ap (λ (q : Place). q .written) (d .is) in (
-        ap (λ (q : Place). stateOf q read out₁) (d .is)
+      record {
+        more = m .letters;
+        is = ap (λ (q : Place). stateOf q read (put ++ m .letters)) (d .is)
             ∙ (λ i. record {
-              kmer = d .placed .is i;
+              kmer = h .is i;
               previous = true;
               rest = go-on (m .resume) i;
               done = record {
-                bytes = by i;
+                bytes = put ++ m .letters;
                 turns = p .turns + 1;
                 lookups = p .lookups + l;
                 attempts = p .attempts + 1;
@@ -226,41 +216,16 @@ module _ (bytes starts : List ℕ) (head : Header) (counts : List ℕ) (method c
                 support = behind i;
               };
             })
-            ∙ sym e,
-        record { kmer = subst (λ (q : Place). IsKmer k (q .kmer)) (sym (d .is)) (d .placed .kmer); at = omega arith; written = omega arith },
-      )
+            ∙ sym e;
+        many = ap (λ (q : Place). q .written) (d .is);
+        written = written;
+      }
 
-  -- ---- no room for an attempt
+  -- ---- an attempt at the bad k-mer, which left l in the output
 
-  pub full-is : ask sol y .answer ≡ false → p .previous ≡ true
-      → ((m : Mend) → ce (b ∷ s) y .answer ≡ some m → length (drop w out) < length (m .letters))
-      → (ce (b ∷ s) y .answer ≡ none → length (drop w out) < errorLen k sol y (b ∷ s) .index)
-      → TurnIs bytes head counts method c p read out out Full
-  unfolding stateOf mendBase
-  full-is weak prev mended refused = go (ce (b ∷ s) y .answer) refl
-    where
-      taken : length (take w out) ≡ w
-      taken = length-take-le w out (t .stands .written)
-
-      go : (o : Option Mend) → ce (b ∷ s) y .answer ≡ o → length out < length (endOf bytes head counts method c st .bytes)
-      go none a =
-          omega (arith, refused a, length-drop w out, taken, t .stands .written, refused-within k sol count ce st b s rest-is weak prev a)
-      go (some m) a =
-          omega (
-            arith,
-            mended m a,
-            length-drop w out,
-            taken,
-            t .stands .written,
-            done-within _ (mended-turn m weak prev a) .bytes,
-            length-append (take w out) (m .letters),
-          )
-
-  -- ---- an attempt at the bad k-mer, which left l in the output behind what is written
-
-  module _ (bad : Kmer) (asked : ℕ) (f : BadAt bytes head p bad asked read) (l : List ℕ) where
+  module _ (bad : Kmer) (asked : ℕ) (f : BadAt bytes head p bad asked read) (out l : List ℕ) where
     abbrev pub Tried : Attempt → Type 0
-    Tried = Attempted count (errorLen k sol (kmerOf bad) (b ∷ s) .index) (drop w out) l (ce (b ∷ s) (kmerOf bad))
+    Tried = Attempted k (kmerOf bad) count (errorLen k sol (kmerOf bad) (b ∷ s) .index) out l (ce (b ∷ s) (kmerOf bad))
 
     weak : ask sol y .answer ≡ false
     weak = rw (with-solid bytes counts, ← (f .kmer .is)) (f .weak)
@@ -268,67 +233,59 @@ module _ (bytes starts : List ℕ) (head : Header) (counts : List ℕ) (method c
     own-is : asked ≡ own
     own-is = f .cost ∙ ap₂ (λ (q : ℕ → Bool) (z : letters.Kmer). ask q z .lookups) (sym (with-solid bytes counts)) (f .kmer .is)
 
-    taken : length (take w out) ≡ w
-    taken = length-take-le w out (t .stands .written)
-
-    pub length-back : length l ≡ length (drop w out) → length (take w out ++ l) ≡ length out
-    length-back e = omega (arith, e, length-append (take w out) l, taken, length-drop w out, t .stands .written)
-
-    refused-keep : (n : ℕ) → Tried (Refused n) → turnOf bytes head counts method c st b s ≡ keepBase st b s y false 1 (asked + n)
+    pub refused-keep : (n : ℕ) → Tried (Refused n) → turnOf bytes head counts method c st b s ≡ keepBase st b s y false 1 (asked + n)
     refused-keep n a =
         let at-y = rw (f .kmer .is) at (a .is) in
         refused-turn weak (f .previous) (at-y .0) ∙ ap₂ (λ (i j : ℕ). keepBase st b s y false 1 (i + j)) (sym own-is) (at-y .1)
 
-    pub refused-fits : length out < 2 ^ 63 → (n : ℕ) → Tried (Refused n) → Fits p 1 (asked + n) 1 0
-    refused-fits small n a = keep-fits small false 1 (asked + n) (refused-keep n a)
+    module _ (n r q v : ℕ) (z : Kmer) (a : Tried (Mends n r q v z)) where
+      abbrev mend : Mend
+      mend = record { letters = a .is .0 .letters; resume = r; on = a .is .0 .on }
 
-    pub refused-is : (n : ℕ) (out′ : List ℕ) (r : Turned) → Tried (Refused n) → Kept p b bad false 1 (asked + n) (take w out ++ l) out′ r
-        → TurnIs bytes head counts method c p read out out′ r
-    refused-is n out′ r a kept =
-        kept-is bad false 1 (asked + n) (take w out ++ l) out′ r (f .kmer) (take-at (take w out) l w taken) (length-back (a .room)) (refused-keep n a) kept
+      mended-base : turnOf bytes head counts method c st b s ≡ mendBase k count st (b ∷ s) y mend (asked + q)
+      mended-base =
+          let at-y : ce (b ∷ s) y .answer ≡ some mend = rw (← (f .kmer .is)) (a .is .0 .is) in
+          let cost : ce (b ∷ s) y .lookups ≡ q = rw (← (f .kmer .is)) (a .is .1) in
+          mended-turn mend weak (f .previous) at-y ∙ ap₂ (λ (i j : ℕ). mendBase k count st (b ∷ s) y mend (i + j)) (sym own-is) cost
 
-    mended-base : (n r q v : ℕ) → (a : Tried (Mends n r q v))
-        → turnOf bytes head counts method c st b s
-        ≡ mendBase k count st (b ∷ s) y (record { letters = take n l; resume = r; on = a .is .0 .on }) (asked + q)
-    mended-base n r q v a =
-        let m : Mend = record { letters = take n l; resume = r; on = a .is .0 .on } in
-        let at-y : ce (b ∷ s) y .answer ≡ some m = rw (← (f .kmer .is)) (a .is .0 .is) in
-        let cost : ce (b ∷ s) y .lookups ≡ q = rw (← (f .kmer .is)) (a .is .1) in
-        mended-turn m weak (f .previous) at-y ∙ ap₂ (λ (i j : ℕ). mendBase k count st (b ∷ s) y m (i + j)) (sym own-is) cost
+      pub mended-fits : length put ≡ p .written → Countable (endOf bytes head counts method c st) → Fits p n (asked + q) 1 1
+      mended-fits many fits = rw (← (a .is .0 .many)) (mend-fits many fits mend (asked + q) mended-base)
 
-    pub mended-fits : (w′ : ℕ) → w + w′ < 2 ^ 64 → (n r q v : ℕ) → Tried (Mends n r q v) → Fits p w′ (asked + q) 1 1
-    mended-fits w′ small n r q v a = mend-fits w′ small _ (asked + q) (mended-base n r q v a)
+      pub mended-is : (place : Place) → Mended p z n r (asked + q) v (length read) place → Went bytes head counts method c p read put l place
+      mended-is place d =
+          let m = a .is .0 in
+          mended-went mend (asked + q) v l z place (m .weakest-is) (rw (f .kmer .is) at (m .placed)) (rw (← (m .many)) at d) (rw (← (m .many)) at (m .written)) mended-base
 
-    -- the letters, as the part `&out[w..w + n]` of the output that came back
-    pub letters-back : (n : ℕ) → take (w + n - w) (drop w (take w out ++ (l ++ drop (length out - w) (drop w out)))) ≡ take n l
-    letters-back n =
-        let e : w + n - w ≡ n = omega arith in
-        rw (e, tail-back out l w, drop-at (take w out) l w taken)
+    -- no room for the attempt: if it is refused, the bases that the scan passed are put out
+    pub no-room : Tried NoRoom → length put + length out < length (endOf bytes head counts method c st .bytes)
+    unfolding stateOf mendBase
+    no-room a = (let at-y = rw (f .kmer .is) at (a .is) in go at-y (ce (b ∷ s) y .answer) refl)
+      where
+        go : ((m : Mend) → ce (b ∷ s) y .answer ≡ some m → length out < length (m .letters)) × (length out < errorLen k sol y (b ∷ s) .index)
+            → (o : Option Mend) → ce (b ∷ s) y .answer ≡ o → length put + length out < length (endOf bytes head counts method c st .bytes)
+        go h none e = omega (arith, h .1, refused-within k sol count ce st b s rest-is weak (f .previous) e)
+        go h (some m) e = omega (arith, h .0 m e, done-within _ (mended-turn m weak (f .previous) e) .bytes, length-append put (m .letters))
 
-    pub mended-place : (n r q v : ℕ) (place : Place) → Tried (Mends n r q v)
-        → Mended k p (kmerOf bad) (take n l) r (asked + q) v (length read) place
-        → TurnIs bytes head counts method c p read out (take w out ++ l) (To place)
-    mended-place n r q v place a d =
-        let m = a .is .0 in
-        let len : length (take n l) ≡ n = length-take-le n l (m .written) in
-        let joined = take-append-add (take w out) l n in
-        mended-is (record { letters = take n l; resume = r; on = m .on }) (asked + q) v (take w out ++ l) place (m .weakest-is) (rw (f .kmer .is) at d)
-        (rw len (rw taken at joined)) (omega (arith, length-append (take w out) l, taken, m .written)) (mended-base n r q v a)
-
-    pub no-room : Tried NoRoom → TurnIs bytes head counts method c p read out out Full
-    no-room a = let at-y = rw (f .kmer .is) at (a .is) in full-is weak (f .previous) (at-y .0) (at-y .1)
+    pub short : Tried NoRoom → length out < length read
+    unfolding errorLen
+    short a = omega (arith, a .is .1, scan-is k sol 0 1 (kmerOf bad) s .high, length-drop (p .at + 1) read, t .more)
 
   -- ---- the loop of turns: after a turn the end of the pass is the same, and fewer turns can come
 
-  module _ (p′ : Place) (out′ : List ℕ) (did : TurnIs bytes head counts method c p read out out′ (To p′)) where
-    pub same-end : endOf bytes head counts method c (stateOf p′ read out′) ≡ endOf bytes head counts method c st
+  module _ (p′ : Place) (out : List ℕ) (did : Went bytes head counts method c p read put out p′) where
+    pub same-end : endOf bytes head counts method c (stateOf p′ read (put ++ did .more)) ≡ endOf bytes head counts method c st
     unfolding stateOf
     same-end =
-        ap (endOf bytes head counts method c) (did .0)
+        ap (endOf bytes head counts method c) (did .is)
         ∙ sym (ap (λ (q : State). q .done) (finish-step k sol count ce (ready-steady (t .ready) counts method c (t .confirm)) st b s rest-is))
+
+    -- what it puts out is part of the result
+    pub put-within : length put + length (did .more) ≤ length (endOf bytes head counts method c st .bytes)
+    unfolding stateOf
+    put-within = omega (arith, done-within _ (sym (did .is)) .bytes, length-append put (did .more))
 
     pub fewer-left : left k sol ce (kmerOf (p′ .kmer)) (drop (p′ .at) read) < left k sol ce (kmerOf (p .kmer)) (drop (p .at) read)
     unfolding stateOf
     fewer-left =
-        let e = ap (λ (q : State). left k sol ce (q .kmer) (q .rest)) (did .0) in
+        let e = ap (λ (q : State). left k sol ce (q .kmer) (q .rest)) (did .is) in
         rw rest-is (omega (arith, e, left-step k sol count ce (ready-steady (t .ready) counts method c (t .confirm)) st b s))

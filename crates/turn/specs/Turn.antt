@@ -3,10 +3,10 @@ use Prim.Native.Nat.{ℕ, _+_, _≤_, _<_, _^_, min}
 use mathlib.Core.Path.{_≡_}
 use mathlib.Core.Bool.{Bool, true, false}
 use mathlib.Core.Option.{some}
-use mathlib.Core.List.{List}
-use lib.ListN.{length, getD, take, drop, set}
+use mathlib.Core.List.{List, _++_}
+use lib.ListN.{length, getD, take, drop}
 use Rattle.rules.specs.Letters as letters
-use Rattle.rules.specs.Letters.{addBase, inPlace}
+use Rattle.rules.specs.Letters.{addBase}
 use Rattle.rules.specs.Set.{setOf, solid, countOf}
 use Rattle.rules.specs.Counted.{Try}
 use Rattle.rules.specs.Scan.{ask}
@@ -25,11 +25,11 @@ use Rattle.turn.specs.declared.Place.{Place}
 use Rattle.turn.specs.declared.Turned.{Turned}
 use Rattle.turn.specs.declared.Turned.the-variants.{To, Full}
 
--- What is done at a place, as the rules' pass so far.
+-- What is done at a place, as the rules' pass so far; put are the bytes put out.
 abbrev pub doneOf : Place → List ℕ → rules.Pass
-doneOf p out =
+doneOf p put =
     record {
-      bytes = take (p .written) out;
+      bytes = put;
       turns = p .turns;
       lookups = p .lookups;
       attempts = p .attempts;
@@ -39,16 +39,16 @@ doneOf p out =
 
 -- A place as the rules' state.
 unfoldable pub stateOf : Place → List ℕ → List ℕ → State
-stateOf p read out = record { kmer = kmerOf (p .kmer); previous = p .previous; rest = drop (p .at) read; done = doneOf p out }
+stateOf p read put = record { kmer = kmerOf (p .kmer); previous = p .previous; rest = drop (p .at) read; done = doneOf p put }
 
--- A place has a k-mer, and is inside the read and the output.
-pub record Stands (k : ℕ) (p : Place) (read out : List ℕ) : Type 0 where
+-- A place has a k-mer, and is inside the read.
+pub record Stands (k : ℕ) (p : Place) (read : List ℕ) : Type 0 where
   pub kmer : IsKmer k (p .kmer)
   pub at : p .at ≤ length read
-  pub written : p .written ≤ length out
 
 -- Counts that fit a u64, with room for a sum.
 pub record Countable (n : rules.Pass) : Type 0 where
+  pub bytes : length (n .bytes) < 2 ^ 63
   pub turns : n .turns < 2 ^ 63
   pub lookups : n .lookups < 2 ^ 63
   pub attempts : n .attempts < 2 ^ 63
@@ -89,27 +89,22 @@ pub record Fits (p : Place) (w l a b : ℕ) : Type 0 where
   pub attempts : p .attempts + a < 2 ^ 64
   pub accepted : p .accepted + b < 2 ^ 64
 
--- A base kept, as `keepBase` of the rules has it; Full where the output has no room for it.
-abbrev pub Kept : Place → ℕ → Kmer → Bool → ℕ → ℕ → List ℕ → List ℕ → Turned → Type 0
-Kept p base kmer solid a l out out′ (To r) =
-    (r ≡ placeOf p kmer solid (p .at + 1) 1 l a 0 (p .support)) × (out′ ≡ set out (p .written) base) × (p .written < length out)
-Kept p base kmer solid a l out out′ Full = length out ≤ p .written
-
--- An accepted attempt at the bad k-mer y, as `mendBase` of the rules has it, in a read of length n; v is the smallest count that it rests on.
-pub record Mended (k : ℕ) (p : Place) (y : letters.Kmer) (given : List ℕ) (resume l v n : ℕ) (r : Place) : Type 0 where
-  pub kmer : Kmer
-  pub placed : HasLetters k (inPlace k y given) kmer
+-- An accepted attempt, as `mendBase` of the rules has it, in a read of length n: kmer is the bad k-mer with that many letters in place of its
+-- last one, v the smallest count that it rests on.
+pub record Mended (p : Place) (kmer : Kmer) (letters resume l v n : ℕ) (r : Place) : Type 0 where
   pub support : ℕ
   pub weighed : supportOf (p .accepted + 1) support ≡ rules.weaker (supportOf (p .accepted) (p .support)) (some v)
-  pub is : r ≡ placeOf p kmer true (min (p .at + resume) n) (length given) l 1 1 support
+  pub is : r ≡ placeOf p kmer true (min (p .at + resume) n) letters l 1 1 support
 
 -- What a turn asks: a base is left, and the counts of the whole pass fit.
-pub record Turning (bytes starts : List ℕ) (head : Header) (counts : List ℕ) (method c : ℕ) (p : Place) (read out : List ℕ) : Type 0 where
+pub record Turning (bytes starts : List ℕ) (head : Header) (counts : List ℕ) (method c : ℕ) (p : Place) (read : List ℕ) : Type 0 where
   pub ready : Ready bytes starts head
   pub confirm : 1 ≤ c
-  pub stands : Stands (head .k) p read out
+  pub stands : Stands (head .k) p read
   pub more : p .at < length read
-  pub countable : Countable (endOf bytes head counts method c (stateOf p read out))
+  pub put : List ℕ
+  pub many : length put ≡ p .written
+  pub countable : Countable (endOf bytes head counts method c (stateOf p read put))
 
 -- The next base gives the k-mer `bad`, which is not solid, by that many lookups, while the previous one counts as solid.
 pub record BadAt (bytes : List ℕ) (head : Header) (p : Place) (bad : Kmer) (asked : ℕ) (read : List ℕ) : Type 0 where
@@ -118,9 +113,17 @@ pub record BadAt (bytes : List ℕ) (head : Header) (p : Place) (bad : Kmer) (as
   pub cost : asked ≡ ask (solid (setOf bytes)) (kmerOf bad) .lookups
   pub previous : p .previous ≡ true
 
--- A turn of the code is one of the rules; Full where the pass's result is longer than the output.
+-- A turn of the code leads where one of the rules does. It puts out `more`, which stands at the start of out if that has room for it.
+pub record Went (bytes : List ℕ) (head : Header) (counts : List ℕ) (method c : ℕ) (p : Place) (read put out : List ℕ) (r : Place) : Type 0 where
+  pub more : List ℕ
+  pub is : stateOf r read (put ++ more) ≡ turnOf bytes head counts method c (stateOf p read put) (getD read (p .at) 0) (drop (p .at + 1) read)
+  pub many : r .written ≡ p .written + length more
+  pub written : length more ≤ length out → take (length more) out ≡ more
+
+-- What a turn answers, whatever bytes were put out before it; out at entry, out′ at exit. Full: out is shorter than the read, and the pass
+-- puts out more than it has room for.
 abbrev pub TurnIs : List ℕ → Header → List ℕ → ℕ → ℕ → Place → List ℕ → List ℕ → List ℕ → Turned → Type 0
 TurnIs bytes head counts method c p read out out′ (To r) =
-    (stateOf r read out′ ≡ turnOf bytes head counts method c (stateOf p read out) (getD read (p .at) 0) (drop (p .at + 1) read))
-    × Stands (head .k) r read out′
-TurnIs bytes head counts method c p read out out′ Full = length out < length (endOf bytes head counts method c (stateOf p read out) .bytes)
+    ((put : List ℕ) → Went bytes head counts method c p read put out′ r) × Stands (head .k) r read
+TurnIs bytes head counts method c p read out out′ Full =
+    ((put : List ℕ) → length put + length out < length (endOf bytes head counts method c (stateOf p read put) .bytes)) × (length out < length read)

@@ -5,17 +5,17 @@ use kmer::Kmer;
 use scan::Attempt;
 ghost use mathlib.Core.Path.{_≡_};
 ghost use Prim.Native.Nat.{_+_, _≤_, _<_, _^_};
-ghost use lib.ListN.{length};
+ghost use lib.ListN.{length, set as put};
 ghost use Rattle.rules.specs.Set.{setOf, solid, countOf};
 ghost use Rattle.rules.specs.Scan.{errorLen};
-ghost use Rattle.kmer.specs.Kmer.{Shifts, kmerOf, IsKmer};
+ghost use Rattle.kmer.specs.Kmer.{kmerOf, IsKmer};
 ghost use Rattle.set.specs.Ready.{Ready};
 ghost use Rattle.set.specs.Counted.{setWith};
 ghost use Rattle.scan.specs.Attempt.{Attempted};
-ghost use Rattle.turn.specs.Turn.{attemptOf, Fits, placeOf, Kept, Mended, Turning, BadAt, TurnIs};
+ghost use Rattle.turn.specs.Turn.{attemptOf, Fits, placeOf, Mended, Turning, BadAt, TurnIs};
 
-// Where a pass stands: the k-mer, whether the previous one counts as solid, the index of the next base, and what is done; support is the
-// smallest count behind the accepted corrections, if there are any.
+// Where a pass stands: the k-mer, whether the previous one counts as solid, the index of the next base, and what is done: the bytes put out
+// are counted here, and written where there is room; support is the smallest count behind the accepted corrections, if there are any.
 pub struct Place {
     pub kmer: Kmer,
     pub previous: bool,
@@ -28,7 +28,7 @@ pub struct Place {
     pub support: u32,
 }
 
-// Full: what the turn has to write, or what is certain to come after it, does not fit.
+// Full: GapSize has no room to look back at its letters.
 pub enum Turned {
     To(Place),
     Full,
@@ -48,7 +48,7 @@ fn correct_error(
 ) -> Attempt
     requires { ⌜ Ready (now set) (now starts) head × IsKmer (head .k) kmer × (1 ≤ length (now s)) × (1 ≤ c) ⌝ }
     ensures { λ r. ⌜
-        Attempted (countOf (setWith (now (set .entry)) (now (counts .entry))))
+        Attempted (head .k) (kmerOf kmer) (countOf (setWith (now (set .entry)) (now (counts .entry))))
         (errorLen (head .k) (solid (setOf (now (set .entry)))) (kmerOf kmer) (now (s .entry)) .index) (now (out .entry)) (now (out .exit))
         (attemptOf (now (set .entry)) (now (counts .entry)) method c (now (s .entry)) (kmerOf kmer))
         r ⌝ }
@@ -98,41 +98,37 @@ fn keep(
     attempts: u64,
     lookups: u64,
     out: &mut [u8],
-) -> Turned
+) -> Place
     requires { ⌜ (p .at < 2 ^ 63) × Fits p 1 lookups attempts 0 ⌝ }
-    ensures { λ r. ⌜ Kept p base kmer solid attempts lookups (now (out .entry)) (now (out .exit)) r ⌝ }
+    ensures { λ r. ⌜
+        (r ≡ placeOf p kmer solid (p .at + 1) 1 lookups attempts 0 (p .support)) × (now (out .exit) ≡ put (now (out .entry)) 0 base) ⌝ }
 {
-    let w = p.written;
-    if out.len() <= w {
-        return Turned::Full;
+    if 0 < out.len() {
+        out[0] = base;
     }
-    out[w] = base;
-    Turned::To(moved(p, kmer, solid, p.at + 1, 1, lookups, attempts, 0, p.support))
+    moved(p, kmer, solid, p.at + 1, 1, lookups, attempts, 0, p.support)
 }
 
-// The letters of an accepted attempt stand in the output already. The bad k-mer takes them in place of its last letter, and the pass
-// goes on `resume` bases further, or stops at the read's end, `len`; support is the smallest count that the attempt rests on.
+// An accepted attempt: the bad k-mer with its letters in place of the last one becomes the pass's, which goes on `resume` bases further or
+// stops at the read's end, `len`; support is the smallest count that the attempt rests on.
 fn mend(
     p: Place,
-    bad: Kmer,
-    letters: &[u8],
+    kmer: Kmer,
+    letters: usize,
     resume: usize,
     lookups: u64,
     support: u32,
     len: usize,
-    head: Header,
 ) -> Place
-    requires { ⌜ Shifts head × IsKmer (head .k) bad × (p .at ≤ len) × Fits p (length (now letters)) lookups 1 1 ⌝ }
-    ensures { λ r. ⌜ Mended (head .k) p (kmerOf bad) (now (letters .entry)) resume lookups support len r ⌝ }
+    requires { ⌜ (p .at ≤ len) × Fits p letters lookups 1 1 ⌝ }
+    ensures { λ r. ⌜ Mended p kmer letters resume lookups support len r ⌝ }
 {
     let mut at = len;
     if resume < len - p.at {
         at = p.at + resume;
     }
-    let shifted = kmer::drop_last(bad, head);
-    let kmer = scan::add_all(shifted, letters, head);
     let weakest = support::weaker(p.accepted, p.support, 1, support);
-    moved(p, kmer, true, at, letters.len(), lookups, 1, 1, weakest)
+    moved(p, kmer, true, at, letters, lookups, 1, 1, weakest)
 }
 
 // A turn at a base whose k-mer, asked by that many lookups, is not solid while the previous was.
@@ -149,42 +145,30 @@ fn bad_base(
     read: &[u8],
     out: &mut [u8],
 ) -> Turned
-    requires { ⌜ Turning (now set) (now starts) head (now counts) method c p (now read) (now out) ⌝ }
+    requires { ⌜ Turning (now set) (now starts) head (now counts) method c p (now read) ⌝ }
     requires { ⌜ BadAt (now set) head p bad asked (now read) ⌝ }
     ensures { λ r. ⌜ TurnIs (now (set .entry)) head (now (counts .entry)) method c p (now (read .entry)) (now (out .entry)) (now (out .exit)) r ⌝ }
 {
     let at = p.at;
-    let w = p.written;
-    let tried = correct_error(
-        set,
-        starts,
-        head,
-        counts,
-        method,
-        c,
-        bad,
-        &read[at..],
-        &mut out[w..],
-    );
-    let Attempt::Mend(n, resume, lookups, support) = tried else {
+    let tried = correct_error(set, starts, head, counts, method, c, bad, &read[at..], out);
+    let Attempt::Mend(letters, resume, lookups, support, kmer) = tried else {
         let Attempt::Refused(lookups) = tried else {
             return Turned::Full;
         };
-        return keep(p, read[at], bad, false, 1, asked + lookups, out);
+        return Turned::To(keep(p, read[at], bad, false, 1, asked + lookups, out));
     };
-    let end = w + n;
     Turned::To(mend(
         p,
-        bad,
-        &out[w..end],
+        kmer,
+        letters,
         resume,
         asked + lookups,
         support,
         read.len(),
-        head,
     ))
 }
 
+// One turn. What it puts out stands at the start of `out` if there is room for it, and is counted.
 pub fn turn(
     set: &[u8],
     starts: &[u32],
@@ -196,7 +180,7 @@ pub fn turn(
     read: &[u8],
     out: &mut [u8],
 ) -> Turned
-    requires { ⌜ Turning (now set) (now starts) head (now counts) method c p (now read) (now out) ⌝ }
+    requires { ⌜ Turning (now set) (now starts) head (now counts) method c p (now read) ⌝ }
     ensures { λ r. ⌜ TurnIs (now (set .entry)) head (now (counts .entry)) method c p (now (read .entry)) (now (out .entry)) (now (out .exit)) r ⌝ }
 {
     let at = p.at;
@@ -204,11 +188,11 @@ pub fn turn(
     let next = scan::add_base(p.kmer, base, head);
     let asked = set::ask(set, starts, head, next);
     if asked.solid {
-        return keep(p, base, next, true, 0, asked.lookups, out);
+        return Turned::To(keep(p, base, next, true, 0, asked.lookups, out));
     }
     let previous = p.previous;
     if !previous {
-        return keep(p, base, next, false, 0, asked.lookups, out);
+        return Turned::To(keep(p, base, next, false, 0, asked.lookups, out));
     }
     bad_base(
         set,

@@ -9,6 +9,7 @@ use crate::library::Library;
 use crate::oracle;
 use crate::referee::calls::{Answer, Call, Job, Report};
 use crate::referee::correctors::Method;
+use crate::referee::needs::Needs;
 use crate::rng::Rng;
 use br::set::BoxKmerSet;
 use std::hint::black_box;
@@ -87,6 +88,8 @@ pub struct Batch<'a> {
     against: Option<&'a Against>,
     /// Counts of the set's keys, while no call offers them; none where they are not measured.
     counts: Vec<u32>,
+    /// Whether needs are measured, too.
+    needs: bool,
     world: &'a World,
     set: BoxKmerSet<'a>,
     method: Method,
@@ -123,7 +126,7 @@ impl<'a> Batch<'a> {
         let job = Job { input, output, work: 2 * output, ..job(call, &[method.byte(), CONFIRM], &[]) };
         let (output, work) = (vec![0; job.output], vec![0; job.work]);
         let (set, counts) = (Box::new(&world.rust), Vec::new());
-        Batch { reads, report: None, library, against: None, counts, world, set, method, job, expected, output, work }
+        Batch { reads, report: None, library, against: None, counts, needs: false, world, set, method, job, expected, output, work }
     }
 
     /// A read with errors by a read call, cut to so many bases.
@@ -150,6 +153,11 @@ impl<'a> Batch<'a> {
         let mut rng = Rng::of_unit(self.world.keys as u64, COUNTS);
         let counts = if asked { (0..self.world.keys).map(|_| rng.word() as u32).collect() } else { Vec::new() };
         Batch { counts, ..self }
+    }
+
+    /// The same, with its needs beside it where they are asked for.
+    pub fn booked(self, needs: bool) -> Self {
+        Batch { needs, ..self }
     }
 
     pub fn bases(&self) -> usize {
@@ -202,6 +210,17 @@ impl<'a> Batch<'a> {
         seconds
     }
 
+    /// What ours tells beforehand, by a work buffer as long as the batch: the numbers that the batch call reports.
+    pub fn needs(&mut self) -> f64 {
+        let (library, set, job, length) = (self.library, &self.world.set, &self.job, self.job.input.len());
+        let (answer, seconds) = timed(|| library.needs(set, job, &mut self.work[..length]));
+        let told = answer.unwrap_or_else(|refusal| panic!("needs: refused {} at {}", refusal.number, refusal.place));
+        let reported = |report: &Report| Needs { bytes: report.written, turns: report.turns, lookups: report.lookups };
+        assert!(self.report.as_ref().is_none_or(|report| reported(report) == told), "{:?} reports others than it needs", self.method);
+        assert_eq!(told.bytes as usize, self.expected.len());
+        seconds
+    }
+
     /// One batch call of the other build over a copy of the set; no time without one.
     pub fn before_over(&mut self, set: &[u8]) -> f64 {
         let Some(against) = self.against else { return 0.0 };
@@ -217,18 +236,18 @@ impl<'a> Batch<'a> {
     }
 
     fn rounds(&mut self) -> Rounds {
-        let parts: &[Part] = match (self.against, self.counts.is_empty()) {
-            (Some(_), false) => &[Part::Ours, Part::Rust, Part::Before, Part::Counted, Part::Opening],
-            (Some(_), true) => &[Part::Ours, Part::Rust, Part::Before, Part::Opening],
-            (None, false) => &[Part::Ours, Part::Rust, Part::Counted, Part::Opening],
-            (None, true) => &[Part::Rust, Part::Ours, Part::Opening],
-        };
+        let beside = [(self.against.is_some(), Part::Before), (!self.counts.is_empty(), Part::Counted), (self.needs, Part::Needs)];
+        let mut parts: Vec<Part> = beside.into_iter().filter(|(asked, _)| *asked).map(|(_, part)| part).collect();
+        let plain = if parts.is_empty() { [Part::Rust, Part::Ours] } else { [Part::Ours, Part::Rust] };
+        parts.splice(0..0, plain);
+        parts.push(Part::Opening);
         let world = self.world;
-        Rounds::run(parts, |part| match part {
+        Rounds::run(&parts, |part| match part {
             Part::Rust => self.rust(),
             Part::Opening => open(self.library, world),
             Part::Before => self.before_over(&world.set),
             Part::Counted => self.ours_counted(),
+            Part::Needs => self.needs(),
             _ => self.ours(),
         })
     }
@@ -253,15 +272,16 @@ pub fn empty_batch(library: &dyn Library, world: &World, method: Method) -> f64 
     seconds
 }
 
-/// What a cell is measured beside: another build, and calls with counts.
+/// What a cell is measured beside: another build, calls with counts, and what is told beforehand.
 #[derive(Clone, Copy)]
 pub struct Beside<'a> {
     pub against: Option<&'a Against>,
     pub counts: bool,
+    pub needs: bool,
 }
 
 pub fn cell(library: &dyn Library, beside: Beside, world: &World, method: Method, errors: usize, a_lookup: Loops) -> Cell {
-    let mut batch = Batch::of_cell(library, world, method, errors).against(beside.against).counted(beside.counts);
+    let mut batch = Batch::of_cell(library, world, method, errors).against(beside.against).counted(beside.counts).booked(beside.needs);
     let rounds = batch.rounds();
     let lookups = batch.report.as_ref().map_or(0, |report| report.lookups);
     Cell { method, keys: world.keys, k: world.k, huge: world.huge, errors, reads: batch.reads.len(), bases: batch.bases(), lookups, rounds, a_lookup }

@@ -24,6 +24,8 @@ pub struct Results {
     pub against: Option<String>,
     /// Whether calls were timed with counts, too.
     pub counts: bool,
+    /// Whether what a batch needs was timed, too.
+    pub needs: bool,
     pub cells: Vec<Cell>,
     pub huge: Vec<Cell>,
     pub placings: Vec<Placing>,
@@ -75,6 +77,13 @@ pub fn write(results: &Results, chart: &str) -> String {
             "*With counts* is the same call with a count for each key, in the same rounds, whose order then rotates too; *without by with counts* is the one median by the other.\n"
         );
     }
+    if results.needs {
+        let _ = writeln!(
+            page,
+            "*Needs* is `corrector_needs` of the same batch, in the same rounds, whose order then rotates too; *real by needs* is the median of the batch call's times by the median of its, so more than 1 says \
+             that the needs are told sooner.\n"
+        );
+    }
     summary(&mut page, &results.cells, &results.huge);
     let _ = writeln!(
         page,
@@ -112,10 +121,11 @@ pub fn figure(value: f64) -> String {
 }
 
 /// What stands beside a cell of ours, each with the parts of which it is the one's time by the other's: more than 1 says that the second is faster.
-pub const BESIDE: [(&str, Part, Part); 3] = [
+pub const BESIDE: [(&str, Part, Part); 4] = [
     ("before by after", Part::Before, Part::Ours),
     ("without by with counts", Part::Ours, Part::Counted),
     ("before by with counts", Part::Before, Part::Counted),
+    ("real by needs", Part::Ours, Part::Needs),
 ];
 
 /// The columns of a run beside another build or with counts, those that it has.

@@ -26,9 +26,11 @@ pub enum Part {
     Indexed,
     /// Ours with counts of the set's keys.
     Counted,
+    /// What ours tells beforehand of the same batch.
+    Needs,
 }
 
-const PARTS: usize = 7;
+const PARTS: usize = 8;
 
 /// The Rust, ours and the opening.
 const PLAIN: usize = 3;

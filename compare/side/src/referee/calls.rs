@@ -7,17 +7,19 @@ use super::set::{Refusal, Set};
 
 const MOST_INPUT: usize = 1_048_576;
 const MOST_ENTRIES: usize = 8;
-const MOST_OUTPUT: usize = 1_048_576;
-const MOST_WORK: usize = 2_097_152;
+pub const MOST_OUTPUT: usize = 1_048_576;
+pub const MOST_WORK: usize = 2_097_152;
 const MOST_LINES: usize = 1_024;
 
 #[derive(Clone, Copy, Debug, PartialEq, Eq)]
 pub enum Call {
     Read,
     Batch,
+    /// Document 02, W9: see `needs`.
+    Needs,
 }
 
-/// What a call is given beside the set: the lent buffers by their lengths.
+/// What a call is given beside the set: the lent buffers by their lengths. Needs is lent no output.
 #[derive(Clone, Debug)]
 pub struct Job {
     pub call: Call,
@@ -70,7 +72,7 @@ impl Outcome {
 pub fn reads(job: &Job) -> Vec<&[u8]> {
     match job.call {
         Call::Read => vec![&job.input],
-        Call::Batch => job.input.split_inclusive(|byte| *byte == 10).map(|line| &line[..line.len() - 1]).collect(),
+        Call::Batch | Call::Needs => job.input.split_inclusive(|byte| *byte == 10).map(|line| &line[..line.len() - 1]).collect(),
     }
 }
 
@@ -89,17 +91,21 @@ pub fn count_solid(opened: &Result<Set, Refusal>, read: &[u8]) -> Result<(u64, u
     Ok((kmers.len() as u64, kmers.flatten().filter(|code| set.solid(*code)).count() as u64))
 }
 
+/// The single-read or the batch call.
 pub fn call(opened: &Result<Set, Refusal>, job: &Job) -> Outcome {
-    if let Some(refusal) = input_refusal(job) {
-        return Outcome::refused(refusal);
+    let refused = job_refusal(job).or_else(|| buffers_refusal(job)).or_else(|| lines_refusal(job));
+    match refused.map_or_else(|| offered(opened, job), Err) {
+        Err(refusal) => Outcome::refused(refusal),
+        Ok(set) => correct(set, job),
     }
-    let set = match opened {
-        Err(refusal) => return Outcome::refused(*refusal),
-        Ok(set) => set,
-    };
+}
+
+/// The set, or refusals 7 to 10, then 15 and 16.
+pub fn offered<'a>(opened: &'a Result<Set, Refusal>, job: &Job) -> Result<&'a Set, Refusal> {
+    let set = opened.as_ref().map_err(|refusal| *refusal)?;
     match index::refusal(set, &job.index).or(counts_refusal(set, &job.counts)) {
-        Some(refusal) => Outcome::refused(refusal),
-        None => correct(set, job),
+        Some(refusal) => Err(refusal),
+        None => Ok(set),
     }
 }
 
@@ -108,8 +114,8 @@ fn counts_refusal(set: &Set, counts: &[u32]) -> Option<Refusal> {
     (!counts.is_empty() && counts.len() != set.keys.len()).then_some(Refusal::new(16, 0))
 }
 
-/// Refusals 1 to 6, checked upward.
-fn input_refusal(job: &Job) -> Option<Refusal> {
+/// Refusals 1 to 4, checked upward.
+pub fn job_refusal(job: &Job) -> Option<Refusal> {
     let refuse = |number, place| Some(Refusal::new(number, place));
     if job.input.len() > MOST_INPUT {
         return refuse(1, 0);
@@ -121,25 +127,27 @@ fn input_refusal(job: &Job) -> Option<Refusal> {
     if let Some(place) = entries.iter().position(|entry| Method::of(entry.method).is_none()) {
         return refuse(3, place);
     }
-    if let Some(place) = entries.iter().position(|entry| entry.confirm == 0) {
-        return refuse(4, place);
-    }
-    if job.output > MOST_OUTPUT || job.work > MOST_WORK || job.work < 2 * job.output.max(job.input.len()) {
-        return refuse(5, 0);
-    }
+    entries.iter().position(|entry| entry.confirm == 0).map(|place| Refusal::new(4, place))
+}
+
+/// Refusal 5.
+fn buffers_refusal(job: &Job) -> Option<Refusal> {
+    let wrong = job.output > MOST_OUTPUT || job.work > MOST_WORK || job.work < 2 * job.output.max(job.input.len());
+    wrong.then_some(Refusal::new(5, 0))
+}
+
+/// Refusal 6, of lines.
+pub fn lines_refusal(job: &Job) -> Option<Refusal> {
     let ended = job.input.last().is_none_or(|byte| *byte == 10);
     let lines = job.input.iter().filter(|byte| **byte == 10).count();
-    if job.call == Call::Batch && (!ended || lines > MOST_LINES) {
-        return refuse(6, 0);
-    }
-    None
+    (job.call != Call::Read && (!ended || lines > MOST_LINES)).then_some(Refusal::new(6, 0))
 }
 
 /// The reads in turn, each through all entries; 11 at the first of which a pass result has no room.
 fn correct(set: &Set, job: &Job) -> Outcome {
     let ending: &[u8] = match job.call {
         Call::Read => &[],
-        Call::Batch => &[10],
+        Call::Batch | Call::Needs => &[10],
     };
     let entries = entries(job);
     let (mut bytes, mut passes) = (Vec::new(), Vec::new());
@@ -157,7 +165,7 @@ fn correct(set: &Set, job: &Job) -> Outcome {
 }
 
 /// A read's first pass is fed the read, each later one the bytes of the pass before; each has its own entry's confirm.
-fn passes_of(set: &Set, entries: &[Entry], read: &[u8]) -> Vec<Pass> {
+pub fn passes_of(set: &Set, entries: &[Entry], read: &[u8]) -> Vec<Pass> {
     let mut made: Vec<Pass> = Vec::with_capacity(entries.len());
     for entry in entries {
         let fed = made.last().map_or(read, |pass| &pass.bytes);

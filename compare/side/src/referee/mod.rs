@@ -10,4 +10,5 @@ pub mod driver;
 pub mod index;
 pub mod letters;
 pub mod make;
+pub mod needs;
 pub mod set;

@@ -1,16 +1,19 @@
 use Prim.Native.Nat.{ℕ}
 use native.Mathlib.Omega.{arith}
-use mathlib.Core.Path.{_≡_, refl, sym, _∙_, subst, subst₂}
+use mathlib.Core.Path.{_≡_, refl, sym, ap, _∙_, subst, subst₂}
+use mathlib.Core.Bool.{true}
+use lib.ListN.{length, take}
 use lib.Seq.{length-take-le}
 use borrow.Author.Needs.{needs}
 use Rattle.rules.specs.Driver as Rules
 use Rattle.rules.specs.Job.{entry, pass}
 use Rattle.set.specs.Counted.{setWith}
-use Rattle.set.proofs.Counted.{with-solid}
 use Rattle.correct.specs.Pass.{PassIs, Small}
+use Rattle.turn.specs.declared.Place.{Place}
 use Rattle.turn.specs.Turn.{stateOf, Countable, endOf}
+use Rattle.correct.proofs.Reached.{kept-pass}
 use Rattle.correct.proofs.Limits.{pass-limited, one-small}
-use Rattle.correct.proofs.Passes.{countable, firstPlace, pass-short, pass-long, pass-begun}
+use Rattle.correct.proofs.Passes.{countable, pass-short, pass-long, pass-begun, begun-stands}
 use Rattle.correct.proofs.correct.Statement.{statement}
 use Rattle.correct.proofs.correct.Tie as tie
 
@@ -59,41 +62,62 @@ copy-requires c κs =
     let a = e .before .before .before .before .before .before .args in
     omega (arith, length-take-le (a .head .k) (a .read .now) (e .if1 .left), c .before .before .if2 .left)
 
-seq2bit-requires : tie.Need-seq2bit-requires
-seq2bit-requires c κs = search needs
+begin-requires : tie.Need-begin-requires
+begin-requires c κs = search needs
 
-ask-requires : tie.Need-ask-requires
-ask-requires c κs = search needs
+abbrev start : tie.After-copy → tie.Start
+start p = p .before .before .before .before .before .before .before .before .before .before
+
+-- The first k-mer, copied.
+first-copied : (p : tie.After-copy) → (let a = start p .args in take (a .head .k) (p .copy .last .1 .0) ≡ take (a .head .k) (a .read .now))
+first-copied p =
+    let a = start p .args in
+    rw (length-take-le (a .head .k) (a .read .now) (p .before .before .before .before .if1 .left)) at (p .copy .ensures)
+
+-- The first k-mer counts as put out.
+first-put : (c : tie.After-begin)
+    → let p = c .before .before .before in
+    let a = start p .args in
+    (length (take (a .head .k) (a .read .now)) ≡ c .begin .result .written)
+    × (true ≡ true → take (c .begin .result .written) (p .copy .last .1 .0) ≡ take (a .head .k) (a .read .now))
+first-put c =
+    let p = c .before .before .before in
+    let a = start p .args in
+    let is = ap (λ (q : Place). q .written) (c .begin .ensures .is) in (
+      length-take-le (a .head .k) (a .read .now) (p .before .before .before .before .if1 .left) ∙ sym is,
+      λ e. ap (λ (i : ℕ). take i (p .copy .last .1 .0)) is ∙ first-copied p,
+    )
 
 -- The pass from its first place.
-begun : (c : tie.After-ask)
-    → let p = c .before .before .before .before in
-    let a = p .before .before .before .before .before .before .before .before .before .before .args in
-    endOf (a .set .now) (a .head) (a .counts .now) (a .method) (a .c)
-    (stateOf (firstPlace (a .head .k) (c .before .seq2bit .result) (c .ask .result)) (a .read .now) (p .copy .last .1 .0))
+begun : (c : tie.After-begin)
+    → let a = start (c .before .before .before) .args in
+    endOf (a .set .now) (a .head) (a .counts .now) (a .method) (a .c) (stateOf (c .begin .result) (a .read .now) (take (a .head .k) (a .read .now)))
     ≡ pass (setWith (a .set .now) (a .counts .now)) (entry (a .method) (a .c)) (a .read .now)
 begun c =
-    let p = c .before .before .before .before in
-    let e = p .before .before .before .before in
-    let s = e .before .before .before .before .before .before in
+    let p = c .before .before .before in
+    let s = start p in
     let a = s .args in
-    let k-is = length-take-le (a .head .k) (a .read .now) (e .if1 .left) in
-    pass-begun _ _ (a .head) (s .pre .0) (a .counts .now) (a .method) (a .c) (a .read .now) (c .before .seq2bit .result) (c .ask .result) (p .copy .last .1 .0)
-    (e .if1 .left) (c .before .seq2bit .ensures) (rw (with-solid (a .set .now) (a .counts .now)) (c .ask .ensures)) (rw k-is at (p .copy .ensures))
+    pass-begun _ _ (a .head) (s .pre .0) (a .counts .now) (a .method) (a .c) (a .read .now) (c .begin .ensures) (p .before .before .before .before .if1 .left)
 
 turns-of-requires : tie.Need-turns-of-requires
 turns-of-requires c κs =
     let g = c .before in
-    let p = g .before .before .before .before in
+    let p = g .before .before .before in
     let e = p .before .before .before .before in
-    let s = e .before .before .before .before .before .before in
-    let a = s .args in (
-      s .pre .0,
-      s .pre .1,
-      record { kmer = g .before .seq2bit .ensures .kmer; at = e .if1 .left; written = omega (arith, p .copy .kept .1 .0, p .before .before .before .if2 .left) },
-      subst Countable (sym (begun g))
-          (countable _ _ (s .pre .2) (pass-limited _ (a .counts .now) (s .pre .0 .table .opens) (a .c) (s .pre .1) (s .fits .c .fits) (a .method) (a .read .now))),
-    )
+    let s = start p in
+    let a = s .args in
+    let b = g .begin .ensures in
+    record {
+      ready = s .pre .0;
+      confirm = s .pre .1;
+      stands = begun-stands _ _ (a .head) (s .pre .0) (a .counts .now) (a .method) (a .c) (a .read .now) b (e .if1 .left);
+      put = take (a .head .k) (a .read .now);
+      many = first-put g .0;
+      here = first-put g .1;
+      countable = subst Countable (sym (begun g))
+          (countable _ _ (s .pre .2) (pass-limited _ (a .counts .now) (s .pre .0 .table .opens) (a .c) (s .pre .1) (s .fits .c .fits) (a .method) (a .read .now)));
+      room = omega (arith, ap (λ (q : Place). q .written) (b .is), p .copy .kept .1 .0, p .before .before .before .if2 .left);
+    }
 
 same-length-2 : tie.Need-same-length-2
 same-length-2 c = search needs
@@ -102,12 +126,15 @@ returns-3 : tie.Need-returns-3
 returns-3 c =
     let t = c .before .before in
     let g = t .before .before in
-    let p = g .before .before .before .before in
+    let p = g .before .before .before in
+    let a = start p .args in
     let copied = p .copy .kept .1 .0 in
+    let out = t .turns-of .last .1 .1 .1 .1 .1 .1 .1 .1 .1 .0 in
+    let driven = t .turns-of .ensures (take (a .head .k) (a .read .now)) (first-put g .0) (first-put g .1) in
     record {
-      is = subst₂ (λ (room : ℕ) (n : Rules.Pass). PassIs room (t .turns-of .last .1 .1 .1 .1 .1 .1 .1 .1 .0) n (t .turns-of .result)) copied (begun g) (t .turns-of .ensures);
-      room = t .turns-of .kept .1 .1 .1 .1 .1 .1 .1 .1 .0 ∙ copied;
-      small = one-pass (p .before .before .before .before .before .before .before .before .before .before);
+      is = subst₂ (λ (room : ℕ) (n : Rules.Pass). PassIs room out n (t .turns-of .result)) copied (begun g) (kept-pass (a .read .now) _ out _ (t .turns-of .result) driven);
+      room = t .turns-of .kept .1 .1 .1 .1 .1 .1 .1 .1 .1 .0 ∙ copied;
+      small = one-pass (start p);
     }
 
 pub correct-spec : {M : Type 1} → statement M
@@ -120,8 +147,7 @@ correct-spec =
     returns-2
     slice-aggregate-copy
     copy-requires
-    seq2bit-requires
-    ask-requires
+    begin-requires
     turns-of-requires
     same-length-2
     returns-3)

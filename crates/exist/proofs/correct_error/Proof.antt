@@ -2,6 +2,8 @@ use Prim.Native.Nat.{_+_, _≤_}
 use native.Mathlib.Omega.{arith}
 use mathlib.Core.Path.{_≡_, sym, ap, _∙_, subst}
 use mathlib.Core.Bool.{true}
+use mathlib.Core.Logic.{⊎-elim}
+use lib.ListN.{length, take}
 use borrow.Author.Needs.{needs}
 use Rattle.rules.specs.Set.{solid, setOf}
 use Rattle.rules.specs.Counted.{Try, after}
@@ -11,11 +13,11 @@ use Rattle.kmer.specs.Kmer.{kmerOf}
 use Rattle.scan.specs.declared.Alt.the-variants.{Kmer}
 use Rattle.scan.specs.Scan.{AltIs}
 use Rattle.set.proofs.Counted.{with-count}
-use Rattle.scenario.specs.Scenario.{scenarios, ofCode}
+use Rattle.scenario.specs.Scenario.{scenarios, ofCode, spelledOut}
 use Rattle.exist.specs.declared.Pick.the-variants.{Mend as Use}
 use Rattle.exist.specs.Exist.{PickIs}
 use Rattle.scan.proofs.Laws.{alternative-at-most}
-use Rattle.exist.proofs.Attempts.{exist-none, exist-answer, exist-lookups, refused, full, mended}
+use Rattle.exist.proofs.Attempts.{exist-none, exist-answer, exist-lookups, refused, mended}
 use Rattle.exist.proofs.correct_error.Statement.{statement}
 use Rattle.exist.proofs.correct_error.Tie as tie
 
@@ -103,31 +105,41 @@ returns-2 c =
     let h = c .before .before .before .before in
     refused (subst (PickIs _ _) (c .enum-told2 .given .1) (picked h)) (paid h)
 
-returns-3 : tie.Need-returns-3
-returns-3 c =
-    let m = c .before .before .before in
-    full (m .pick .given .0 .0) (used m .0) (c .if1 .taken)
-
 write-requires : tie.Need-write-requires
-write-requires c κs =
-    let e = c .before in
-    (used (e .before .before .before) .1, e .if1 .left)
+write-requires c κs = (used (c .before .before .before .before) .1, c .before .if1 .taken)
+
+-- The letters stand in the output if it has room for them.
+written : (c : tie.Joined1)
+    → let mend = c .before .before .before .pick .given .0 .0 in
+    (mend .letters ≤ length (c .if1 .out) → take (mend .letters) (c .if1 .out) ≡ spelledOut mend .letters)
+    × (length (c .if1 .out) ≡ length (start (c .before .before .before .before .before .before .before .before .before .before) .args .out .now))
+written c =
+    ⊎-elim
+    (λ v. (λ le. rw (v .5) (v .2 .ensures .0), rw (v .5) (v .2 .ensures .1)))
+    (λ v. (λ le. absurd (omega (arith, le, v .0 .left, ap length (v .1))), ap length (v .1)))
+    (c .if1 .came)
 
 count-at-requires : tie.Need-count-at-requires
 count-at-requires c κs = search needs
 
-same-length : tie.Need-same-length
-same-length c = search needs
+in-place-requires : tie.Need-in-place-requires
+in-place-requires c κs =
+    let m = c .before .before .before .before in
+    let b = start (m .before .before .before .before .before .before .before) in
+    (b .pre .0 .shifts, b .pre .1, used m .1)
 
-returns-4 : tie.Need-returns-4
-returns-4 c =
-    let w = c .before .before .before in
-    let e = w .before .before in
-    let m = e .before .before .before in
+same-length : tie.Need-same-length
+same-length c = written (c .before .before) .1
+
+returns-3 : tie.Need-returns-3
+returns-3 c =
+    let a = c .before in
+    let j = a .before in
+    let m = j .before .before .before in
     let mend = m .pick .given .0 .0 in
-    let a = start (m .before .before .before .before .before .before .before) .args in
-    let count = with-count (a .set .now) (a .counts .now) (ofCode (mend .tried)) (mend .place) (used m .2) ∙ sym (c .count-at .ensures) in
-    mended mend (used m .0) (paid (m .before .before .before .before)) (e .if1 .left) (w .write .ensures .0) (w .write .ensures .1) count
+    let b = start (m .before .before .before .before .before .before .before) .args in
+    let count = with-count (b .set .now) (b .counts .now) (ofCode (mend .tried)) (mend .place) (used m .2) ∙ sym (a .count-at .ensures) in
+    mended mend (used m .0) (paid (m .before .before .before .before)) (written j .0) (written j .1) count (c .in-place .ensures)
 
 pub correct-error-spec : {M : Type 1} → statement M
 correct-error-spec =
@@ -147,8 +159,8 @@ correct-error-spec =
     enum-known-pick
     enum-told-2
     returns-2
-    returns-3
     write-requires
     count-at-requires
+    in-place-requires
     same-length
-    returns-4)
+    returns-3)

@@ -92,6 +92,17 @@ pub struct Report {
     pub support: Option<u32>,
 }
 
+/// What a batch will need, exactly. All three are sums over its lines.
+#[derive(Clone, Copy, Debug, PartialEq, Eq)]
+pub struct Needs {
+    /// Bytes of the output, which may be more than [`MAX_OUTPUT`].
+    pub bytes: usize,
+    /// Bases looked at.
+    pub turns: u64,
+    /// How often the set will be asked for a k-mer.
+    pub lookups: u64,
+}
+
 /// The least work buffer for an output and a read or batch of these lengths.
 pub fn work_length(output: usize, input: usize) -> usize {
     2 * output.max(input)
@@ -140,6 +151,38 @@ pub fn correct_batch(
     work: &mut [u8],
 ) -> Result<Report, Refusal> {
     answer(raw::correct(raw::Call::Batch, lent(set, index, counts, job, batch, output, work)))
+}
+
+/// What a batch will need by a job of one entry: the exact bytes of its output, its turns and its lookups. No output is lent.
+///
+/// With the same set, job and batch, and with buffers within the limits, [`correct_batch`] is accepted exactly when its output has at least
+/// [`bytes`](Needs::bytes), and then reports these numbers; a shorter output is [`Refusal::NoRoom`]. So it is whatever index and counts either call
+/// offers, if they are taken. More bytes than [`MAX_OUTPUT`] say that no output is long enough: split the batch.
+///
+/// Another job than one of one entry is [`Refusal::NotOneEntry`], told behind 4 and before 5, and [`Refusal::Buffers`] says that `work` is shorter
+/// than the batch, and nothing else: it may be of any length from there on. Otherwise it is refused as [`correct_batch`] is. Accepted, `work` is all
+/// zero; refused, it has not changed.
+///
+/// ```
+/// # let mut set = vec![0; corrector::set_length(5)];
+/// # corrector::make_set(b"ACT,9\nCCG,4\nCTC,7\nAAC,5\nTCC,8\n", 3, 1, &mut set, &mut [0; 5])?;
+/// use corrector::{Entry, Job, Method};
+/// let entries = [Entry::new(Method::One, 1).expect("confirm is not 0")];
+/// let (job, batch) = (Job::new(&entries), b"AACGCCG\nAACC\n");
+/// let needs = corrector::needs(&set, None, None, job, batch, &mut vec![0; batch.len()])?;
+/// assert_eq!((needs.bytes, needs.turns, needs.lookups), (14, 6, 27));
+/// let mut output = vec![0; needs.bytes];
+/// let mut work = vec![0; corrector::work_length(output.len(), batch.len())];
+/// let report = corrector::correct_batch(&set, None, None, job, batch, &mut output, &mut work)?;
+/// assert_eq!((report.written, report.turns, report.lookups), (needs.bytes, needs.turns, needs.lookups));
+/// assert_eq!(output, *b"AACTCCG\nAACTC\n");
+/// # Ok::<(), corrector::Refusal>(())
+/// ```
+pub fn needs(set: &[u8], index: Option<&[u8]>, counts: Option<&[u32]>, job: Job<'_>, batch: &[u8], work: &mut [u8]) -> Result<Needs, Refusal> {
+    match raw::needs(lent(set, index, counts, job, batch, &mut [], work)) {
+        [0, _, bytes, turns, lookups] => Ok(Needs { bytes: bytes as usize, turns, lookups }),
+        [number, place, ..] => Err(Refusal::from_numbers(number, place)),
+    }
 }
 
 fn lent<'a>(

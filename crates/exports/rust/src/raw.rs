@@ -16,6 +16,11 @@ extern "C" {
         job: *const u8, job_length: usize, batch: *const u8, batch_length: usize,
         output: *mut u8, output_length: usize, work: *mut u8, work_length: usize, answer: *mut u64, answer_length: usize,
     ) -> u64;
+    fn corrector_needs(
+        set: *const u8, set_length: usize, index: *const u8, index_length: usize, counts: *const u32, counts_length: usize,
+        job: *const u8, job_length: usize, batch: *const u8, batch_length: usize, work: *mut u8, work_length: usize,
+        answer: *mut u64, answer_length: usize,
+    ) -> u64;
     fn corrector_count_solid(
         set: *const u8, set_length: usize, read: *const u8, read_length: usize, answer: *mut u64, answer_length: usize,
     ) -> u64;
@@ -28,7 +33,7 @@ extern "C" {
     ) -> u64;
 }
 
-/// What a read or a batch call is lent, but for its answer.
+/// What a read or a batch call is lent, but for its answer. Needs is lent no output.
 pub struct Lent<'a> {
     pub set: &'a [u8],
     /// Empty: not offered.
@@ -87,6 +92,31 @@ pub fn correct(call: Call, lent: Lent<'_>) -> [u64; 10] {
             lent.input.len(),
             lent.output.as_mut_ptr(),
             lent.output.len(),
+            lent.work.as_mut_ptr(),
+            lent.work.len(),
+            answer.as_mut_ptr(),
+            answer.len(),
+        )
+    };
+    answer
+}
+
+/// Number, place, bytes, turns, lookups. The output stays as it is.
+pub fn needs(lent: Lent<'_>) -> [u64; 5] {
+    let mut answer = [0; 5];
+    // SAFETY: each pointer and length are a live slice's; `work` and `answer` are lent to this call alone, so that they overlap nothing.
+    unsafe {
+        corrector_needs(
+            lent.set.as_ptr(),
+            lent.set.len(),
+            lent.index.as_ptr(),
+            lent.index.len(),
+            lent.counts.as_ptr(),
+            lent.counts.len(),
+            lent.job.as_ptr(),
+            lent.job.len(),
+            lent.input.as_ptr(),
+            lent.input.len(),
             lent.work.as_mut_ptr(),
             lent.work.len(),
             answer.as_mut_ptr(),

@@ -2,8 +2,8 @@
 use std::error::Error;
 use std::fmt::{Display, Formatter, Result};
 
-/// Why a call is refused. Checked in this order, but for 11, which comes last: the first that applies is told;
-/// [`make_set`](crate::make_set) has an order of its own. Places count from 0.
+/// Why a call is refused. Checked in this order, but for 11, which comes last, and 17, which comes between 4 and 5: the first that applies is
+/// told; [`make_set`](crate::make_set) has an order of its own. Places count from 0.
 #[derive(Clone, Copy, Debug, PartialEq, Eq)]
 pub enum Refusal {
     /// 1: the read or batch is longer than [`MAX_INPUT`](crate::MAX_INPUT) bytes.
@@ -20,7 +20,8 @@ pub enum Refusal {
         /// The first such entry.
         index: usize,
     },
-    /// 5: output or work is too long, or work is shorter than [`work_length`](crate::work_length).
+    /// 5: output or work is too long, or work is shorter than [`work_length`](crate::work_length); of [`needs`](crate::needs): work is shorter than
+    /// the batch.
     Buffers,
     /// 6: the batch is not empty and lacks a final byte 10, or has more than [`MAX_LINES`](crate::MAX_LINES) lines.
     Batch,
@@ -59,6 +60,8 @@ pub enum Refusal {
     Index,
     /// 16: the counts that are offered are not one for each key of the set.
     Counts,
+    /// 17: the job that [`needs`](crate::needs) is asked for has other than one entry.
+    NotOneEntry,
 }
 
 impl Refusal {
@@ -82,11 +85,12 @@ impl Refusal {
             14 => Self::TooShort,
             15 => Self::Index,
             16 => Self::Counts,
-            _ => unreachable!("the library refuses by 1 to 16"),
+            17 => Self::NotOneEntry,
+            _ => unreachable!("the library refuses by 1 to 17"),
         }
     }
 
-    /// The number, 1 to 16.
+    /// The number, 1 to 17.
     pub fn number(self) -> u8 {
         match self {
             Self::InputLength => 1,
@@ -105,6 +109,7 @@ impl Refusal {
             Self::TooShort => 14,
             Self::Index => 15,
             Self::Counts => 16,
+            Self::NotOneEntry => 17,
         }
     }
 
@@ -138,6 +143,7 @@ impl Display for Refusal {
             Self::TooShort => write!(to, "the buffer is too short for the blocks, or the list for the counts"),
             Self::Index => write!(to, "the index is not that of the set"),
             Self::Counts => write!(to, "the counts are not as many as the set has keys"),
+            Self::NotOneEntry => write!(to, "the job has other than one entry"),
         }
     }
 }

@@ -32,7 +32,7 @@ returns c =
     gap-below _ _ _ _ _ _ (e .error-len .result) (e .error-len .ensures) (c .before .before .before .before .if1 .taken) (c .before .before .from-scan .ensures)
 
 correct-error-requires : tie.Need-correct-error-requires
-correct-error-requires c κs = let e = c .before .before .before .before .before .before .before in (entry e .pre .0, entry e .pre .1, entry e .pre .3, fits e .1)
+correct-error-requires c κs = let e = c .before .before .before .before .before .before .before in (entry e .pre .0, entry e .pre .1, entry e .pre .3, omega (arith, fits e .1))
 
 same-length-2 : tie.Need-same-length-2
 same-length-2 c = search needs

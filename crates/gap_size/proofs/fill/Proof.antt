@@ -143,7 +143,7 @@ returns : tie.Need-returns Inv-loop μ-loop
 returns c =
     let n = c .before .before in
     let l = n .before .before .before .before in
-    record {
+    λ y h. record {
       is = gap-refused _ _ _ _ _ _ _
           (gap-dead (low l) (l .loop .inv .6) (l .loop .inv .7) (n .before .before .before .loop-test .taken)
           (no-next _ _ _ (n .sole-nuc .result) (n .before .next-nucs .ensures .0) (n .sole-nuc .ensures) (c .enum-told .given .1)))
@@ -174,7 +174,7 @@ returns-2 : tie.Need-returns-2 Inv-loop μ-loop
 returns-2 c =
     let m = c .before .before .before .before .before .before in
     let l = turn m in
-    record {
+    λ y h. record {
       is = gap-refused _ _ _ _ _ _ _
           (gap-repeats (low l) (l .loop .inv .6) (l .loop .inv .7) (from m .loop-test .taken) _ (told m .0)
           (sym (c .before .before .before .meet .ensures .is) ∙ c .if1 .taken))
@@ -238,8 +238,8 @@ same-length-6 c = room (c .before)
 returns-3 : tie.Need-returns-3 Inv-loop μ-loop
 returns-3 c =
     let l = c .before in
-    record {
-      is = gap-mends _ _ _ _ _ (l .loop .inv .7) (c .loop-test .left) (l .loop .inv .0) (l .loop .inv .1) _ (omega (arith, l .loop .inv .2));
+    λ y h. record {
+      is = gap-mends _ _ _ _ _ (l .loop .inv .7) (l .loop .inv .5) (c .loop-test .left) (l .loop .inv .0) _ (omega (arith, l .loop .inv .2)) y h;
       room = room l;
     }
 

@@ -11,7 +11,7 @@ use Rattle.rules.proofs.Exactly.{x-good}
 use Rattle.kmer.specs.Kmer.{kmerOf, IsKmer}
 use Rattle.set.proofs.Counted.{with-count}
 use Rattle.scan.specs.Scan.{AltIs}
-use Rattle.scan.proofs.Laws.{alternative-at-most}
+use Rattle.scan.proofs.Laws.{alternative-at-most, alternative-back}
 use Rattle.gap_size.proofs.Laws.{gap-full, no-alternative, from-alternative}
 use Rattle.gap_size.proofs.ins_sub_correction.Statement.{statement}
 use Rattle.gap_size.proofs.ins_sub_correction.Tie as tie
@@ -86,7 +86,10 @@ same-length c = search needs
 returns-3 : tie.Need-returns-3
 returns-3 c =
     let x = c .before .before .before .before .before .before in
-    rw (from-alternative _ _ _ _ _ _ (entry x .pre .0 .shifts .k-low) (told x .0)) (c .before .before .fill-by-length .ensures)
+    let b = entry x in
+    let low = b .pre .0 .shifts .k-low in
+    rw (from-alternative _ _ _ _ _ _ low (told x .0))
+    (c .before .before .fill-by-length .ensures (kmerOf (b .args .kmer)) (alternative-back _ _ _ _ low (told x .0)))
 
 pub ins-sub-correction-spec : {M : Type 1} → statement M
 ins-sub-correction-spec =

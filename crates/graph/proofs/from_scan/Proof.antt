@@ -7,7 +7,7 @@ use Rattle.rules.specs.Scan.{alternative}
 use Rattle.kmer.specs.Kmer.{kmerOf, IsKmer}
 use Rattle.set.proofs.Counted.{with-count}
 use Rattle.scan.specs.Scan.{AltIs, scanOf}
-use Rattle.scan.proofs.Laws.{alternative-known, alternative-at-most}
+use Rattle.scan.proofs.Laws.{alternative-known, alternative-at-most, alternative-back}
 use Rattle.graph.proofs.Laws.{no-alternative, from-alternative}
 use Rattle.graph.proofs.from_scan.Statement.{statement}
 use Rattle.graph.proofs.from_scan.Tie as tie
@@ -64,7 +64,9 @@ returns-2 : tie.Need-returns-2
 returns-2 c =
     let x = c .before .before .before .before .before .before in
     let b = x .before .before .before .before .before .before .before in
-    rw (from-alternative _ _ _ (scanOf (b .args .scan)) _ _ (b .pre .0 .shifts .k-low) (told x .0)) (c .before .before .walk .ensures)
+    let low = b .pre .0 .shifts .k-low in
+    rw (from-alternative _ _ _ (scanOf (b .args .scan)) _ _ low (told x .0))
+    (c .before .before .walk .ensures (kmerOf (b .args .kmer)) (alternative-back _ _ _ _ low (told x .0)))
 
 pub from-scan-spec : {M : Type 1} → statement M
 from-scan-spec =

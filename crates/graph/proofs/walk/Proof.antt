@@ -16,7 +16,7 @@ use Rattle.set.specs.Counted.{setWith}
 use Rattle.set.proofs.Opened.{opened-n-le}
 use Rattle.scan.specs.Scan.{scanOf}
 use Rattle.scan.proofs.Laws.{no-next, next-kmer, nuc-lt, sole-known, known-asked}
-use Rattle.graph.proofs.Laws.{move-count, Arrived, Going, going-start, walk-dead, walk-arrives, walk-meets, walk-marks, walk-goes, walk-stays, walk-over, walk-refused, walk-mends, walk-full}
+use Rattle.graph.proofs.Laws.{move-count, Arrived, Going, going-start, walk-dead, walk-arrives, walk-meets, walk-marks, walk-goes, walk-stays, walk-over, walk-refused, walk-mends}
 use Rattle.graph.proofs.walk.Statement.{statement}
 use Rattle.graph.proofs.walk.Tie as tie
 
@@ -95,7 +95,7 @@ came : (c : tie.Then2 Inv-loop μ-loop)
     → let m = c .before .before .before .before .before .before .before .before in
     let l = turn m in
     let b = entry l in
-    Arrived (b .args .head .k) (b .args .head .n) (sol l) (count l) (kmerOf (b .args .scan .end)) (kmerOf (b .args .x)) (4 * l .loop .moves + 4) (l .loop .moves + 2)
+    Arrived (b .args .head .k) (b .args .head .n) (sol l) (count l) (kmerOf (b .args .scan .end)) (kmerOf (b .args .x)) (kmerOf (next m)) (4 * l .loop .moves + 4) (l .loop .moves + 2)
     (c .before .before .before .before .before .before .lower .result) (c .before .before .before .before .write-last2 .last .0)
 came c =
     let m = c .before .before .before .before .before .before .before .before in
@@ -117,7 +117,7 @@ add-lookups c = omega (arith, c .before .before .before .before .before .before 
 returns : tie.Need-returns Inv-loop μ-loop
 returns c =
     let b = c .before .before .before .before .before .before .before .before .before in
-    record {
+    λ y h. record {
       is = walk-refused _ _ _ (scanOf (b .args .scan)) _ _ 0 _ (walk-stays _ _ _ _ _ (sym (c .before .same .ensures) ∙ c .if1 .taken)) (omega arith);
       room = refl;
     }
@@ -172,7 +172,7 @@ returns-2 c =
     let n = c .before .before in
     let a = n .before .before .before in
     let l = a .before in
-    record {
+    λ y h. record {
       is = walk-refused _ _ _ (scanOf (entry l .args .scan)) _ _ _ _
           (walk-dead (low l) (l .loop .inv .6) (l .loop .inv .7) (a .loop-test .taken)
           (no-next _ _ _ (n .sole-nuc .result) (n .before .next-nucs .ensures .0) (n .sole-nuc .ensures) (c .enum-told .given .1)))
@@ -210,51 +210,39 @@ add-letters : tie.Need-add-letters Inv-loop μ-loop
 add-letters c = omega (arith, turn (c .before .before .before .before .before .before .before .before) .loop .inv)
 
 same-length-2 : tie.Need-same-length-2 Inv-loop μ-loop
-same-length-2 c = room-after (c .before .before .before .before .before)
+same-length-2 c = room-after (c .before .before .before .before)
 
 returns-3 : tie.Need-returns-3 Inv-loop μ-loop
 returns-3 c =
-    let w = c .before .before .before .before .before in
+    let w = c .before .before .before .before in
     let l = turn (move w) in
-    record {
-      is = walk-mends _ _ _ (scanOf (entry l .args .scan)) _ _ (came (c .before)) _ (omega (arith, l .loop .inv .3)) (omega (arith, c .if3 .taken));
+    λ y h. record {
+      is = walk-mends _ _ _ (scanOf (entry l .args .scan)) _ _ (came c) (told (move w) .1) _ (omega (arith, l .loop .inv .3)) y h;
       room = room-after w;
-    }
-
-same-length-3 : tie.Need-same-length-3 Inv-loop μ-loop
-same-length-3 c = room-after (c .before .before .before .before .before)
-
-returns-4 : tie.Need-returns-4 Inv-loop μ-loop
-returns-4 c =
-    let w = c .before .before .before .before .before in
-    let r = room-after w in
-    record {
-      is = walk-full _ _ _ (scanOf (entry (turn (move w)) .args .scan)) _ _ (came (c .before)) _ (omega (arith, c .if3 .left));
-      room = r;
     }
 
 same-requires-3 : tie.Need-same-requires-3 Inv-loop μ-loop
 same-requires-3 c κs = search needs
 
-same-length-4 : tie.Need-same-length-4 Inv-loop μ-loop
-same-length-4 c = room-after (c .before .before .before .before .before .before)
+same-length-3 : tie.Need-same-length-3 Inv-loop μ-loop
+same-length-3 c = room-after (c .before .before .before .before .before .before)
 
-returns-5 : tie.Need-returns-5 Inv-loop μ-loop
-returns-5 c =
+returns-4 : tie.Need-returns-4 Inv-loop μ-loop
+returns-4 c =
     let w = c .before .before .before .before .before .before in
     let m = move w in
     let l = turn m in
-    record {
+    λ y h. record {
       is = walk-refused _ _ _ (scanOf (entry l .args .scan)) _ _ _ _
           (walk-meets (low l) (l .loop .inv .6) (l .loop .inv .7) (from m .loop-test .taken) _ (told m .0)
           (sym (c .before .before .before .same2 .ensures) ∙ c .before .before .if2 .left)
-          (sym (c .before .same3 .ensures) ∙ c .if4 .taken))
+          (sym (c .before .same3 .ensures) ∙ c .if3 .taken))
           (omega (arith, l .loop .inv .3));
       room = room-after w;
     }
 
-add-if5 : tie.Need-add-if5 Inv-loop μ-loop
-add-if5 c = omega (arith, turn (c .before .before .before .before .before .before .before .before .before .before) .loop .inv)
+add-if4 : tie.Need-add-if4 Inv-loop μ-loop
+add-if4 c = omega (arith, turn (c .before .before .before .before .before .before .before .before .before .before) .loop .inv)
 
 mul-marks-at : tie.Need-mul-marks-at Inv-loop μ-loop
 mul-marks-at c = omega (arith, turn (c .before .before .before .before .before .before .before .before .before .before .before) .loop .inv)
@@ -274,7 +262,7 @@ loop-again c =
     let same = w .write-last2 .kept .0 ∙ i .4 in
     let known = sole-known _ _ _ _ (told m .0) in
     let ne = sym (c .before .before .before .before .same2 .ensures) ∙ c .before .before .before .if2 .left in
-    let new = sym (c .before .before .same3 .ensures) ∙ c .before .if4 .left in
+    let new = sym (c .before .before .same3 .ensures) ∙ c .before .if3 .left in
     ⊎-elim
     (λ v. (
       omega arith,
@@ -296,15 +284,15 @@ loop-again c =
       known,
       rw (v .1, v .2, w .write-last2 .ensures, weighed (w .before .before)) (walk-goes (low (turn m)) (i .6) (i .7) lt _ (told m .0) ne new (v .0 .left)),
     ))
-    (c .if5 .came)
+    (c .if4 .came)
 
-same-length-5 : tie.Need-same-length-5 Inv-loop μ-loop
-same-length-5 c = room (c .before)
+same-length-4 : tie.Need-same-length-4 Inv-loop μ-loop
+same-length-4 c = room (c .before)
 
-returns-6 : tie.Need-returns-6 Inv-loop μ-loop
-returns-6 c =
+returns-5 : tie.Need-returns-5 Inv-loop μ-loop
+returns-5 c =
     let l = c .before in
-    record {
+    λ y h. record {
       is = walk-refused _ _ _ (scanOf (entry l .args .scan)) _ _ _ _ (walk-over (l .loop .inv .7) (c .loop-test .left)) (omega (arith, l .loop .inv .3));
       room = room l;
     }
@@ -340,15 +328,13 @@ walk-spec =
     add-letters
     same-length-2
     returns-3
+    same-requires-3
     same-length-3
     returns-4
-    same-requires-3
-    same-length-4
-    returns-5
-    add-if5
+    add-if4
     mul-marks-at
     add-moves
     loop-less
     loop-again
-    same-length-5
-    returns-6)
+    same-length-4
+    returns-5)

@@ -1,24 +1,21 @@
 use Prim.Native.Nat.{ℕ}
-use mathlib.Core.Path.{_≡_, sym, ap, _∙_}
-use mathlib.Core.Bool.{Bool}
+use mathlib.Core.Path.{_≡_, sym, ap, _∙_, subst}
 use mathlib.Core.Option.{none}
-use borrow.Author.Tests.{not-true, not-false}
 use lib.ListN.{length, length-replicate}
-use Rattle.rules.specs.Refusal.{accepted, unless}
-use Rattle.rules.specs.Set.{setOf, opened}
-use Rattle.rules.specs.Index.{indexCheck}
-use Rattle.rules.specs.Calls.{withoutIndex, inputCheck, countsCheck}
+use Rattle.rules.specs.Calls.{withoutIndex, inputCheck}
 use Rattle.input.specs.Input.{checkOf}
 use Rattle.input.proofs.Checks.{is-refused}
-use Rattle.opening.proofs.Opening.{is-refused as set-is-refused, set-opened, set-checked, set-refused}
-use Rattle.index.specs.Index.{Opens}
 use Rattle.set.specs.Ready.{tableLength}
-use Rattle.set.proofs.Opened.{set-count}
+use Rattle.offered.specs.Offered.{OfferedIs}
+use Rattle.offered.proofs.Laws.{is-refused as not-ready}
 use Rattle.report.proofs.Within.{within}
-use Rattle.job.proofs.Opening.{read-refused, read-not-opened, read-index-wrong, read-counts-wrong, read-corrected}
+use Rattle.job.proofs.Opening.{read-refused, read-not-opened, read-corrected}
 use borrow.Author.Needs.{needs}
 use Rattle.job.proofs.correct_read.Statement.{statement}
 use Rattle.job.proofs.correct_read.Tie as tie
+
+abbrev start : tie.After-check-input → tie.Start
+start c = c .before .before .before .before .before .before .before .before
 
 check-input-requires : tie.Need-check-input-requires
 check-input-requires c κs = search needs
@@ -38,12 +35,15 @@ returns c =
     (read-refused _ _ (sym (m .check-input .ensures) ∙ ap checkOf (c .refused .ensures)), tt)
 
 -- Checks 1 to 5 let pass.
-fine : (c : tie.After-enum-told) → let a = c .before .before .before .before .before .before .before .before .before .before .args in
-    inputCheck (length (a .read .now)) (a .job .now) (length (a .output .now)) (length (a .work .now)) ≡ none
+fine : (c : tie.After-enum-told)
+    → (let a = start (c .before .before) .args in inputCheck (length (a .read .now)) (a .job .now) (length (a .output .now)) (length (a .work .now)) ≡ none)
 fine c = sym (c .before .before .check-input .ensures) ∙ ap checkOf (c .enum-told .given .1)
 
+slice-aggregate-open : tie.Need-slice-aggregate-open
+slice-aggregate-open c = search needs
+
 open-requires : tie.Need-open-requires
-open-requires c κs = search needs
+open-requires c κs = length-replicate {A = ℕ} tableLength 0
 
 enum-known-opened : tie.Need-enum-known-opened
 enum-known-opened c = search needs
@@ -52,82 +52,21 @@ enum-told-3 : tie.Need-enum-told-3
 enum-told-3 c = search needs
 
 refused-requires-2 : tie.Need-refused-requires-2
-refused-requires-2 c κs = set-is-refused (c .enum-told3 .given .1)
+refused-requires-2 c κs = not-ready (c .enum-told3 .given .1)
 
 returns-2 : tie.Need-returns-2
 returns-2 c =
-    let o = c .before .before .before in
-    (read-not-opened _ _ (fine (o .before)) (set-refused _ _ _ (c .refused2 .ensures) (o .«open» .ensures)), tt)
-
--- The set opens.
-opens : (c : tie.After-known-told) → let a = c .before .before .before .before .before .before .before .before .before .before .before .before .before .before .args in
-    opened (a .set .now) ≡ accepted (setOf (a .set .now))
-opens c = set-opened _ _ _ _ (c .before .opened .given .1) (c .before .before .before .«open» .ensures)
-
-checked : (c : tie.After-known-told) → let o = c .before .opened .given .0 in
-    Opens (c .before .before .before .before .before .before .before .before .before .before .before .before .before .before .args .set .now) (o .0) (o .1 .0)
-checked c =
-    let t = set-checked _ _ _ _ (c .before .opened .given .1) (c .before .before .before .«open» .ensures) in
-    record { right = t .0; k-is = t .1; n-is = t .2 }
-
-check-index-requires : tie.Need-check-index-requires
-check-index-requires c κs = checked c
-
-returns-3 : tie.Need-returns-3
-unfolding unless
-returns-3 c =
-    let i = c .before in
-    let f = fine (i .before .before .before .before .before) in
-    let wrong = sym (i .check-index .ensures) ∙ ap (λ (t : Bool). unless t 15) (not-true (i .check-index .result) (c .if1 .taken)) in
-    (read-index-wrong _ f (opens (i .before)) wrong, tt)
-
--- The index passes.
-passes : (c : tie.Else1) → let a = c .before .before .before .before .before .before .before .before .before .before .before .before .before .before .before .before .args in
-    indexCheck (setOf (a .set .now)) (a .index .now) ≡ none
-unfolding unless
-passes c = sym (c .before .check-index .ensures) ∙ ap (λ (t : Bool). unless t 15) (not-false (c .before .check-index .result) (c .if1 .left))
-
-check-counts-requires : tie.Need-check-counts-requires
-check-counts-requires c κs = search needs
-
--- What 16 says.
-sixteen : (c : tie.After-check-counts) → let a = c .before .before .before .before .before .before .before .before .before .before .before .before .before .before .before .before .before .args in
-    unless (c .check-counts .result) 16 ≡ countsCheck (setOf (a .set .now)) (a .counts .now)
-sixteen c =
-    let a = c .before .before .before .before .before .before .before .before .before .before .before .before .before .before .before .before .before .args in
-    c .check-counts .ensures (setOf (a .set .now)) (set-count (a .set .now) ∙ sym (checked (c .before .before .before) .n-is))
-
-returns-4 : tie.Need-returns-4
-unfolding unless
-returns-4 c =
-    let k = c .before in
-    let i = k .before in
-    let f = fine (i .before .before .before .before .before .before) in
-    let wrong = sym (sixteen k) ∙ ap (λ (t : Bool). unless t 16) (not-true (k .check-counts .result) (c .if2 .taken)) in
-    (read-counts-wrong _ f (opens (i .before .before)) (passes i) wrong, tt)
-
--- The counts pass.
-counts-pass : (c : tie.Else2) → let a = c .before .before .before .before .before .before .before .before .before .before .before .before .before .before .before .before .before .before .args in
-    countsCheck (setOf (a .set .now)) (a .counts .now) ≡ none
-unfolding unless
-counts-pass c = sym (sixteen (c .before)) ∙ ap (λ (t : Bool). unless t 16) (not-false (c .before .check-counts .result) (c .if2 .left))
-
-slice-aggregate-prepare : tie.Need-slice-aggregate-prepare
-slice-aggregate-prepare c = search needs
-
-prepare-requires : tie.Need-prepare-requires
-prepare-requires c κs =
-    let i = c .before .before .before in
-    let t = checked (i .before .before) in
-    (t .right, t .k-is, t .n-is, length-replicate {A = ℕ} tableLength 0, passes i)
+    let o = c .before .before .before .before in
+    (read-not-opened _ _ (fine (o .before .before)) (subst (OfferedIs _ _ _ _) (c .refused2 .ensures) (o .«open» .ensures)), tt)
 
 slice-aggregate-correct-one : tie.Need-slice-aggregate-correct-one
 slice-aggregate-correct-one c = search needs
 
 correct-one-requires : tie.Need-correct-one-requires
 correct-one-requires c κs =
-    let p = c .before .before .before .before in
-    (p .prepare .ensures .0, within _ _ _ _ (fine (p .before .before .before .before .before .before .before .before .before .before)))
+    let r = c .before .before .before .before in
+    let o = r .before .before .before in
+    (subst (OfferedIs _ _ _ _) (r .opened .given .1) (o .«open» .ensures) .2, within _ _ _ _ (fine (o .before .before)))
 
 same-length : tie.Need-same-length
 same-length c = search needs
@@ -135,14 +74,15 @@ same-length c = search needs
 same-length-2 : tie.Need-same-length-2
 same-length-2 c = search needs
 
-returns-5 : tie.Need-returns-5
+returns-3 : tie.Need-returns-3
 unfolding withoutIndex
-returns-5 c =
+returns-3 c =
     let q = c .before .before .before .before in
-    let e = q .before .before .before .before .before .before .before in
-    let i = e .before .before in
-    let f = fine (i .before .before .before .before .before .before) in
-    read-corrected _ _ f (opens (i .before .before)) (passes i) (counts-pass e) (within _ _ _ _ f .confirms) (q .correct-one .ensures)
+    let r = q .before .before .before .before .before in
+    let o = r .before .before .before in
+    let ready = subst (OfferedIs _ _ _ _) (r .opened .given .1) (o .«open» .ensures) in
+    let f = fine (o .before .before) in
+    read-corrected _ _ f (ready .0) (ready .1) (within _ _ _ _ f .confirms) (q .correct-one .ensures)
 
 pub correct-read-spec : {M : Type 1} → statement M
 correct-read-spec =
@@ -153,19 +93,14 @@ correct-read-spec =
     enum-told-2
     refused-requires
     returns
+    slice-aggregate-open
     open-requires
     enum-known-opened
     enum-told-3
     refused-requires-2
     returns-2
-    check-index-requires
-    returns-3
-    check-counts-requires
-    returns-4
-    slice-aggregate-prepare
-    prepare-requires
     slice-aggregate-correct-one
     correct-one-requires
     same-length
     same-length-2
-    returns-5)
+    returns-3)

@@ -1,53 +1,44 @@
-use Prim.Native.Nat.{_+_, _≤_}
+use Prim.Native.Nat.{_+_}
 use native.Mathlib.Omega.{arith}
-use mathlib.Core.Path.{ap, _∙_, subst}
-use lib.ListN.{length, length-drop}
-use lib.Seq.{length-take-le}
+use mathlib.Core.Path.{_≡_, ap, _∙_, subst}
+use mathlib.Core.Bool.{false}
+use mathlib.Core.List.{[]}
+use lib.ListN.{length}
 use borrow.Author.Needs.{needs}
+use Rattle.scan.specs.declared.Attempt.{Attempt}
 use Rattle.scan.specs.declared.Attempt.the-variants.{Mend, Refused}
 use Rattle.set.proofs.Counted.{with-solid}
-use Rattle.turn.proofs.Parts.{tail-part, tail-back}
-use Rattle.turn.proofs.Turns.{rest-is, Tried, length-back, refused-fits, refused-is, mended-fits, letters-back, mended-place, is-full, not-mend, not-refused, no-room}
+use Rattle.turn.specs.Turn.{Fits}
+use Rattle.turn.proofs.Parts.{tail-part}
+use Rattle.turn.proofs.Turns.{rest-is, keep-fits, kept-went, Tried, refused-keep, mended-fits, mended-is, is-full, not-mend, not-refused, no-room, short}
 use Rattle.turn.proofs.bad_base.Statement.{statement}
 use Rattle.turn.proofs.bad_base.Tie as tie
 
--- The attempt, told of the whole read and output of which it was lent parts.
-tried : (c : tie.After-correct-error)
-    → let s = c .before .before .before .before .before .before .before .before in
-    Tried _ _ _ _ _ _ _ _ _ (s .pre .0) _ _ (s .pre .1) (c .correct-error .last .1 .1 .1 .1 .1 .1 .1 .1 .0) (c .correct-error .result)
+abbrev start : tie.After-correct-error → tie.Start
+start c = c .before .before .before .before .before .before .before .before
+
+-- What is said of an attempt that left what correct_error did, told of the whole read.
+abbrev Told : tie.After-correct-error → Attempt → Type 0
+Told c = (let s = start c in Tried _ _ _ _ _ _ _ _ (s .pre .0) [] _ _ (s .pre .1) (s .args .out .now) (c .correct-error .last .1 .1 .1 .1 .1 .1 .1 .1 .0))
+
+tried : (c : tie.After-correct-error) → Told c (c .correct-error .result)
 tried c =
-    let s = c .before .before .before .before .before .before .before .before in
+    let s = start c in
     let a = s .args in
-    rw (tail-part (a .read .now) (a .p .at) ∙ rest-is _ _ _ _ _ _ _ _ _ (s .pre .0), tail-part (a .out .now) (a .p .written), ← (with-solid (a .set .now) (a .counts .now)))
-    at (c .correct-error .ensures)
+    rw (tail-part (a .read .now) (a .p .at) ∙ rest-is _ _ _ _ _ _ _ _ (s .pre .0) [], ← (with-solid (a .set .now) (a .counts .now))) at (c .correct-error .ensures)
+
+abbrev attempt : tie.After-tried → tie.After-correct-error
+attempt c = c .before .before .before .before
 
 mended : (c : tie.After-tried)
-    → let g = c .before .before .before .before in
-    let s = g .before .before .before .before .before .before .before .before in
-    let m = c .tried .given .0 in
-    Tried _ _ _ _ _ _ _ _ _ (s .pre .0) _ _ (s .pre .1) (g .correct-error .last .1 .1 .1 .1 .1 .1 .1 .1 .0) (Mend (m .0) (m .1 .0) (m .1 .1 .0) (m .1 .1 .1 .0))
-mended c =
-    let g = c .before .before .before .before in
-    let s = g .before .before .before .before .before .before .before .before in
-    subst (Tried _ _ _ _ _ _ _ _ _ (s .pre .0) _ _ (s .pre .1) _) (c .tried .given .1) (tried g)
+    → let m = c .tried .given .0 in Told (attempt c) (Mend (m .0) (m .1 .0) (m .1 .1 .0) (m .1 .1 .1 .0) (m .1 .1 .1 .1 .0))
+mended c = subst (Told (attempt c)) (c .tried .given .1) (tried (attempt c))
 
-refused : (c : tie.After-tried2)
-    → let g = c .before .before .before .before .before in
-    let s = g .before .before .before .before .before .before .before .before in
-    Tried _ _ _ _ _ _ _ _ _ (s .pre .0) _ _ (s .pre .1) (g .correct-error .last .1 .1 .1 .1 .1 .1 .1 .1 .0) (Refused (c .tried2 .given .0 .0))
-refused c =
-    let g = c .before .before .before .before .before in
-    let s = g .before .before .before .before .before .before .before .before in
-    subst (Tried _ _ _ _ _ _ _ _ _ (s .pre .0) _ _ (s .pre .1) _) (c .tried2 .given .1) (tried g)
+abbrev attempt2 : tie.After-tried2 → tie.After-correct-error
+attempt2 c = c .before .before .before .before .before
 
--- The letters are inside the output.
-inside : (c : tie.After-tried)
-    → let a = c .before .before .before .before .before .before .before .before .before .before .before .before .args in
-    a .p .written + c .tried .given .0 .0 ≤ length (a .out .now)
-inside c =
-    let s = c .before .before .before .before .before .before .before .before .before .before .before .before in
-    let m = mended c in
-    omega (arith, m .is .0 .written, m .room, length-drop (s .args .p .written) (s .args .out .now), s .pre .0 .stands .written)
+refused : (c : tie.After-tried2) → Told (attempt2 c) (Refused (c .tried2 .given .0 .0))
+refused c = subst (Told (attempt2 c)) (c .tried2 .given .1) (tried (attempt2 c))
 
 sub-correct-error : tie.Need-sub-correct-error
 sub-correct-error c = search needs
@@ -57,15 +48,6 @@ part-correct-error-start c = search needs
 
 part-correct-error-end : tie.Need-part-correct-error-end
 part-correct-error-end c = search needs
-
-sub-correct-error-2 : tie.Need-sub-correct-error-2
-sub-correct-error-2 c = search needs
-
-part-correct-error-start-2 : tie.Need-part-correct-error-start-2
-part-correct-error-start-2 c = search needs
-
-part-correct-error-end-2 : tie.Need-part-correct-error-end-2
-part-correct-error-end-2 c = search needs
 
 correct-error-requires : tie.Need-correct-error-requires
 correct-error-requires c κs = search needs
@@ -82,28 +64,29 @@ same-length c = search needs
 returns : tie.Need-returns
 returns c =
     let g = c .before .before .before .before in
-    let s = g .before .before .before .before .before .before .before .before in
-    let e =
-    is-full (g .correct-error .result) (λ n r l v e. not-mend (rw e at (c .before .match .keys2))) (λ l e. not-refused (rw e at (c .match2 .keys2))) in
-    no-room _ _ _ _ _ _ _ _ _ (s .pre .0) _ _ (s .pre .1) _ (subst (Tried _ _ _ _ _ _ _ _ _ (s .pre .0) _ _ (s .pre .1) _) e (tried g))
+    let s = start g in
+    let e = is-full (g .correct-error .result) (λ n r l v z e. not-mend (rw e at (c .before .match .keys2))) (λ l e. not-refused (rw e at (c .match2 .keys2))) in
+    let full = subst (Told g) e (tried g) in
+    (λ put. no-room _ _ _ _ _ _ _ _ (s .pre .0) put _ _ (s .pre .1) _ _ full, short _ _ _ _ _ _ _ _ (s .pre .0) [] _ _ (s .pre .1) _ _ full)
 
 shared-slice-read-keep : tie.Need-shared-slice-read-keep
 shared-slice-read-keep c = search needs
 
 -- the counts of the whole turn
+fits : (c : tie.After-tried2) → (let s = start (attempt2 c) in Fits (s .args .p) 1 (s .args .asked + c .tried2 .given .0 .0) 1 0)
+fits c =
+    let s = start (attempt2 c) in
+    let t = s .pre .0 in
+    keep-fits _ _ _ _ _ _ _ _ t (t .put) (t .many) (t .countable) false 1 _ (refused-keep _ _ _ _ _ _ _ _ t (t .put) _ _ (s .pre .1) _ _ _ (refused c))
+
 add-keep : tie.Need-add-keep
-add-keep c =
-    let r = c .before .before in
-    let g = r .before .before .before .before .before in
-    let s = g .before .before .before .before .before .before .before .before in
-    omega (arith, refused-fits _ _ _ _ _ _ _ _ _ (s .pre .0) _ _ (s .pre .1) _ (omega (arith, s .good)) _ (refused r) .lookups)
+add-keep c = omega (arith, fits (c .before .before) .lookups)
 
 keep-requires : tie.Need-keep-requires
 keep-requires c κs =
     let r = c .before .before .before in
-    let g = r .before .before .before .before .before in
-    let s = g .before .before .before .before .before .before .before .before in
-    (omega (arith, s .good, s .pre .0 .more), refused-fits _ _ _ _ _ _ _ _ _ (s .pre .0) _ _ (s .pre .1) _ (omega (arith, s .good)) _ (refused r))
+    let s = start (attempt2 r) in
+    (omega (arith, s .good, s .pre .0 .more), fits r)
 
 same-length-2 : tie.Need-same-length-2
 same-length-2 c = search needs
@@ -112,71 +95,38 @@ returns-2 : tie.Need-returns-2
 returns-2 c =
     let k = c .before .before in
     let r = k .before .before .before .before in
-    let g = r .before .before .before .before .before in
-    let s = g .before .before .before .before .before .before .before .before in
-    let l = g .correct-error .last .1 .1 .1 .1 .1 .1 .1 .1 .0 in
-    refused-is _ _ _ _ _ _ _ _ _ (s .pre .0) _ _ (s .pre .1) l _ _ (k .keep .result) (refused r)
-    (rw (tail-back (s .args .out .now) l (s .args .p .written)) at (k .keep .ensures))
-
-add-end : tie.Need-add-end
-add-end c =
-    let s = c .before .before .before .before .before .before .before .before .before .before .before .before .before in
-    omega (arith, inside (c .before), s .good)
-
-sub-mend : tie.Need-sub-mend
-sub-mend c = search needs
-
-part-mend-start : tie.Need-part-mend-start
-part-mend-start c = search needs
-
-part-mend-end : tie.Need-part-mend-end
-part-mend-end c =
-    let m = c .before .before in
-    let g = m .before .before .before .before in
-    let s = g .before .before .before .before .before .before .before .before in
-    omega (
-      arith,
-      inside m,
-      ap length (tail-back (s .args .out .now) (g .correct-error .last .1 .1 .1 .1 .1 .1 .1 .1 .0) (s .args .p .written)),
-      length-back _ _ _ _ _ _ _ _ _ (s .pre .0) _ _ (s .pre .1) (g .correct-error .last .1 .1 .1 .1 .1 .1 .1 .1 .0) (mended m .room),
+    let s = start (attempt2 r) in
+    let t = s .pre .0 in
+    let e = k .keep .ensures in (
+      λ put. rw (e .1)
+          (kept-went _ _ _ _ _ _ _ _ t put _ false 1 _ (attempt2 r .correct-error .last .1 .1 .1 .1 .1 .1 .1 .1 .0) (k .keep .result) (s .pre .1 .kmer) (refused-keep _ _ _ _ _ _ _ _ t put _ _ (s .pre .1) _ _ _ (refused r)) (e .0)),
+      record { kmer = rw (e .0) (s .pre .1 .kmer .kmer); at = rw (e .0) (omega (arith, t .more)) },
     )
+
+mend-fits : (c : tie.After-tried) → (let s = start (attempt c) in Fits (s .args .p) (c .tried .given .0 .0) (s .args .asked + c .tried .given .0 .1 .1 .0) 1 1)
+mend-fits c =
+    let s = start (attempt c) in
+    let t = s .pre .0 in
+    mended-fits _ _ _ _ _ _ _ _ t (t .put) _ _ (s .pre .1) _ _ _ _ _ _ _ (mended c) (t .many) (t .countable)
 
 add-mend : tie.Need-add-mend
-add-mend c =
-    let m = c .before .before .before in
-    let g = m .before .before .before .before in
-    let s = g .before .before .before .before .before .before .before .before in
-    let q = m .tried .given .0 in
-    let l = g .correct-error .last .1 .1 .1 .1 .1 .1 .1 .1 .0 in
-    omega (arith, mended-fits _ _ _ _ _ _ _ _ _ (s .pre .0) _ _ (s .pre .1) l 0 (omega (arith, inside m, s .good)) (q .0) (q .1 .0) (q .1 .1 .0) (q .1 .1 .1 .0) (mended m) .lookups)
+add-mend c = omega (arith, mend-fits (c .before) .lookups)
 
 mend-requires : tie.Need-mend-requires
-mend-requires c κs =
-    let m = c .before .before .before in
-    let g = m .before .before .before .before in
-    let s = g .before .before .before .before .before .before .before .before in
-    let q = m .tried .given .0 in
-    let l = g .correct-error .last .1 .1 .1 .1 .1 .1 .1 .1 .0 in
-    let back = ap length (letters-back _ _ _ _ _ _ _ _ _ (s .pre .0) _ _ (s .pre .1) l (q .0)) ∙ length-take-le (q .0) l (mended m .is .0 .written) in (
-      s .pre .0 .ready .shifts,
-      s .pre .1 .kmer .kmer,
-      s .pre .0 .stands .at,
-      mended-fits _ _ _ _ _ _ _ _ _ (s .pre .0) _ _ (s .pre .1) l _ (omega (arith, inside m, s .good, back)) (q .0) (q .1 .0) (q .1 .1 .0) (q .1 .1 .1 .0) (mended m),
-    )
+mend-requires c κs = (let m = c .before in (start (attempt m) .pre .0 .stands .at, mend-fits m))
 
 same-length-3 : tie.Need-same-length-3
 same-length-3 c = search needs
 
 returns-3 : tie.Need-returns-3
 returns-3 c =
-    let m = c .before .before .before .before in
-    let g = m .before .before .before .before in
-    let s = g .before .before .before .before .before .before .before .before in
-    let q = m .tried .given .0 in
-    let l = g .correct-error .last .1 .1 .1 .1 .1 .1 .1 .1 .0 in
-    rw (tail-back (s .args .out .now) l (s .args .p .written))
-    (mended-place _ _ _ _ _ _ _ _ _ (s .pre .0) _ _ (s .pre .1) l (q .0) (q .1 .0) (q .1 .1 .0) (q .1 .1 .1 .0) (c .mend .result) (mended m)
-    (rw (letters-back _ _ _ _ _ _ _ _ _ (s .pre .0) _ _ (s .pre .1) l (q .0)) at (c .mend .ensures)))
+    let m = c .before .before in
+    let s = start (attempt m) in
+    let t = s .pre .0 in
+    let d = c .mend .ensures in (
+      λ put. mended-is _ _ _ _ _ _ _ _ t put _ _ (s .pre .1) _ _ _ _ _ _ _ (mended m) (c .mend .result) d,
+      record { kmer = rw (d .is) (mended m .is .0 .placed .kmer); at = rw (d .is) (omega arith) },
+    )
 
 pub bad-base-spec : {M : Type 1} → statement M
 bad-base-spec =
@@ -185,9 +135,6 @@ bad-base-spec =
     sub-correct-error
     part-correct-error-start
     part-correct-error-end
-    sub-correct-error-2
-    part-correct-error-start-2
-    part-correct-error-end-2
     correct-error-requires
     enum-known-tried
     enum-known-tried-2
@@ -198,10 +145,6 @@ bad-base-spec =
     keep-requires
     same-length-2
     returns-2
-    add-end
-    sub-mend
-    part-mend-start
-    part-mend-end
     add-mend
     mend-requires
     same-length-3

@@ -3,8 +3,6 @@ use native.Mathlib.Omega.{arith}
 use mathlib.Core.Path.{_≡_, ap, _∙_}
 use mathlib.Core.Bool.{true}
 use mathlib.Core.Logic.{⊎-elim}
-use lib.ListN.{length}
-use Rattle.rules.specs.Letters.{Kmer, addAll, inPlace}
 use Rattle.support.specs.Support.{supportOf}
 use Rattle.turn.specs.Turn.{placeOf}
 use borrow.Author.Needs.{needs}
@@ -17,12 +15,6 @@ sub-if1 c = search needs
 add-at : tie.Need-add-at
 add-at c = search needs
 
-drop-last-requires : tie.Need-drop-last-requires
-drop-last-requires c κs = search needs
-
-add-all-requires : tie.Need-add-all-requires
-add-all-requires c κs = search needs
-
 weaker-requires : tie.Need-weaker-requires
 weaker-requires c κs = search needs
 
@@ -30,25 +22,17 @@ moved-requires : tie.Need-moved-requires
 moved-requires c κs = search needs
 
 returns : tie.Need-returns
-unfolding inPlace supportOf
+unfolding supportOf
 returns c =
     let w = c .before in
-    let l = w .before in
-    let d = l .before in
-    let join = d .before in
-    let a = join .before .before .before .args in
-    let e = l .add-all .ensures in
+    let join = w .before in
+    let a = join .before .before .args in
     let stop : join .if1 .at ≡ min (a .p .at + a .resume) (a .len) = ⊎-elim (λ w. omega arith) (λ w. omega arith) (join .if1 .came) in
     record {
-      kmer = l .add-all .result;
-      placed = record { is = e .is ∙ ap (λ (y : Kmer). addAll (a .head .k) y (a .letters .now)) (d .drop-last .ensures .is); kmer = e .kmer };
       support = w .weaker .result;
       weighed = w .weaker .ensures;
-      is = c .moved .ensures
-          ∙ ap (λ (at : ℕ). placeOf (a .p) (l .add-all .result) true at (length (a .letters .now)) (a .lookups) 1 1 (w .weaker .result)) stop;
+      is = c .moved .ensures ∙ ap (λ (at : ℕ). placeOf (a .p) (a .kmer) true at (a .letters) (a .lookups) 1 1 (w .weaker .result)) stop;
     }
 
 pub mend-spec : {M : Type 1} → statement M
-mend-spec =
-    tie.close
-    (tie.spec sub-if1 add-at drop-last-requires add-all-requires weaker-requires moved-requires returns)
+mend-spec = tie.close (tie.spec sub-if1 add-at weaker-requires moved-requires returns)

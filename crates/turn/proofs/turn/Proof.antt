@@ -1,17 +1,21 @@
+use Prim.Native.Nat.{ℕ, _+_}
 use native.Mathlib.Omega.{arith}
 use borrow.Author.Needs.{needs}
 use borrow.Author.Tests.{not-true, not-false}
-use mathlib.Core.Path.{_≡_, refl, sym, _∙_}
+use mathlib.Core.Path.{_≡_, sym, _∙_}
 use mathlib.Core.Bool.{true, false}
-use lib.ListN.{getD}
+use mathlib.Core.List.{List}
+use lib.ListN.{getD, drop}
 use Rattle.rules.specs.Letters.{addBase}
 use Rattle.rules.specs.Set.{solid}
 use Rattle.rules.specs.Scan.{ask}
+use Rattle.rules.specs.Driver.{keepBase}
 use Rattle.kmer.specs.Kmer.{kmerOf}
 use Rattle.set.specs.Asked.{AskedIs}
 use Rattle.set.specs.Counted.{setWith}
 use Rattle.set.proofs.Counted.{with-solid}
-use Rattle.turn.proofs.Turns.{solid-turn, quiet-turn, keep-fits, kept-is}
+use Rattle.turn.specs.Turn.{stateOf, turnOf}
+use Rattle.turn.proofs.Turns.{solid-turn, quiet-turn, keep-fits, kept-went}
 use Rattle.turn.proofs.turn.Statement.{statement}
 use Rattle.turn.proofs.turn.Tie as tie
 
@@ -24,20 +28,46 @@ add-base-requires c κs = search needs
 ask-requires : tie.Need-ask-requires
 ask-requires c κs = search needs
 
+abbrev start : tie.After-ask → tie.Start
+start c = c .before .before .before .before .before .before .before .before
+
 -- The next k-mer asked.
 answer : (c : tie.After-ask)
-    → let a = c .before .before .before .before .before .before .before .before .args in
+    → let a = start c .args in
     AskedIs (ask (solid (setWith (a .set .now) (a .counts .now))) (addBase (a .head .k) (kmerOf (a .p .kmer)) (getD (a .read .now) (a .p .at) 0))) (c .ask .result)
 answer c =
-    let a = c .before .before .before .before .before .before .before .before .args in
+    let a = start c .args in
     rw (with-solid (a .set .now) (a .counts .now), ← (c .before .add-base .ensures .is)) (c .ask .ensures)
+
+-- a solid k-mer's base
+solid-kept : (c : tie.Then1) (put : List ℕ)
+    → let s = start (c .before) in
+    let a = s .args in
+    let st = stateOf (a .p) (a .read .now) put in
+    let b = getD (a .read .now) (a .p .at) 0 in
+    let rest = drop (a .p .at + 1) (a .read .now) in
+    turnOf (a .set .now) (a .head) (a .counts .now) (a .method) (a .c) st b rest
+    ≡ keepBase st b rest (addBase (a .head .k) (kmerOf (a .p .kmer)) b) true 0 (c .before .ask .result .lookups)
+solid-kept c put = solid-turn _ _ _ _ _ _ _ _ (start (c .before) .pre) put (c .before .ask .result) (answer (c .before)) (c .if1 .taken)
+
+-- the base of a k-mer that is not solid, after one that did not count as solid
+quiet-kept : (c : tie.Then2) (put : List ℕ)
+    → let g = c .before .before in
+    let a = start g .args in
+    let st = stateOf (a .p) (a .read .now) put in
+    let b = getD (a .read .now) (a .p .at) 0 in
+    let rest = drop (a .p .at + 1) (a .read .now) in
+    turnOf (a .set .now) (a .head) (a .counts .now) (a .method) (a .c) st b rest
+    ≡ keepBase st b rest (addBase (a .head .k) (kmerOf (a .p .kmer)) b) false 0 (g .ask .result .lookups)
+quiet-kept c put =
+    let g = c .before .before in
+    quiet-turn _ _ _ _ _ _ _ _ (start g .pre) put (g .ask .result) (answer g) (c .before .if1 .left) (not-true _ (c .if2 .taken))
 
 keep-requires : tie.Need-keep-requires
 keep-requires c κs =
-    let g = c .before .before in
-    let s = g .before .before .before .before .before .before .before .before in
-    let f = keep-fits _ _ _ _ _ _ _ _ _ (s .pre) (omega (arith, s .good)) true 0 _ (solid-turn _ _ _ _ _ _ _ _ _ (s .pre) (g .ask .result) (answer g) (c .before .if1 .taken)) in
-    (omega (arith, s .good, s .pre .more), f)
+    let s = start (c .before .before) in
+    let t = s .pre in
+    (omega (arith, s .good, t .more), keep-fits _ _ _ _ _ _ _ _ t (t .put) (t .many) (t .countable) true 0 _ (solid-kept (c .before) (t .put)))
 
 same-length : tie.Need-same-length
 same-length c = search needs
@@ -46,17 +76,18 @@ returns : tie.Need-returns
 returns c =
     let q = c .before .before in
     let g = q .before .before .before in
-    let s = g .before .before .before .before .before .before .before .before in
-    kept-is _ _ _ _ _ _ _ _ _ (s .pre) (g .before .add-base .result) true 0 (g .ask .result .lookups) (s .args .out .now) _ (q .keep .result) (g .before .add-base .ensures) refl refl
-    (solid-turn _ _ _ _ _ _ _ _ _ (s .pre) (g .ask .result) (answer g) (q .before .before .if1 .taken)) (q .keep .ensures)
+    let s = start g in
+    let e = q .keep .ensures in
+    let h = g .before .add-base .ensures in (
+      λ put. rw (e .1) (kept-went _ _ _ _ _ _ _ _ (s .pre) put _ true 0 _ (s .args .out .now) (q .keep .result) h (solid-kept (q .before .before) put) (e .0)),
+      record { kmer = rw (e .0) (h .kmer); at = rw (e .0) (omega (arith, s .pre .more)) },
+    )
 
 keep-requires-2 : tie.Need-keep-requires-2
 keep-requires-2 c κs =
-    let g = c .before .before .before in
-    let s = g .before .before .before .before .before .before .before .before in
-    let f = keep-fits _ _ _ _ _ _ _ _ _ (s .pre) (omega (arith, s .good)) false 0 _
-    (quiet-turn _ _ _ _ _ _ _ _ _ (s .pre) (g .ask .result) (answer g) (c .before .before .if1 .left) (not-true _ (c .before .if2 .taken))) in
-    (omega (arith, s .good, s .pre .more), f)
+    let s = start (c .before .before .before) in
+    let t = s .pre in
+    (omega (arith, s .good, t .more), keep-fits _ _ _ _ _ _ _ _ t (t .put) (t .many) (t .countable) false 0 _ (quiet-kept (c .before) (t .put)))
 
 same-length-2 : tie.Need-same-length-2
 same-length-2 c = search needs
@@ -65,9 +96,12 @@ returns-2 : tie.Need-returns-2
 returns-2 c =
     let q = c .before .before in
     let g = q .before .before .before .before in
-    let s = g .before .before .before .before .before .before .before .before in
-    kept-is _ _ _ _ _ _ _ _ _ (s .pre) (g .before .add-base .result) false 0 (g .ask .result .lookups) (s .args .out .now) _ (q .keep2 .result) (g .before .add-base .ensures) refl refl
-    (quiet-turn _ _ _ _ _ _ _ _ _ (s .pre) (g .ask .result) (answer g) (q .before .before .before .if1 .left) (not-true _ (q .before .before .if2 .taken))) (q .keep2 .ensures)
+    let s = start g in
+    let e = q .keep2 .ensures in
+    let h = g .before .add-base .ensures in (
+      λ put. rw (e .1) (kept-went _ _ _ _ _ _ _ _ (s .pre) put _ false 0 _ (s .args .out .now) (q .keep2 .result) h (quiet-kept (q .before .before) put) (e .0)),
+      record { kmer = rw (e .0) (h .kmer); at = rw (e .0) (omega (arith, s .pre .more)) },
+    )
 
 bad-base-requires : tie.Need-bad-base-requires
 bad-base-requires c κs =

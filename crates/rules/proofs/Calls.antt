@@ -6,24 +6,24 @@ use mathlib.Core.Path.{_≡_, refl, sym, ap, _∙_}
 use mathlib.Core.Option.{none, some}
 use mathlib.Core.List.{List, [], _∷_, _++_}
 use lib.ListN.{length, replicate}
-use Rattle.rules.specs.Refusal.{Refusal, accepted, refused, Check, _orElse_}
+use Rattle.rules.specs.Refusal.{Refusal, accepted, refused, Check}
 use Rattle.rules.specs.Set.{KmerSet, offering, opened}
 use Rattle.rules.specs.Driver.{weaker}
-use Rattle.rules.specs.Job.{Entry, result, entriesOf}
+use Rattle.rules.specs.Job.{Entry, entriesOf, result}
 use Rattle.rules.specs.Counts.{Fed, sum, passesOf, allPasses, support, supportOver}
-use Rattle.rules.specs.Index.{indexCheck}
-use Rattle.rules.proofs.Offered.{same-corrected}
+use Rattle.rules.specs.Calls.{Given, withoutIndex, unchanged, noRoom, longest, tooLong, results, report, corrected, offerCheck, callBy, call}
 use Rattle.rules.proofs.Support.{weaker-assoc}
-use Rattle.rules.specs.Calls.{Given, withoutIndex, unchanged, noRoom, longest, tooLong, results, report, corrected, countsCheck, offerCheck, callBy, call}
+use Rattle.rules.proofs.Opened.{passed-15}
+use Rattle.rules.proofs.Offered.{same-corrected}
 
 -- ---- sums over passes
 
-sum-append : (f : Fed → ℕ) (ps qs : List Fed) → sum f (ps ++ qs) ≡ sum f ps + sum f qs
+pub sum-append : (f : Fed → ℕ) (ps qs : List Fed) → sum f (ps ++ qs) ≡ sum f ps + sum f qs
 unfolding sum
 sum-append f [] qs = omega arith
 sum-append f (p ∷ ps) qs = omega (arith, sum-append f ps qs)
 
-support-append : (set : KmerSet) (ps qs : List Fed) → supportOver set (ps ++ qs) ≡ weaker (supportOver set ps) (supportOver set qs)
+pub support-append : (set : KmerSet) (ps qs : List Fed) → supportOver set (ps ++ qs) ≡ weaker (supportOver set ps) (supportOver set qs)
 unfolding supportOver weaker
 support-append set [] qs = refl
 support-append set (p ∷ ps) qs =
@@ -70,7 +70,7 @@ module _ (set : KmerSet) (es : List Entry) where
       unfolding corrected
       corrected-fits e = rw (corrected, e)
 
--- ---- the checks first, then the set's
+-- ---- the checks first, then the set's, then those of what is offered
 
 module _ (ending : List ℕ) (reads : List (List ℕ)) (check : Check) (g : Given) where
   pub call-refused : (r : Refusal) → check ≡ some r → call ending reads check g ≡ unchanged g r
@@ -82,18 +82,14 @@ module _ (ending : List ℕ) (reads : List (List ℕ)) (check : Check) (g : Give
   call-not-opened r e o = rw (callBy, e, o)
 
   module _ (set : KmerSet) (e : check ≡ none) (o : opened (g .set) ≡ accepted set) where
-    pub call-index-wrong : (r : Refusal) → indexCheck set (g .index) ≡ some r → call ending reads check g ≡ unchanged g r
-    unfolding call offerCheck _orElse_
-    call-index-wrong r i = rw (callBy, e, o, offerCheck, i)
+    pub call-offer-wrong : (r : Refusal) → offerCheck set (g .index) (g .counts) ≡ some r → call ending reads check g ≡ unchanged g r
+    unfolding call
+    call-offer-wrong r d = rw (callBy, e, o, d)
 
-    module _ (i : indexCheck set (g .index) ≡ none) where
-      pub call-counts-wrong : (r : Refusal) → countsCheck set (g .counts) ≡ some r → call ending reads check g ≡ unchanged g r
-      unfolding call offerCheck _orElse_
-      call-counts-wrong r d = rw (callBy, e, o, offerCheck, i, d)
-
-      -- With an index that passes 15 the call corrects as without one.
-      pub call-opened : countsCheck set (g .counts) ≡ none
-          → call ending reads check g ≡ corrected (offering [] (g .counts) set) (entriesOf (g .job)) ending (withoutIndex g) reads
-      unfolding call offerCheck _orElse_ corrected noRoom withoutIndex
-      call-opened d =
-          rw (callBy, e, o, offerCheck, i, d) (same-corrected (g .set) set o (g .index) (g .counts) i (entriesOf (g .job)) ending g reads)
+    -- With an index that passes 15 the call corrects as without one.
+    pub call-opened : offerCheck set (g .index) (g .counts) ≡ none
+        → call ending reads check g ≡ corrected (offering [] (g .counts) set) (entriesOf (g .job)) ending (withoutIndex g) reads
+    unfolding call corrected noRoom withoutIndex
+    call-opened d =
+        rw (callBy, e, o, d)
+        (same-corrected (g .set) set o (g .index) (g .counts) (passed-15 set (g .index) (g .counts) d) (entriesOf (g .job)) ending g reads)
