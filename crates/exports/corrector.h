@@ -114,7 +114,10 @@ enum {
     CORRECTOR_YIELD = 7, /* accepted * 1000 / attempts to the nearest whole, an exact half to the even neighbour; 0 if there were none */
     CORRECTOR_SUPPORTED = 8, /* 1 if a support is told; 0 if nothing was accepted or no counts were offered */
     CORRECTOR_SUPPORT = 9, /* the smallest count behind the accepted corrections, which may be 0; below 2^32 */
-    CORRECTOR_CALL_NUMBERS = 10, /* how many there are */
+    CORRECTOR_QUOTIENT = 10, /* lookups / bases, the whole quotient; 0 if there are no bases */
+    CORRECTOR_REMAINDER = 11, /* lookups - quotient * bases, below bases; 0 if there are no bases */
+    CORRECTOR_BASES = 12, /* the sum of W: over all passes, the bases beyond the first k */
+    CORRECTOR_CALL_NUMBERS = 13, /* how many there are */
     /* corrector_needs; CORRECTOR_TURNS and CORRECTOR_LOOKUPS stand where they do above */
     CORRECTOR_BYTES = 2, /* that the output will be */
     CORRECTOR_NEEDS_NUMBERS = 5 /* how many there are */
@@ -168,8 +171,10 @@ uint64_t corrector_read(
     uint64_t *answer, size_t answer_length);
 
 /*
- * The same for a batch: lines each ended by byte 10, corrected in turn; so is the output. The numbers are sums over the lines, the support is the
- * smallest of theirs.
+ * The same for a batch: lines each ended by byte 10, corrected in turn; so is the output. The numbers are sums over the lines, and yield, quotient
+ * and remainder are those of the sums; the support is the smallest of theirs.
+ *
+ * To add many calls, add their lookups and their bases and divide once. Quotients, as averages, do not add.
  */
 uint64_t corrector_batch(
     const uint8_t *set, size_t set_length,

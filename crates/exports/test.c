@@ -1,4 +1,4 @@
-/* The library through corrector.h: document 01's samples, jobs of several confirms, every refusal, answers of every length, indexes, counts, needs, threads. */
+/* The library through corrector.h: document 01's samples, yields, lookups for each base, jobs of several confirms, every refusal, answers of every length, indexes, counts, needs, threads. */
 #include "corrector.h"
 
 #include <pthread.h>
@@ -195,6 +195,29 @@ static void test_yields(const uint8_t *set)
     check("all, none, no attempts", yields(set, 7, 7, 1000) && yields(set, 0, 7, 0) && yields(set, 0, 0, 0));
 }
 
+/* ---- lookups for each base */
+
+static int per_base(call *entry, const uint8_t *set, const uint8_t *job, size_t job_length, const char *input, const uint64_t *numbers)
+{
+    struct done done = run(entry, set, job, job_length, input, OUTPUT);
+    return done.number == 0 && done.answer[CORRECTOR_LOOKUPS] == numbers[0] && done.answer[CORRECTOR_BASES] == numbers[1]
+        && done.answer[CORRECTOR_QUOTIENT] == numbers[2] && done.answer[CORRECTOR_REMAINDER] == numbers[3];
+}
+
+/* Lookups, bases, quotient, remainder. */
+#define FOUR(...) (const uint64_t[]){__VA_ARGS__}
+
+static void test_per_base(const uint8_t *set)
+{
+    check("21 lookups for 4 bases", per_base(corrector_read, set, JOB("\3\1"), "AACGCCG", FOUR(21, 4, 5, 1)));
+    check("a read of k letters has no base", per_base(corrector_read, set, JOB("\1\1"), "AAC", FOUR(1, 0, 0, 0)));
+    check("shorter than k", per_base(corrector_batch, set, JOB("\1\1"), "AA\n\n", FOUR(0, 0, 0, 0)));
+    check("no entries, no bases", per_base(corrector_read, set, JOB(""), "AACGCCG", FOUR(0, 0, 0, 0)));
+    check("the bases of every pass", per_base(corrector_read, set, JOB("\1\1\1\1"), "AACC", FOUR(14, 3, 4, 2)));
+    check("the bases of every line", per_base(corrector_batch, set, JOB("\1\1"), "AACGC\nAA\nAACGCCG\nAAC\n", FOUR(29, 6, 4, 5)));
+    check("fewer lookups than bases", per_base(corrector_read, set, JOB("\1\1"), "NNNNAAC", FOUR(1, 4, 0, 1)));
+}
+
 /* ---- jobs: Two mends AACCG with confirm 2 and not with 1, whichever entry has it */
 
 static void test_jobs(const uint8_t *set)
@@ -339,17 +362,17 @@ static int starts_alike(const uint64_t *answer, size_t length, const uint64_t *w
 static int short_answers(call *entry, const uint8_t *set, size_t counted, uint8_t confirm, const char *input)
 {
     struct done whole = run_offered(entry, set, (struct offered){NO_INDEX, rising_counts, counted}, ENTRY(CORRECTOR_ONE, confirm), input, OUTPUT);
-    for (size_t length = 0; length <= 12; length++) {
-        uint64_t answer[14];
+    for (size_t length = 0; length <= 15; length++) {
+        uint64_t answer[17];
         uint8_t output[OUTPUT], work[WORK];
-        for (size_t i = 0; i < 14; i++)
+        for (size_t i = 0; i < 17; i++)
             answer[i] = KEPT;
         memset(output, FILL, OUTPUT);
         memset(work, FILL, WORK);
         uint64_t number = entry(
             set, SET, NO_INDEX, rising_counts, counted, ENTRY(CORRECTOR_ONE, confirm), (const uint8_t *)input, strlen(input), output, OUTPUT, work, WORK,
             answer, length);
-        if (number != whole.number || !starts_alike(answer, length, whole.answer, CORRECTOR_CALL_NUMBERS, 14)
+        if (number != whole.number || !starts_alike(answer, length, whole.answer, CORRECTOR_CALL_NUMBERS, 17)
             || memcmp(output, whole.output, OUTPUT) != 0 || memcmp(work, whole.work, WORK) != 0)
             return 0;
     }
@@ -878,6 +901,7 @@ int main(void)
     sample_set(set);
     test_samples(set);
     test_yields(set);
+    test_per_base(set);
     test_jobs(set);
     test_job_refusals(set);
     test_input_refusals(set);

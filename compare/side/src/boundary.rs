@@ -49,8 +49,8 @@ fn offered(job: &Job) -> (Option<&[u8]>, Option<&[u32]>) {
 }
 
 fn report(report: corrector::Report) -> Report {
-    let corrector::Report { written, turns, lookups, attempts, accepted, yield_, support } = report;
-    Report { written: written as u64, turns, lookups, attempts, accepted, yields: yield_, support }
+    let corrector::Report { written, turns, lookups, attempts, accepted, yield_, support, quotient, remainder, bases } = report;
+    Report { written: written as u64, turns, lookups, attempts, accepted, yields: yield_, support, quotient, remainder, bases }
 }
 
 fn refusal(refusal: corrector::Refusal) -> Refusal {

@@ -65,6 +65,17 @@ pub fn any_counts(rng: &mut Rng, n: usize) -> Vec<u32> {
 /// Numbers of refusals, and 0.
 const REFUSALS: usize = 18;
 
+/// What calls tell of lookups for each base, by name.
+type EachBase = (&'static str, fn(&Report, &[Vec<Pass>]) -> bool);
+
+const EACH_BASE: [EachBase; 5] = [
+    ("lookups and no base", |report, _| report.bases == 0 && report.lookups > 0),
+    ("fewer lookups than bases", |report, _| report.lookups < report.bases),
+    ("nothing left", |report, _| report.bases > 0 && report.remainder == 0),
+    ("a remainder", |report, _| report.remainder > 0),
+    ("another sum by the first passes alone", |report, passes| passes.iter().filter_map(|made| made.first()).map(|pass| pass.w).sum::<u64>() != report.bases),
+];
+
 /// What agreed.
 #[derive(Clone)]
 pub struct Tally {
@@ -82,6 +93,8 @@ pub struct Tally {
     pub supported: u64,
     pub parts: [u64; PARTS.len()],
     pub refusals: [u64; REFUSALS],
+    /// Accepted calls, in the order of `EACH_BASE`.
+    pub each_base: [u64; EACH_BASE.len()],
     /// Calls that told what a batch needs, those of them that told more bytes than any output has, and their refusals.
     pub needs: u64,
     pub long: u64,
@@ -111,6 +124,7 @@ impl Default for Tally {
             supported: 0,
             parts: [0; PARTS.len()],
             refusals: [0; REFUSALS],
+            each_base: [0; EACH_BASE.len()],
             needs: 0,
             long: 0,
             needs_refusals: [0; REFUSALS],
@@ -152,6 +166,7 @@ impl Tally {
         self.long += other.long;
         add_each(&mut self.needs_refusals, &other.needs_refusals);
         add_each(&mut self.refusals, &other.refusals);
+        add_each(&mut self.each_base, &other.each_base);
         add_each(self.by.as_flattened_mut(), other.by.as_flattened());
         add_each(&mut self.by_k, &other.by_k);
         add_each(&mut self.by_confirm, &other.by_confirm);
@@ -177,6 +192,7 @@ impl Tally {
         println!("corrections by k: {}", counts((0..).map(|k: u32| k.to_string()), &self.by_k));
         println!("corrections at {} of 255 confirms", self.by_confirm.iter().filter(|count| **count > 0).count());
         println!("calls with several confirms: {}, of which {} would give other bytes with any one of them alone", self.several, self.apart);
+        println!("lookups for each base, calls with: {}", counts(EACH_BASE.iter().map(|(name, _)| name.to_string()), &self.each_base));
         println!("met: {}", counts(ALL_EVENTS.iter().map(|event| format!("{event:?}")), &self.events));
         let numbers = || (0..).map(|number: u32| number.to_string());
         println!("refusals: {}", counts(numbers(), &self.refusals));
@@ -346,7 +362,8 @@ pub fn check_call(library: &dyn Library, site: &Site, job: &Job, buffers: &mut B
     tally.calls += 1;
     match outcome.answer {
         Err(refusal) => tally.refusals[refusal.number as usize] += 1,
-        Ok(_) => {
+        Ok(report) => {
+            add_each(&mut tally.each_base, &EACH_BASE.map(|(_, holds)| holds(&report, &outcome.passes) as u64));
             tally.several += several_confirms(&calls::entries(job)) as u64;
             tally.apart += tells_confirms_apart(site, job, &outcome) as u64;
         }

@@ -9,7 +9,7 @@ use crate::referee::driver::Pass;
 use crate::referee::needs::Needs;
 use crate::referee::set::Refusal;
 use crate::rng::Rng;
-use crate::samples::{SAMPLES, SUPPORTED};
+use crate::samples::{PER_BASE, SAMPLES, SUPPORTED};
 use crate::set_file::{self, BLOCK};
 use crate::support::{parts_that_tell, PARTS};
 
@@ -26,7 +26,7 @@ const COUNTS: u32 = 6;
 const NEEDS: u32 = 7;
 
 /// Words of a record, and of the list's head.
-const RECORD: usize = 16;
+const RECORD: usize = 19;
 const HEAD: usize = 9;
 
 /// What a replay has room for.
@@ -162,14 +162,18 @@ impl List {
         let lengths = [job.entries.len(), job.input.len(), job.output, job.work, outcome.bytes.len()].map(|length| length as u32);
         let [entries, input, output, work, result] = lengths;
         let answer = match outcome.answer {
-            Ok(report) => [0, 0, report.written, report.turns, report.lookups, report.attempts, report.accepted, report.yields],
-            Err(refusal) => [refusal.number, refusal.place, 0, 0, 0, 0, 0, 0],
+            Ok(report) => {
+                let Report { written, turns, lookups, attempts, accepted, yields, quotient, remainder, bases, .. } = report;
+                [0, 0, written, turns, lookups, attempts, accepted, yields, quotient, remainder, bases]
+            }
+            Err(refusal) => [refusal.number, refusal.place, 0, 0, 0, 0, 0, 0, 0, 0, 0],
         };
-        let [number, place, written, turns, lookups, attempts, accepted, yields] = answer.map(small);
+        let [number, place, written, turns, lookups, attempts, accepted, yields, quotient, remainder, bases] = answer.map(small);
         let support = outcome.answer.ok().and_then(|report| report.support);
         let (supported, support) = (support.is_some() as u32, support.unwrap_or(0));
         self.record([
-            kind, support, entries, input, output, work, result, supported, number, place, written, turns, lookups, attempts, accepted, yields,
+            kind, support, entries, input, output, work, result, supported, number, place, written, turns, lookups, attempts, accepted, yields, quotient,
+            remainder, bases,
         ]);
         for part in [&job.entries, &job.input, &outcome.bytes] {
             self.bytes.extend_from_slice(part);
@@ -679,6 +683,27 @@ fn needs_long(list: &mut List, rng: &mut Rng) {
     }
 }
 
+/// Lookups for each base: the samples; batches of lines about k by lists of entries; lines of which few k-mers are asked for.
+fn per_base(list: &mut List, rng: &mut Rng) {
+    let site = Site::new(crate::samples::set());
+    for (entries, batch, _) in PER_BASE {
+        list.call(&site, &job(Call::Batch, entries, batch.as_bytes()));
+    }
+    for k in (1..=31).step_by(2) {
+        let (site, genome) = if k < 5 { (sets::dense(rng, k), reads::letters(rng, 60)) } else { small_genome(rng, k) };
+        for count in [0, 1, 1, 2, 3, 8] {
+            let entries = any_entries(rng, count, 4);
+            let lengths: Vec<usize> = (0..rng.within(1, 5)).map(|_| (k as usize + rng.below(4)).saturating_sub(rng.below(3))).collect();
+            let mut lines: Vec<_> = lengths.into_iter().map(|length| reads::noisy_of_length(rng, &genome, length)).collect();
+            if rng.percent(30) {
+                lines.push([vec![b'N'; rng.within(1, 40)], genome[..k as usize].to_vec()].concat());
+            }
+            list.call(&site, &job(Call::Batch, &entries, &batch_of(&lines)));
+            list.call(&site, &job(Call::Read, &entries, &genome[..k as usize]));
+        }
+    }
+}
+
 pub fn write(file: &str, seed: u64) -> Result<(), String> {
     let mut list = List::default();
     let rng = &mut Rng::of_unit(seed, u64::MAX);
@@ -699,6 +724,7 @@ pub fn write(file: &str, seed: u64) -> Result<(), String> {
     needs_of_batches(&mut list, rng);
     needs_refused(&mut list, rng);
     needs_long(&mut list, rng);
+    per_base(&mut list, rng);
     list.tally.print();
     println!("{} cases, seed {seed}", list.cases);
     let bytes = list.finish();
@@ -824,6 +850,9 @@ fn expected_answer(record: &[u32; RECORD]) -> Answer {
             accepted: word(14),
             yields: word(15),
             support: (word(7) == 1).then_some(record[1]),
+            quotient: word(16),
+            remainder: word(17),
+            bases: word(18),
         }),
         number => Err(Refusal { number, place: word(9) }),
     }

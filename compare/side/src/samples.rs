@@ -48,6 +48,24 @@ pub const SAMPLES: [Sample; 31] = [
     (Graph, 1, "aacguccg", "aacTCCg", Some(2), Some(18)),
 ];
 
+/// Document 02, W10: a job, a batch; its lookups, their quotient by the sum of W, the remainder, and that sum.
+pub type PerBase = (&'static [u8], &'static str, [u64; 4]);
+
+pub const PER_BASE: [PerBase; 9] = [
+    (&[3, 1], "AACGCCG\nAA\n", [21, 5, 1, 4]),
+    (&[1, 1], "AACGC\nAACGCCG\n", [28, 4, 4, 6]),
+    // A read of k letters has a lookup and no base; a shorter one has neither.
+    (&[1, 1], "AAC\n", [1, 0, 0, 0]),
+    (&[1, 1], "AA\n\n", [0, 0, 0, 0]),
+    (&[1, 1], "AACGC\nAA\nAACGCCG\nAAC\n", [29, 4, 5, 6]),
+    (&[], "AACGCCG\n", [0, 0, 0, 0]),
+    // The second pass is fed a base more than the first.
+    (&[1, 1, 1, 1], "AACC\n", [14, 4, 2, 3]),
+    (&[2, 1, 2, 2], "AACCG\n", [74, 18, 2, 4]),
+    // One k-mer is asked for.
+    (&[1, 1], "NNNNAAC\n", [1, 0, 1, 4]),
+];
+
 /// A read through a job, over keys with counts: the result and the support that is told.
 pub struct Supported {
     pub k: u64,
@@ -169,6 +187,12 @@ pub fn wrong(library: &dyn Library) -> Vec<String> {
     if !gives(library, &batch, b"AACTCCG\nAA\n", Some(1), Some(21)) {
         wrong.push("the printed batch differs".to_string());
     }
+    for (entries, batch, expected) in PER_BASE {
+        let told = per_base(library, &job(Call::Batch, entries, batch.as_bytes()));
+        if told != Some(expected) {
+            wrong.push(format!("job {entries:?}, {batch:?} has not lookups, quotient, remainder, sum of W {expected:?}: {told:?}"));
+        }
+    }
     if !index_is_right(library) {
         wrong.push("the index of the samples' set differs".to_string());
     }
@@ -198,6 +222,12 @@ fn below(v: u64) -> u64 {
         59..=60 => 4,
         _ => 5,
     }
+}
+
+fn per_base(library: &dyn Library, job: &Job) -> Option<[u64; 4]> {
+    let (mut output, mut work) = (vec![0; job.output], vec![0; job.work]);
+    let report = library.correct(&set(), job, &mut output, &mut work).ok()?;
+    Some([report.lookups, report.quotient, report.remainder, report.bases])
 }
 
 fn gives(library: &dyn Library, job: &Job, result: &[u8], turns: Option<u64>, lookups: Option<u64>) -> bool {

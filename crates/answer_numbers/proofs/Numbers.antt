@@ -27,6 +27,6 @@ module _ (bytes : List ℕ) where
 
 -- ---- a support
 
-pub support-told : (supported : Bool) (v : ℕ) → bit supported ∷ supportNumber supported v ∷ [] ≡ supportNumbers (supportTold supported v)
-support-told true v = refl
-support-told false v = refl
+pub support-told : (supported : Bool) (v : ℕ) (ns : List ℕ) → bit supported ∷ supportNumber supported v ∷ ns ≡ supportNumbers (supportTold supported v) ns
+support-told true v ns = refl
+support-told false v ns = refl

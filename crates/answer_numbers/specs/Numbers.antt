@@ -9,25 +9,26 @@ use Rattle.rules.specs.Refusal.{Refusal, Outcome, accepted, refused}
 use Rattle.rules.specs.Report.{Report}
 use Rattle.rules.specs.Set.{KmerSet, opened}
 use Rattle.rules.specs.Solid.{Solids}
-use Rattle.rules.specs.Needs.{Needs}
+use Rattle.rules_needs.specs.Needs.{Needs}
 use Rattle.opening.specs.declared.Opened.{Opened}
 use Rattle.opening.specs.Opened.{Opens}
 
--- A support: supported (1 or 0), and the smallest count, 0 where there is none.
-abbrev pub supportNumbers : Option ℕ → List ℕ
-supportNumbers none = 0 ∷ 0 ∷ []
-supportNumbers (some v) = 1 ∷ v ∷ []
+-- A support: supported (1 or 0), and the smallest count, 0 where there is none; then other numbers.
+abbrev pub supportNumbers : Option ℕ → List ℕ → List ℕ
+supportNumbers none ns = 0 ∷ 0 ∷ ns
+supportNumbers (some v) ns = 1 ∷ v ∷ ns
 
 abbrev pub supportNumber : Bool → ℕ → ℕ
 supportNumber true v = v
 supportNumber false v = 0
 
--- A call: the refusal's number (0: accepted), its place, then written, turns, lookups, attempts, accepted, yield, supported, support. What does
--- not apply is 0.
+-- A call: the refusal's number (0: accepted), its place, then written, turns, lookups, attempts, accepted, yield, supported, support, quotient,
+-- remainder, bases. What does not apply is 0.
 unfoldable pub numbersOf : Outcome Report → List ℕ
 numbersOf (accepted r) =
-    0 ∷ 0 ∷ r .written ∷ r .turns ∷ r .lookups ∷ r .attempts ∷ r .accepted ∷ r .yield ∷ supportNumbers (r .support)
-numbersOf (refused r) = r .number ∷ r .place ∷ 0 ∷ 0 ∷ 0 ∷ 0 ∷ 0 ∷ 0 ∷ 0 ∷ 0 ∷ []
+    0 ∷ 0 ∷ r .written ∷ r .turns ∷ r .lookups ∷ r .attempts ∷ r .accepted ∷ r .yield
+    ∷ supportNumbers (r .support) (r .quotient ∷ r .remainder ∷ r .bases ∷ [])
+numbersOf (refused r) = r .number ∷ r .place ∷ 0 ∷ 0 ∷ 0 ∷ 0 ∷ 0 ∷ 0 ∷ 0 ∷ 0 ∷ 0 ∷ 0 ∷ 0 ∷ []
 
 -- Where a call answers two numbers: of its refusal, number and place.
 abbrev pub refusedNumbers : Refusal → List ℕ

@@ -22,7 +22,7 @@ fn support_number(supported: bool, support: u32) -> u64
 }
 
 // The numbers of a call.
-pub fn numbers_of(answer: Answer) -> [u64; 10]
+pub fn numbers_of(answer: Answer) -> [u64; 13]
     ensures { λ r. ⌜ r ≡ numbersOf (answerOf answer) ⌝ }
 {
     match answer {
@@ -37,10 +37,16 @@ pub fn numbers_of(answer: Answer) -> [u64; 10]
             report.yield_,
             report.supported as u64,
             support_number(report.supported, report.support),
+            report.quotient,
+            report.remainder,
+            report.bases,
         ],
         Answer::Refused(refusal) => [
             refusal::number_of(refusal),
             refusal::place_of(refusal),
+            0,
+            0,
+            0,
             0,
             0,
             0,

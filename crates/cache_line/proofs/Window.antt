@@ -8,7 +8,7 @@ use mathlib.Core.Bool.{Bool, true, false, _||_, _&&_, cond, false≢true}
 use mathlib.Core.List.{List}
 use borrow.Author.Tests.{eqb-true, eq-eqb, ltb-true, ltb-false, lt-ltb, le-leb, leb-true, leb-false}
 use lib.Dec.{eqb, ltb, leb}
-use Rattle.rules.proofs.Opened.{both}
+use Rattle.rules_laws.proofs.Opened.{both}
 use Rattle.number.proofs.Picked.{if-le}
 use Rattle.few_keys.specs.declared.Found.the-variants.{At, Nothing}
 use Rattle.few_keys.specs.Find.{keyIn, Sorted, LowerBefore, Bracket, Answers}

@@ -35,6 +35,9 @@ fn print_answer(answer: Answer) {
             print(b": written ", report.written as u64);
             print(b" turns ", report.turns);
             print(b" lookups ", report.lookups);
+            print(b" bases ", report.bases);
+            print(b" quotient ", report.quotient);
+            print(b" remainder ", report.remainder);
         }
         Answer::Refused(refusal) => print_refusal(refusal),
     }

@@ -14,10 +14,9 @@ use Rattle.rules.specs.Refusal.{unless, firstFailing}
 use Rattle.rules.specs.Set.{KmerSet, headerK, isNone, checkRight, setCheck, setOf}
 use Rattle.rules.specs.Blocks.{blocksFor}
 use Rattle.rules.specs.Index.{indexEntry, indexEntries, indexList, indexBlocks, sameBytes, indexCheck}
-use Rattle.rules.proofs.Keys.{none-fails, is-none}
-use Rattle.rules.proofs.Blocks.{Bytes}
-use Rattle.rules.proofs.MakeSet.{none-failing}
-use Rattle.rules.proofs.Index as Rules
+use Rattle.rules_laws.proofs.Keys.{none-fails, none-failing, is-none}
+use Rattle.rules_laws.proofs.Blocks.{Bytes}
+use Rattle.rules_laws.proofs.Index as Rules
 use Rattle.opening.proofs.Opening.{set-k}
 use Rattle.index.proofs.Laws.{set-keys}
 use Rattle.check_index.specs.Words.{wordRight}

@@ -14,7 +14,7 @@ use Rattle.turn.proofs.Ends.{turnsOf-keeps, turnsOf-within}
 use Rattle.correct.specs.Pass.{returned}
 use Rattle.rules.specs.Exist.{Mend}
 use Rattle.rules.specs.Driver.{Pass, State, keepBase, mendBase, turnsOf, begin, drive}
-use Rattle.rules.proofs.Driver.{finish}
+use Rattle.rules_laws.proofs.Driver.{finish}
 
 -- an attempt is made in a turn, and accepted once at most
 pub record Fewer (a : Pass) : Type 0 where

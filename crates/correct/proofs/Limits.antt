@@ -10,15 +10,15 @@ use lib.ListN.{length}
 use Rattle.rules.specs.Set.{KmerSet, setOf, offering, setCheck, solid, countOf}
 use Rattle.rules.specs.Driver.{Pass, drive}
 use Rattle.rules.specs.Job.{Method, One, Two, Graph, GapSize, methodOf, entry, correctError, pass}
-use Rattle.rules.specs.Counts.{F}
-use Rattle.rules.proofs.Driver.{drive-turns}
-use Rattle.rules.proofs.Lookups.{drive-lookups, drive-short}
-use Rattle.rules.proofs.Demands.{fair, steady}
-use Rattle.rules.proofs.Growth.{pass-within}
+use Rattle.rules_ceiling.specs.Ceiling.{F}
+use Rattle.rules_laws.proofs.Driver.{drive-turns}
+use Rattle.rules_laws.proofs.Lookups.{drive-lookups, drive-short}
+use Rattle.rules_ceiling.proofs.Demands.{fair, steady}
+use Rattle.rules_laws.proofs.Growth.{pass-within}
 use Rattle.set.specs.Counted.{setWith}
 use Rattle.set.proofs.Opened.{opened-k-low, opened-k-high, opened-n-le, set-count}
 use Rattle.rules.specs.Calls.{maxRead}
-use Rattle.correct.specs.Pass.{maxF, Small}
+use Rattle.correct.specs.Pass.{maxF, withBases, Small}
 use Rattle.correct.proofs.Drives.{drive-fewer}
 
 -- What a pass that is fed w bytes can count.
@@ -66,13 +66,14 @@ module _ (bytes counts : List ℕ) (opens : setCheck bytes ≡ none) (c : ℕ) (
         | no gt ↦ omega (arith, drive-short (set .k) (solid set) (countOf set) (correctError set c m) 0 fed (omega arith))
       ]
 
--- fed no more than maxRead bytes
-pub one-small : (w : ℕ) (p : Pass) → w ≤ maxRead → Limited w p → Small 1 p
-one-small w p h l =
+-- fed no more than maxRead bytes, b of them beyond the first k
+pub one-small : (w : ℕ) (p : Pass) (b : ℕ) → w ≤ maxRead → Limited w p → b ≤ w → Small 1 (withBases p b)
+one-small w p b h l fed =
     let m = mul-le-mul-right maxF h in
     record {
       turns = omega (arith, l .turns);
       lookups = omega (arith, l .lookups);
       attempts = omega (arith, l .attempts);
       accepted = omega (arith, l .accepted);
+      bases = omega arith;
     }

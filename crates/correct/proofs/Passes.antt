@@ -1,8 +1,8 @@
 -- A pass of the code is one of the rules.
-use Prim.Native.Nat.{ℕ, _≤_, _<_}
+use Prim.Native.Nat.{ℕ, _-_, _≤_, _<_}
 use native.Mathlib.Omega.{arith}
 use native.Mathlib.Nat.{mul-le-mul-right}
-use mathlib.Core.Path.{_≡_, sym, ap, _∙_}
+use mathlib.Core.Path.{_≡_, sym, ap, ap₂, _∙_}
 use mathlib.Core.Option.{none}
 use mathlib.Core.List.{List}
 use lib.ListN.{length, take, drop}
@@ -13,6 +13,7 @@ use Rattle.rules.specs.Set.{KmerSet, offering, solid, countOf}
 use Rattle.rules.specs.Driver as Rules
 use Rattle.rules.specs.Driver.{begin, drive}
 use Rattle.rules.specs.Job.{entry, pass}
+use Rattle.rules.specs.Counts.{W}
 use Rattle.kmer.specs.declared.Header.{Header}
 use Rattle.kmer.specs.Kmer.{kmerOf}
 use Rattle.set.specs.Ready.{Ready}
@@ -22,11 +23,11 @@ use Rattle.set.proofs.Counted.{with-solid}
 use Rattle.support.specs.Support.{supportOf}
 use Rattle.turn.specs.declared.Place.{Place}
 use Rattle.rules.specs.Calls.{maxRead}
-use Rattle.correct.specs.Pass.{Begun, returned, maxF}
+use Rattle.correct.specs.Pass.{Begun, withBases, onePass, returned, maxF, Small}
 use Rattle.turn.specs.Turn.{stateOf, Stands, Countable, attemptOf, endOf}
 use Rattle.turn.proofs.Turns.{set-k}
 use Rattle.correct.proofs.Drives.{drive-short-is, drive-is, drive-long}
-use Rattle.correct.proofs.Limits.{Limited}
+use Rattle.correct.proofs.Limits.{Limited, one-small}
 
 pub countable : (w : ℕ) (p : Rules.Pass) → w ≤ maxRead → Limited w p → Countable p
 countable w p h l =
@@ -47,8 +48,20 @@ module _ (bytes starts : List ℕ) (head : Header) (ready : Ready bytes starts h
   unfolding pass entry offering
   pass-is = ap (λ (k : ℕ). drive k (solid set) (countOf set) (attemptOf bytes counts method c) read) (set-k ready)
 
-  pub pass-short : length read < head .k → pass set (entry method c) read ≡ returned read
-  pass-short lt = pass-is ∙ drive-short-is (head .k) (solid set) (countOf set) (attemptOf bytes counts method c) read lt
+  -- W, by the header's k
+  bases-are : onePass set (entry method c) read .bases ≡ length read - head .k
+  unfolding onePass W offering
+  bases-are = ap (λ (k : ℕ). length read - k) (set-k ready)
+
+  pub one-pass-small : length read ≤ maxRead → Limited (length read) (pass set (entry method c) read) → Small 1 (onePass set (entry method c) read)
+  unfolding onePass
+  one-pass-small h l = one-small (length read) (pass set (entry method c) read) _ h l (omega (arith, bases-are))
+
+  pub pass-short : length read < head .k → onePass set (entry method c) read ≡ withBases (returned read) 0
+  unfolding onePass
+  pass-short lt =
+      let w : length read - head .k ≡ 0 = omega arith in
+      ap₂ withBases (pass-is ∙ drive-short-is (head .k) (solid set) (countOf set) (attemptOf bytes counts method c) read lt) (bases-are ∙ w)
 
   pub pass-long : head .k ≤ length read → head .k ≤ length (pass set (entry method c) read .bytes)
   pass-long le = rw pass-is (drive-long (head .k) (solid set) (countOf set) (attemptOf bytes counts method c) read le)
@@ -74,6 +87,12 @@ module _ (bytes starts : List ℕ) (head : Header) (ready : Ready bytes starts h
         done = record { bytes = take k read; turns = 0; lookups = l-is i; attempts = 0; accepted = 0; support = none };
       }) in
       ap (endOf bytes head counts method c) begun ∙ sym (drive-is k sol count ce read le) ∙ sym pass-is
+
+  -- and with its W
+  pub tally-begun : {p : Place} → Begun bytes head read p → head .k ≤ length read
+      → withBases (endOf bytes head counts method c (stateOf p read (take (head .k) read))) (length read - head .k) ≡ onePass set (entry method c) read
+  unfolding onePass
+  tally-begun b le = ap₂ withBases (pass-begun b le) (sym bases-are)
 
   pub begun-stands : {p : Place} → Begun bytes head read p → head .k ≤ length read → Stands (head .k) p read
   begun-stands b le = record { kmer = rw (b .is) (b .letters .kmer); at = rw (b .is) le }

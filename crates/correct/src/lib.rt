@@ -1,5 +1,5 @@
 // The driver, `Corrector::correct` of src/correct/mod.rs: a pass, which is one read through one method. Document 01, "Driver", and document
-// 02, W8.
+// 02, W8 and W10.
 use kmer::Header;
 use kmer::Kmer;
 use turn::Place;
@@ -7,14 +7,14 @@ use turn::Turned;
 ghost use mathlib.Core.Path.{_≡_};
 ghost use Prim.Native.Nat.{_≤_};
 ghost use lib.ListN.{length, take};
-ghost use Rattle.rules.specs.Job.{entry, pass};
+ghost use Rattle.rules.specs.Job.{entry};
 ghost use Rattle.set.specs.Ready.{Ready};
 ghost use Rattle.set.specs.Counted.{setWith};
 ghost use Rattle.rules.specs.Calls.{maxRead};
-ghost use Rattle.correct.specs.Pass.{Begun, countsOf, unchangedBy, returned, PassIs, Passed};
-ghost use Rattle.correct.specs.Drive.{lentFrom, Driving, Driven};
+ghost use Rattle.correct.specs.Pass.{Begun, countsOf, unchangedBy, withBases, onePass, returned, PassIs, Passed};
+ghost use Rattle.correct.specs.Drive.{Driving, Driven};
 
-// What was written and counted, and the smallest count behind the accepted corrections, if there are any.
+// What was written and counted, the smallest count behind the accepted corrections, if there are any, and the bases beyond the first k (W).
 pub struct Counts {
     pub written: usize,
     pub turns: u64,
@@ -22,6 +22,7 @@ pub struct Counts {
     pub attempts: u64,
     pub accepted: u64,
     pub support: u32,
+    pub bases: u64,
 }
 
 // Full: the result is longer than the output.
@@ -30,7 +31,7 @@ pub enum Pass {
     Full,
 }
 
-fn copy(src: &[u8], dst: &mut [u8])
+pub fn copy(src: &[u8], dst: &mut [u8])
     requires { ⌜ length (now src) ≤ length (now dst) ⌝ }
     ensures { λ _. ⌜ take (length (now (src .entry))) (now (dst .exit)) ≡ now (src .entry) ⌝ }
 {
@@ -60,9 +61,9 @@ pub fn begin(set: &[u8], starts: &[u32], head: Header, read: &[u8]) -> Place
     }
 }
 
-// What is done at the end of a pass.
-pub fn counts_of(p: Place) -> Counts
-    ensures { λ r. ⌜ r ≡ countsOf p ⌝ }
+// What is done at the end of a pass with so many bases beyond the first k.
+fn counts_of(p: Place, bases: u64) -> Counts
+    ensures { λ r. ⌜ r ≡ countsOf p bases ⌝ }
 {
     Counts {
         written: p.written,
@@ -71,6 +72,7 @@ pub fn counts_of(p: Place) -> Counts
         attempts: p.attempts,
         accepted: p.accepted,
         support: p.support,
+        bases,
     }
 }
 
@@ -85,19 +87,14 @@ pub fn unchanged(len: usize) -> Counts
         attempts: 0,
         accepted: 0,
         support: 0,
+        bases: 0,
     }
 }
 
-// Where the part of a buffer begins that a turn is lent: behind what is written, or at its start where nothing is kept.
-fn lent_from(kept: bool, written: usize) -> usize
-    ensures { λ r. ⌜ r ≡ lentFrom kept written ⌝ }
-{
-    if kept { written } else { 0 }
-}
-
-// Turns until no base is left. A pass whose bytes are kept lends each turn what is left of the buffer; one whose bytes are only counted lends
-// the whole buffer anew, for GapSize to look back at its letters. One loop for both, so that the turn becomes part of it: its stack frame
-// has GapSize's filters, too much to lay out anew for every base.
+// Turns until no base is left. A turn is lent what is left of the buffer behind the bytes written, or behind `limit` of them: a pass whose
+// bytes are kept has the buffer's length for it, and one whose bytes are only counted 0, so that GapSize can look back at its letters. Bytes
+// beyond the limit are counted on. One loop for both, so that the turn becomes part of it: its stack frame has GapSize's filters, too much
+// to lay out anew for every base.
 pub fn turns_of(
     set: &[u8],
     starts: &[u32],
@@ -107,11 +104,11 @@ pub fn turns_of(
     c: u8,
     first: Place,
     read: &[u8],
-    kept: bool,
+    limit: usize,
     out: &mut [u8],
 ) -> Pass
-    requires { ⌜ Driving (now set) (now starts) head (now counts) method c first (now read) kept (now out) ⌝ }
-    ensures { λ r. ⌜ Driven (now (set .entry)) head (now (counts .entry)) method c first (now (read .entry)) kept (now (out .entry)) (now (out .exit)) r ⌝ }
+    requires { ⌜ Driving (now set) (now starts) head (now counts) method c first (now read) limit (now out) ⌝ }
+    ensures { λ r. ⌜ Driven (now (set .entry)) head (now (counts .entry)) method c first (now (read .entry)) limit (now (out .entry)) (now (out .exit)) r ⌝ }
 {
     let mut p = first;
     let mut ahead = scan::first_ahead(head.n, read.len());
@@ -125,7 +122,7 @@ pub fn turns_of(
             };
             ahead = scan::read_ahead(set, starts, head, kmer, read, p.at);
         }
-        let from = lent_from(kept, p.written);
+        let from = number::lesser(p.written, limit);
         let turned = turn::turn(
             set,
             starts,
@@ -140,18 +137,14 @@ pub fn turns_of(
         let Turned::To(next) = turned else {
             return Pass::Full;
         };
-        let end = lent_from(kept, next.written);
-        if out.len() < end {
-            return Pass::Full;
-        }
         p = next;
     }
-    Pass::Done(counts_of(p))
+    Pass::Done(counts_of(p, (read.len() - head.k) as u64))
 }
 
 // The read as it is.
 pub fn copied(read: &[u8], out: &mut [u8]) -> Pass
-    ensures { λ r. ⌜ PassIs (length (now (out .entry))) (now (out .exit)) (returned (now (read .entry))) r ⌝ }
+    ensures { λ r. ⌜ PassIs (length (now (out .entry))) (now (out .exit)) (withBases (returned (now (read .entry))) 0) r ⌝ }
 {
     if out.len() < read.len() {
         return Pass::Full;
@@ -173,7 +166,7 @@ pub fn correct(
 ) -> Pass
     requires { ⌜ Ready (now set) (now starts) head × (1 ≤ c) × (length (now read) ≤ maxRead) ⌝ }
     ensures { λ r. ⌜
-        Passed (now (out .entry)) (now (out .exit)) (pass (setWith (now (set .entry)) (now (counts .entry))) (entry method c) (now (read .entry))) r ⌝ }
+        Passed (now (out .entry)) (now (out .exit)) (onePass (setWith (now (set .entry)) (now (counts .entry))) (entry method c) (now (read .entry))) r ⌝ }
 {
     let k = head.k;
     if read.len() < k {
@@ -184,5 +177,13 @@ pub fn correct(
     }
     copy(&read[..k], out);
     let first = begin(set, starts, head, read);
-    turns_of(set, starts, head, counts, method, c, first, read, true, out)
+    let room = out.len();
+    let passed = turns_of(set, starts, head, counts, method, c, first, read, room, out);
+    let Pass::Done(done) = passed else {
+        return Pass::Full;
+    };
+    if room < done.written {
+        return Pass::Full;
+    }
+    Pass::Done(done)
 }

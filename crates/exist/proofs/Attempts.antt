@@ -16,7 +16,7 @@ use Rattle.rules.specs.Driver.{weaker, weakest}
 use Rattle.kmer.specs.declared.Kmer.{Kmer as KmerOf}
 use Rattle.kmer.specs.Kmer.{HasLetters}
 use Rattle.scan.specs.Attempt.{Attempted}
-use Rattle.scan.proofs.Laws.{alternative-four}
+use Rattle.successors.proofs.Laws.{alternative-four}
 use Rattle.scan.specs.declared.Attempt.the-variants.{Mend as Mended, Refused}
 use Rattle.scenario.specs.declared.Mend.{Mend}
 use Rattle.scenario.specs.Scenario.{ofCode, spelledOut}

@@ -9,7 +9,7 @@ use lib.ListN.{length, getD, take, set, length-append, List·getD-append}
 use lib.Seq.{getD-at, take-suc, take-suc-set, take-all}
 use lib.Bits.{bitAnd, and-mask}
 use Rattle.rules.specs.Letters.{Kmer, code, letter, lastLetter, dropLast, last, addAll, inPlace}
-use Rattle.rules.proofs.Kmer.{two-four, code-letter}
+use Rattle.rules_laws.proofs.Kmer.{two-four, code-letter}
 use Rattle.scenario.specs.declared.Mend.{Mend}
 use Rattle.scenario.specs.Scenario.{ofCode, spelledOut}
 use Rattle.exist.specs.Exist.{LetterIs}

@@ -1,10 +1,10 @@
 // Document 01, "Correctors", One and Two: ports src/correct/exist/mod.rs. The choice among the scenarios that trials keep.
 use kmer::Header;
 use kmer::Kmer;
-use scan::Alt;
 use scan::Attempt;
 use scenario::Mend;
 use set::Asked;
+use successors::Alt;
 use trials::Scenarii;
 ghost use mathlib.Core.Path.{_≡_};
 ghost use Prim.Native.Nat.{_≤_, _<_, _^_};
@@ -161,8 +161,8 @@ pub fn correct_error(
         (errorLen (head .k) (solid (setOf (now (set .entry)))) (kmerOf kmer) (now (s .entry)) .index) (now (out .entry)) (now (out .exit))
         (after made (rules.exist (head .k) (solid (setOf (now (set .entry)))) c (now (s .entry)) (scenarios two (head .k) (solid (setOf (now (set .entry))))) (kmerOf kmer))) r ⌝ }
 {
-    let Alt::Kmer(x, _) = scan::sole_alt(set, starts, head, kmer) else {
-        let lookups = made + scan::alt_cost(kmer, head);
+    let Alt::Kmer(x, _) = successors::sole_alt(set, starts, head, kmer) else {
+        let lookups = made + successors::alt_cost(kmer, head);
         return Attempt::Refused(lookups);
     };
     let confirm = c as usize;

@@ -9,7 +9,7 @@ use Rattle.rules.specs.Set.{KmerSet}
 use Rattle.rules.specs.Job.{Entry}
 use Rattle.rules.specs.Calls.{After}
 use Rattle.rules.specs.Blocks.{Made}
-use Rattle.rules.specs.MakeSet.{SetMade}
+use Rattle.rules_make.specs.MakeSet.{SetMade}
 use Rattle.refusal.specs.declared.Refusal.{Refusal}
 use Rattle.refusal.specs.declared.Refusal.the-variants as Refusals
 use Rattle.refusal.specs.Refusal.{refusalOf}
@@ -17,7 +17,7 @@ use Rattle.report.specs.declared.Answer.{Answer}
 use Rattle.report.specs.declared.Answer.the-variants as Answers
 use Rattle.report.specs.Answer as Report
 use Rattle.report.specs.Answer.{answerOf}
-use Rattle.rules.specs.Needs as Rules
+use Rattle.rules_needs.specs.Needs as Rules
 use Rattle.needs.specs.declared.Answer.{Answer as NeedsAnswer}
 use Rattle.needs.specs.declared.Answer.the-variants as Needed
 use Rattle.needs.specs.Needs as Needs

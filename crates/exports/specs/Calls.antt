@@ -5,11 +5,11 @@ use mathlib.Core.List.{List}
 use lib.ListN.{length, getD}
 use Rattle.rules.specs.Set.{KmerSet}
 use Rattle.rules.specs.Job.{Entry}
-use Rattle.rules.specs.Counts.{Demand3}
+use Rattle.rules_ceiling.specs.Ceiling.{Demand3}
 use Rattle.rules.specs.Calls.{After}
-use Rattle.rules.specs.Needs as Needs
+use Rattle.rules_needs.specs.Needs as Needs
 use Rattle.rules.specs.Blocks.{Made}
-use Rattle.rules.specs.MakeSet.{SetMade}
+use Rattle.rules_make.specs.MakeSet.{SetMade}
 use Rattle.answer_numbers.specs.Numbers.{numbersOf, needsNumbers, madeNumbers, Told}
 
 -- Every number and each lent byte are those of the rules.

@@ -1,10 +1,9 @@
-// Document 01, "GapSize": ports src/correct/gap_size.rs. Document 02, W8: the smallest count of the k-mers from x on.
+// Document 01, "GapSize": ports src/correct/gap_size.rs.
 use kmer::Header;
 use kmer::Kmer;
-use scan::Alt;
 use scan::Attempt;
 use scan::Scan;
-use scan::Sole;
+use successors::Alt;
 ghost use Prim.Native.Nat.{_-_, _^_, _≤_, _<_};
 ghost use lib.ListN.{length};
 ghost use Rattle.rules.specs.Set.{solid, setOf, countOf};
@@ -15,49 +14,7 @@ ghost use Rattle.kmer.specs.Kmer.{kmerOf, IsKmer};
 ghost use Rattle.set.specs.Ready.{Ready};
 ghost use Rattle.set.specs.Counted.{setWith};
 ghost use Rattle.scan.specs.Attempt.{Attempted};
-ghost use Rattle.gap_size.specs.Gap.{Fillable, GapIs};
-
-// The moves of a gap from x, which has that count, after all lookups up to x.
-fn fill(
-    set: &[u8],
-    starts: &[u32],
-    head: Header,
-    counts: &[u32],
-    scan: Scan,
-    x: Kmer,
-    count: u32,
-    filter: &mut [u64],
-    out: &mut [u8],
-) -> Attempt
-    requires { ⌜ Fillable (now set) (now starts) head (now counts) scan x count (now out) × (0 < length (now filter)) ⌝ }
-    ensures { λ r. ⌜ GapIs (now (set .entry)) head (now (counts .entry)) scan x (now (out .entry)) (now (out .exit)) r ⌝ }
-{
-    let mut lookups = scan.lookups + 4;
-    graph::write_last(out, 0, x);
-    let mut before = passed::begin(head, x, filter);
-    let mut at = x;
-    let mut weakest = count;
-    let mut places = [0usize; 4];
-    let moves = scan.index - head.k;
-    for i in 0..moves {
-        lookups += 4;
-        let Sole::Nuc(nuc) = scan::sole_nuc(scan::next_nucs(set, starts, head, at, &mut places))
-        else {
-            return Attempt::Refused(lookups);
-        };
-        let next = kmer::add_nuc_to_end(at, nuc, head);
-        let met = passed::meet(head, x, out, i, before, next, filter);
-        if met.repeats {
-            return Attempt::Refused(lookups);
-        }
-        before = met.maybe;
-        weakest = support::lower(weakest, support::count_at(counts, places[nuc as usize]));
-        graph::write_last(out, i + 1, next);
-        at = next;
-    }
-    let letters = moves + 1;
-    Attempt::Mend(letters, letters, lookups, weakest, at)
-}
+ghost use Rattle.gap.specs.Gap.{Fillable, GapIs};
 
 // The filter goes by the number of moves, a word for two of them where it can, so that a short gap clears little.
 fn fill_short(
@@ -74,7 +31,7 @@ fn fill_short(
     ensures { λ r. ⌜ GapIs (now (set .entry)) head (now (counts .entry)) scan x (now (out .entry)) (now (out .exit)) r ⌝ }
 {
     let mut filter = [0u64; 64];
-    fill(set, starts, head, counts, scan, x, count, &mut filter, out)
+    gap::fill(set, starts, head, counts, scan, x, count, &mut filter, out)
 }
 
 fn fill_long(
@@ -91,7 +48,7 @@ fn fill_long(
     ensures { λ r. ⌜ GapIs (now (set .entry)) head (now (counts .entry)) scan x (now (out .entry)) (now (out .exit)) r ⌝ }
 {
     let mut filter = [0u64; 4096];
-    fill(set, starts, head, counts, scan, x, count, &mut filter, out)
+    gap::fill(set, starts, head, counts, scan, x, count, &mut filter, out)
 }
 
 fn fill_longest(
@@ -108,7 +65,7 @@ fn fill_longest(
     ensures { λ r. ⌜ GapIs (now (set .entry)) head (now (counts .entry)) scan x (now (out .entry)) (now (out .exit)) r ⌝ }
 {
     let mut filter = [0u64; 131072];
-    fill(set, starts, head, counts, scan, x, count, &mut filter, out)
+    gap::fill(set, starts, head, counts, scan, x, count, &mut filter, out)
 }
 
 fn fill_by_length(
@@ -155,8 +112,8 @@ fn ins_sub_correction(
     if out.len() <= scan.index - head.k {
         return Attempt::Full;
     }
-    let Alt::Kmer(x, place) = scan::sole_alt(set, starts, head, kmer) else {
-        let lookups = scan.lookups + scan::alt_cost(kmer, head);
+    let Alt::Kmer(x, place) = successors::sole_alt(set, starts, head, kmer) else {
+        let lookups = scan.lookups + successors::alt_cost(kmer, head);
         return Attempt::Refused(lookups);
     };
     fill_by_length(

@@ -8,11 +8,11 @@ use mathlib.Core.List.{List}
 use lib.Dec.{ltb, lit≤}
 use lib.ListN.{length, getD}
 use Rattle.rules.specs.Set.{firstLetters, firstCode, headerK, headerN, keyWord, setCheck, setOf}
-use Rattle.rules.specs.MakeSet.{Keys}
+use Rattle.rules.specs.Blocks.{Keys}
 use Rattle.rules.specs.Index.{indexEntry, indexEntries}
-use Rattle.rules.proofs.Kmer.{two-four}
-use Rattle.rules.proofs.Keys.{keys-length, keys-at, checked-keys}
-use Rattle.rules.proofs.Index as Rules
+use Rattle.rules_laws.proofs.Kmer.{two-four}
+use Rattle.rules_laws.proofs.Keys.{keys-length, keys-at, checked-keys}
+use Rattle.rules_laws.proofs.Index as Rules
 
 -- ---- sizes
 

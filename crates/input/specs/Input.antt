@@ -33,3 +33,4 @@ pub record Within (job : List ℕ) (i o w : ℕ) : Type 0 where
   pub confirms : Confirmed (entriesOf job)
   pub output : o ≤ maxOutput
   pub work : 2 * o ≤ w
+  pub work-input : 2 * i ≤ w

@@ -8,7 +8,7 @@ ghost use lib.Dec.{leb, ltb};
 ghost use Rattle.rules.specs.Refusal.{unless, atPlace, firstFailing};
 ghost use Rattle.rules.specs.Job.{known, methodByte, confirmByte, entryCount, lines};
 ghost use Rattle.rules.specs.Calls.{maxRead, buffersRight, jobCheck, inputCheck, batchRight};
-ghost use Rattle.rules.specs.Needs.{needsCheck};
+ghost use Rattle.rules_needs.specs.Needs.{needsCheck};
 ghost use Rattle.input.specs.Input.{checkOf, IsRefused, LineAt};
 
 const MAX_READ: usize = 1048576;

@@ -17,8 +17,8 @@ use Rattle.report.specs.declared.Answer.the-variants.{Refused}
 use Rattle.report.specs.Answer.{Exact, Ceiling}
 use Rattle.refusal.specs.Refusal.{refusalOf}
 use Rattle.offered.specs.Offered.{RefusedBy}
-use Rattle.rules.proofs.Opened.{passed-15}
-use Rattle.rules.proofs.Calls.{call-refused, call-not-opened, call-offer-wrong, call-opened}
+use Rattle.rules_laws.proofs.Opened.{passed-15}
+use Rattle.rules_laws.proofs.Calls.{call-refused, call-not-opened, call-offer-wrong, call-opened}
 use Rattle.report.proofs.Exact.{refused-exact, under-ceiling}
 
 -- ---- the two calls, by what the checks of the input say

@@ -9,9 +9,8 @@ use lib.Dec.{ltb}
 use lib.Seq.{length-front}
 use Rattle.rules.specs.Set.{KmerSet, offering}
 use Rattle.set.specs.Counted.{setWith}
-use Rattle.rules.specs.Driver as Rules
 use Rattle.rules.specs.Job.{Entry, entriesOf, result}
-use Rattle.rules.specs.Counts.{sum, passesOf, allPasses, turns, lookups, attempts, corrections, supportOver}
+use Rattle.rules.specs.Counts.{sum, passesOf, allPasses, turns, lookups, attempts, corrections, supportOver, W}
 use Rattle.rules.specs.Calls.{longest, tooLong, results, corrected}
 use Rattle.correct.specs.declared.Counts.{Counts}
 use Rattle.correct.specs.declared.Pass.{Pass}
@@ -23,8 +22,8 @@ use Rattle.through.specs.Through.{through, ThroughIs, Through}
 use Rattle.report.specs.Answer.{given, Exact}
 use Rattle.input.specs.Input.{Within}
 use Rattle.report.specs.Ending.{Cleared, reportOn}
-use Rattle.rules.proofs.Job.{entriesOf-length}
-use Rattle.rules.proofs.Calls.{too-long-here, too-long-later}
+use Rattle.rules_laws.proofs.Job.{entriesOf-length}
+use Rattle.rules_laws.proofs.Calls.{too-long-here, too-long-later}
 use Rattle.report.proofs.Exact.{throughAll, full-exact, fits-exact}
 
 module _ (set : KmerSet) (es : List Entry) (read : List ℕ) where
@@ -41,6 +40,7 @@ module _ (set : KmerSet) (es : List Entry) (read : List ℕ) where
     attempts = sum (attempts set) (passes-are i);
     accepted = sum (corrections set) (passes-are i);
     support = supportOver set (passes-are i);
+    bases = sum (W set) (passes-are i);
   }
 
   pub single-full : (room : ℕ) → room < longest set es read → tooLong set es [] 0 room (read ∷ []) ≡ some 0

@@ -8,8 +8,8 @@ use mathlib.Core.Bool.{true, false}
 use mathlib.Core.Option.{Option, none, some}
 use mathlib.Core.List.{List, [], _∷_}
 use lib.ListN.{length, take, drop, drop-of-length-le}
-use Rattle.rules.specs.MakeSet.{textLines, textKeys, formRight, lineKey, kept, keptLines, lineKeys, unlessAt, lineCheck, lastKept, linesCheck}
-use Rattle.rules.proofs.MakeSet.{leastAfter, rises-least, line-key-lt}
+use Rattle.rules_make.specs.MakeSet.{textLines, textKeys, formRight, lineKey, kept, keptLines, lineKeys, unlessAt, lineCheck, lastKept, linesCheck}
+use Rattle.rules_make.proofs.MakeSet.{leastAfter, rises-least, line-key-lt}
 use Rattle.kmer.proofs.Laws.{bound}
 use Rattle.kmer_text.specs.Text.{TextLine}
 use Rattle.kmer_text.proofs.Keys.{keysOf, key-kept, key-passed}

@@ -4,7 +4,7 @@ use mathlib.Core.Path.{_≡_}
 use mathlib.Core.Option.{none, some}
 use mathlib.Core.List.{List}
 use lib.ListN.{length}
-use Rattle.rules.specs.MakeSet.{textLines, textKeys, linesCheck}
+use Rattle.rules_make.specs.MakeSet.{textLines, textKeys, linesCheck}
 use Rattle.refusal.specs.Refusal.{refusalOf}
 use Rattle.judge_text.specs.declared.Judged.{Judged}
 use Rattle.judge_text.specs.declared.Judged.the-variants as Judgement

@@ -16,8 +16,8 @@ use lib.Arith.{digits-div, digits-mod, mod-mul}
 use lib.Bits.{bitAnd, bitXor, and-mask, xor-shifted}
 use Rattle.rules.specs.Letters as rules
 use Rattle.rules.specs.Letters.{mask, same, push, add, addAll, hasCode, code, complement, revcomp, evenOnes, canonical}
-use Rattle.rules.proofs.Opened.{both}
-use Rattle.rules.proofs.Kmer.{known-true, ne-known, same-code, four-pos, push-is, push-lt, complement-lt, revcomp-lt, revcomp-first, ones-in, two-four}
+use Rattle.rules_laws.proofs.Opened.{both}
+use Rattle.rules_laws.proofs.Kmer.{known-true, ne-known, same-code, four-pos, push-is, push-lt, complement-lt, revcomp-lt, revcomp-first, ones-in, two-four}
 use Rattle.kmer.specs.declared.Header.{Header}
 use Rattle.kmer.specs.declared.Kmer.{Kmer}
 use Rattle.kmer.specs.Kmer.{Shifts, kmerOf, IsKmer, HasLetters}

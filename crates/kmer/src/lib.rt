@@ -1,6 +1,7 @@
 // Document 01, "Letters", and document 02, W5: codes of bases, and k-mers as numbers in base four. Ports `mask` and `add_nuc_to_end` of src/correct/mod.rs, and
 // `nuc2bit`, `bit2nuc`, `seq2bit` and `canonical` of the crate cocktail.
 ghost use mathlib.Core.Path.{_≡_};
+ghost use mathlib.Core.List.{[]};
 ghost use Prim.Native.Nat.{ℕ, _-_, _<_, _≤_, _^_};
 ghost use lib.ListN.{length, take};
 ghost use Rattle.rules.specs.Letters;
@@ -179,17 +180,24 @@ pub fn drop_last(kmer: Kmer, head: Header) -> Kmer
     }
 }
 
+// k letters A, turned k letters T: a third of the mask has a 1 for each letter.
+pub fn all_a(head: Header) -> Kmer
+    requires { ⌜ Shifts head ⌝ }
+    ensures { λ r. ⌜ HasLetters (head .k) (Letters.kmer (head .k) []) r ⌝ }
+{
+    Kmer {
+        code: 0,
+        rev: head.mask / 3 * complement(0),
+        unknown: 0,
+    }
+}
+
 pub fn seq2bit(seq: &[u8], head: Header) -> Kmer
     requires { ⌜ Shifts head × (head .k ≤ length (now seq)) ⌝ }
     ensures { λ r. ⌜ HasLetters (head .k) (Letters.kmer (head .k) (take (head .k) (now (seq .entry)))) r ⌝ }
 {
     let k = head.k;
-    // k letters A, turned k letters T: a third of the mask has a 1 for each letter.
-    let mut kmer = Kmer {
-        code: 0,
-        rev: head.mask / 3 * complement(0),
-        unknown: 0,
-    };
+    let mut kmer = all_a(head);
     for i in 0..k {
         kmer = add_nuc_to_end(kmer, nuc2bit(seq[i]), head);
     }

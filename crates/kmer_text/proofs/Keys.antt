@@ -3,7 +3,7 @@ use Prim.Native.Nat.{ℕ}
 use mathlib.Core.Path.{_≡_}
 use mathlib.Core.Bool.{true, false}
 use mathlib.Core.List.{List, _∷_}
-use Rattle.rules.specs.MakeSet.{lineKey, kept, keptLines, lineKeys}
+use Rattle.rules_make.specs.MakeSet.{lineKey, kept, keptLines, lineKeys}
 
 abbrev pub keysOf : ℕ → ℕ → List (List ℕ) → List ℕ
 keysOf k least ls = lineKeys k (keptLines k least ls)

@@ -12,8 +12,8 @@ use types.Run.{OneOf}
 use lib.Dec.{leb, lit≤}
 use lib.ListN.{length, getD, take, drop, length-take, length-drop, drop-of-length-le}
 use lib.Seq.{slice, drop-cons, getD-drop, drop-drop, take-all, take-nil}
-use Rattle.rules.proofs.Opened.{both}
-use Rattle.rules.specs.MakeSet.{inFront, textLines, isLetter, isDigit, all, digits, number, formRight}
+use Rattle.rules_laws.proofs.Opened.{both}
+use Rattle.rules_make.specs.MakeSet.{inFront, textLines, isLetter, isDigit, all, digits, number, formRight}
 use Rattle.kmer_text.specs.Text.{TextLine}
 
 -- ---- all bytes

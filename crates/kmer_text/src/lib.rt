@@ -6,7 +6,7 @@ ghost use mathlib.Core.Bool.{true};
 ghost use Prim.Native.Nat.{_≤_, _<_, min};
 ghost use lib.ListN.{length};
 ghost use Rattle.rules.specs.Set.{maxK};
-ghost use Rattle.rules.specs.MakeSet as Rules;
+ghost use Rattle.rules_make.specs.MakeSet as Rules;
 ghost use Rattle.kmer.specs.Kmer.{Shifts};
 ghost use Rattle.kmer_text.specs.Text.{TextLine};
 

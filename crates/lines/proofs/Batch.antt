@@ -7,14 +7,13 @@ use mathlib.Core.Path.{_≡_, refl, sym, ap, ap₂, _∙_, subst}
 use mathlib.Core.Bool.{true}
 use mathlib.Core.Option.{none, some}
 use mathlib.Core.List.{List, [], _∷_, _++_, append-nil, append-assoc}
-use lib.ListN.{length, take, drop, length-append, length-take, length-drop, drop-of-length-le}
+use lib.ListN.{length, take, drop, length-append, length-drop, drop-of-length-le}
 use lib.Dec.{ltb}
 use lib.Seq.{length-take-le, take-add}
 use Rattle.rules.specs.Set.{KmerSet, offering}
-use Rattle.rules.specs.Driver as Rules
 use Rattle.rules.specs.Driver.{weaker}
 use Rattle.rules.specs.Job.{Entry, result, entriesOf, lines, linesFrom}
-use Rattle.rules.specs.Counts.{sum, allPasses, turns, lookups, attempts, corrections, supportOver}
+use Rattle.rules.specs.Counts.{sum, allPasses, turns, lookups, attempts, corrections, supportOver, W}
 use Rattle.rules.specs.Calls.{Given, maxMethods, maxLines, batchRight, tooLong, results, corrected}
 use Rattle.input.specs.Input.{LineAt}
 use Rattle.correct.specs.declared.Counts.{Counts}
@@ -24,21 +23,21 @@ use Rattle.refusal.specs.declared.Refusal.the-variants.{NoRoom}
 use Rattle.report.specs.declared.Answer.{Answer}
 use Rattle.report.specs.declared.Answer.the-variants.{Report as Reported, Refused}
 use Rattle.report.specs.Answer.{Exact}
-use Rattle.correct.specs.Pass.{passOf, Small}
+use Rattle.correct.specs.Pass.{Tally, tallyOf, Small}
 use Rattle.through.specs.Through.{through}
 use Rattle.lines.specs.Lines.{lineThrough, LineIs, summed, Countable}
 use Rattle.report.specs.Ending.{Cleared, reportOn}
 use Rattle.input.specs.Input.{Within}
-use Rattle.rules.proofs.Job.{entriesOf-length}
+use Rattle.rules_laws.proofs.Job.{entriesOf-length}
 use Rattle.report.proofs.Within.{few-lines}
 use Rattle.report.proofs.Exact.{throughAll, full-exact, fits-exact}
-use Rattle.rules.proofs.Support.{weaker-none, weaker-assoc}
+use Rattle.rules_laws.proofs.Support.{weaker-none, weaker-assoc}
 use Rattle.support.specs.Support.{supportOf}
 use Rattle.set.specs.Counted.{setWith}
-use Rattle.rules.proofs.Calls.{sum-first, support-first, too-long-here, too-long-later}
+use Rattle.rules_laws.proofs.Calls.{sum-first, support-first, too-long-here, too-long-later}
 
 -- What q writes and counts, behind p.
-abbrev pub behind : Rules.Pass → Rules.Pass → Rules.Pass
+abbrev pub behind : Tally → Tally → Tally
 behind p q =
     record {
       bytes = p .bytes ++ q .bytes;
@@ -47,9 +46,10 @@ behind p q =
       attempts = p .attempts + q .attempts;
       accepted = p .accepted + q .accepted;
       support = weaker (p .support) (q .support);
+      bases = p .bases + q .bases;
     }
 
-behind-assoc : (p q r : Rules.Pass) → behind (behind p q) r ≡ behind p (behind q r)
+pub behind-assoc : (p q r : Tally) → behind (behind p q) r ≡ behind p (behind q r)
 behind-assoc p q r = λ i. record {
   bytes = append-assoc (p .bytes) (q .bytes) (r .bytes) i;
   turns = add-assoc (p .turns) (q .turns) (r .turns) i;
@@ -57,6 +57,7 @@ behind-assoc p q r = λ i. record {
   attempts = add-assoc (p .attempts) (q .attempts) (r .attempts) i;
   accepted = add-assoc (p .accepted) (q .accepted) (r .accepted) i;
   support = weaker-assoc (p .support) (q .support) (r .support) i;
+  bases = add-assoc (p .bases) (q .bases) (r .bases) i;
 }
 
 -- s is the support of a and b together.
@@ -64,14 +65,14 @@ abbrev pub Weaker : Counts → Counts → ℕ → Type 0
 Weaker a b s =
     supportOf (a .accepted + b .accepted) s ≡ weaker (supportOf (a .accepted) (a .support)) (supportOf (b .accepted) (b .support))
 
-abbrev nothing : Counts
-nothing = record { written = 0; turns = 0; lookups = 0; attempts = 0; accepted = 0; support = 0 }
+abbrev pub nothing : Counts
+nothing = record { written = 0; turns = 0; lookups = 0; attempts = 0; accepted = 0; support = 0; bases = 0 }
 
 module _ (set : KmerSet) (es : List Entry) where
   abbrev ending : List ℕ
   ending = 10 ∷ []
 
-  abbrev all : List (List ℕ) → Rules.Pass
+  abbrev all : List (List ℕ) → Tally
   all = throughAll set es ending
 
   all-first : (read : List ℕ) (reads : List (List ℕ)) → behind (lineThrough set es read) (all reads) ≡ all (read ∷ reads)
@@ -83,9 +84,10 @@ module _ (set : KmerSet) (es : List Entry) where
     attempts = sym (sum-first set es (attempts set) read reads) i;
     accepted = sym (sum-first set es (corrections set) read reads) i;
     support = sym (support-first set es read reads) i;
+    bases = sym (sum-first set es (W set) read reads) i;
   }
 
-  all-none : (p : Rules.Pass) → behind p (all []) ≡ p
+  all-none : (p : Tally) → behind p (all []) ≡ p
   unfolding throughAll results allPasses sum supportOver
   all-none p = λ i. record {
     bytes = append-nil (p .bytes) i;
@@ -94,6 +96,7 @@ module _ (set : KmerSet) (es : List Entry) where
     attempts = add-zero (p .attempts) i;
     accepted = add-zero (p .accepted) i;
     support = weaker-none (p .support) i;
+    bases = add-zero (p .bases) i;
   }
 
   -- `line` of the reads are done, and the rest is left; o is the output, which has room for `room` bytes.
@@ -102,8 +105,8 @@ module _ (set : KmerSet) (es : List Entry) where
     pub length-is : length o ≡ room
     pub written : done .written ≤ length o
     pub left : tooLong set es ending 0 room reads ≡ tooLong set es ending line (room - done .written) rest
-    pub whole : behind (passOf done o) (all rest) ≡ all reads
-    pub small : Small (maxMethods * line) (passOf done o)
+    pub whole : behind (tallyOf done o) (all rest) ≡ all reads
+    pub small : Small (maxMethods * line) (tallyOf done o)
 
   pub begin : (reads : List (List ℕ)) (o : List ℕ) → Going (length o) reads reads 0 nothing o
   unfolding supportOf weaker
@@ -120,8 +123,9 @@ module _ (set : KmerSet) (es : List Entry) where
           attempts = zero-add (all reads .attempts) i;
           accepted = zero-add (all reads .accepted) i;
           support = all reads .support;
+          bases = zero-add (all reads .bases) i;
         };
-        small = record { turns = omega arith; lookups = omega arith; attempts = omega arith; accepted = omega arith };
+        small = record { turns = omega arith; lookups = omega arith; attempts = omega arith; accepted = omega arith; bases = omega arith };
       }
 
   module _ (room : ℕ) (reads : List (List ℕ)) (read : List ℕ) (rest : List (List ℕ)) (line : ℕ) (done : Counts) (o o′ : List ℕ)
@@ -131,16 +135,17 @@ module _ (set : KmerSet) (es : List Entry) where
 
     -- A line more.
     line-bytes : (r : Counts) (s : ℕ) → Weaker done r s → LineIs set es read (done .written) o o′ (Done r) → length o′ ≡ length o
-        → passOf (summed done r s) o′ ≡ behind (passOf done o) (lineThrough set es read)
+        → tallyOf (summed done r s) o′ ≡ behind (tallyOf done o) (lineThrough set es read)
     line-bytes r s v h same =
         let e = h .0 in
         λ i. record {
-          bytes = (take-add (done .written) (r .written) o′ ∙ ap₂ (λ (a b : List ℕ). a ++ b) (h .1) (ap (λ (p : Rules.Pass). p .bytes) e)) i;
+          bytes = (take-add (done .written) (r .written) o′ ∙ ap₂ (λ (a b : List ℕ). a ++ b) (h .1) (ap (λ (p : Tally). p .bytes) e)) i;
           turns = done .turns + e i .turns;
           lookups = done .lookups + e i .lookups;
           attempts = done .attempts + e i .attempts;
           accepted = done .accepted + e i .accepted;
-          support = (v ∙ ap (λ (p : Rules.Pass). weaker (supportOf (done .accepted) (done .support)) (p .support)) e) i;
+          support = (v ∙ ap (λ (p : Tally). weaker (supportOf (done .accepted) (done .support)) (p .support)) e) i;
+          bases = done .bases + e i .bases;
         }
 
     line-done : (r : Counts) (s : ℕ) → Weaker done r s → length es ≤ maxMethods
@@ -149,7 +154,7 @@ module _ (set : KmerSet) (es : List Entry) where
     unfolding through
     line-done r s v few h same =
         let w = r .written in
-        let bytes : take w (drop (done .written) o′) ≡ result set es read ++ ending = ap (λ (p : Rules.Pass). p .bytes) (h .0) in
+        let bytes : take w (drop (done .written) o′) ≡ result set es read ++ ending = ap (λ (p : Tally). p .bytes) (h .0) in
         let w-is : w ≡ length (result set es read) + 1 =
         sym (length-take-le w (drop (done .written) o′) (omega (arith, length-drop (done .written) o′, h .2)))
         ∙ ap length bytes ∙ length-append (result set es read) ending in
@@ -162,15 +167,16 @@ module _ (set : KmerSet) (es : List Entry) where
           written = omega (arith, h .2);
           left = g .left ∙ too-long-later set es ending line (room - done .written) read rest (omega (arith, h .3, g .length-is))
               ∙ ap₂ (λ (i n : ℕ). tooLong set es ending i n rest) (sym (add-one line)) left-is;
-          whole = ap (λ (p : Rules.Pass). behind p (all rest)) (line-bytes r s v h same)
-              ∙ behind-assoc (passOf done o) (lineThrough set es read) (all rest)
-              ∙ ap (behind (passOf done o)) (all-first read rest)
+          whole = ap (λ (p : Tally). behind p (all rest)) (line-bytes r s v h same)
+              ∙ behind-assoc (tallyOf done o) (lineThrough set es read) (all rest)
+              ∙ ap (behind (tallyOf done o)) (all-first read rest)
               ∙ g .whole;
           small = record {
             turns = omega (arith, more .turns, t .turns, few);
             lookups = omega (arith, more .lookups, t .lookups, few);
             attempts = omega (arith, more .attempts, t .attempts, few);
             accepted = omega (arith, more .accepted, t .accepted, few);
+            bases = omega (arith, more .bases, t .bases, few);
           };
         }
 
@@ -179,13 +185,10 @@ module _ (set : KmerSet) (es : List Entry) where
     unfolding tooLong
     all-fit = g .left
 
-    all-done : passOf done o ≡ all reads
-    all-done = sym (all-none (passOf done o)) ∙ g .whole
+    all-done : tallyOf done o ≡ all reads
+    all-done = sym (all-none (tallyOf done o)) ∙ g .whole
 
 -- ---- the code's batch: from is where the next line begins
-
-part-length : (n from : ℕ) (l : List ℕ) → length (take n (drop from l)) ≤ length l
-part-length n from l = omega (arith, length-take n (drop from l), length-drop from l)
 
 module _ (g : Given) where
   abbrev set : KmerSet
@@ -214,6 +217,7 @@ module _ (g : Given) where
         confirms = k .confirms;
         output = omega (arith, k .output);
         work = omega (arith, k .work);
+        work-input = omega (arith, l, k .work-input);
       }
 
   module _ (from end : ℕ) where
@@ -251,6 +255,7 @@ module _ (g : Given) where
             lookups = omega (arith, s .lookups);
             attempts = omega (arith, s .attempts);
             accepted = omega (arith, s .accepted);
+            bases = omega (arith, s .bases);
           },
           few,
         )

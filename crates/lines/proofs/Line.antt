@@ -7,11 +7,11 @@ use mathlib.Core.List.{List, [], _∷_, _++_}
 use lib.ListN.{length, take, drop, set, length-append, length-drop}
 use lib.Seq.{length-take-le, take-at, drop-at, take-append-le, take-set-le, take-suc-set, drop-set-add}
 use Rattle.set.specs.Counted.{setWith}
-use Rattle.rules.specs.Driver as Rules
 use Rattle.rules.specs.Job.{Entry, entriesOf}
 use Rattle.correct.specs.declared.Counts.{Counts}
 use Rattle.correct.specs.declared.Pass.{Pass}
 use Rattle.correct.specs.declared.Pass.the-variants.{Done, Full}
+use Rattle.correct.specs.Pass.{Tally}
 use Rattle.through.specs.Through.{ThroughIs, Through}
 use Rattle.lines.specs.Lines.{LineIs}
 
@@ -77,19 +77,28 @@ module _ (o : List ℕ) (at : ℕ) (h : at < length o) where
           ∙ ap (λ (l : List ℕ). l ++ (10 ∷ [])) (take-append-le n part rest (is .1)))
 
       pub line-done : LineIs (setWith bytes counts) es line at o o₂
-          (Done (record { written = n + 1; turns = done .turns; lookups = done .lookups; attempts = done .attempts; accepted = done .accepted; support = done .support }))
+          (Done (record {
+            written = n + 1;
+            turns = done .turns;
+            lookups = done .lookups;
+            attempts = done .attempts;
+            accepted = done .accepted;
+            support = done .support;
+            bases = done .bases;
+          }))
       line-done =
           let q = is .0 in (
             λ i. record {
-              bytes = (written ∙ ap (λ (p : Rules.Pass). p .bytes ++ (10 ∷ [])) q) i;
+              bytes = (written ∙ ap (λ (p : Tally). p .bytes ++ (10 ∷ [])) q) i;
               turns = q i .turns;
               lookups = q i .lookups;
               attempts = q i .attempts;
               accepted = q i .accepted;
               support = q i .support;
+              bases = q i .bases;
             },
             take-set-le at o₁ (at + n) 10 (omega arith) ∙ take-at (take at o) (part ++ drop room (drop at o)) at front,
             omega (arith, line-within, same),
             omega (arith, is .2, lent-length),
-            record { turns = is .3 .turns; lookups = is .3 .lookups; attempts = is .3 .attempts; accepted = is .3 .accepted },
+            record { turns = is .3 .turns; lookups = is .3 .lookups; attempts = is .3 .attempts; accepted = is .3 .accepted; bases = is .3 .bases },
           )

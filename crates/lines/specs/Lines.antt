@@ -11,11 +11,11 @@ use Rattle.correct.specs.declared.Counts.{Counts}
 use Rattle.correct.specs.declared.Pass.{Pass}
 use Rattle.correct.specs.declared.Pass.the-variants.{Done, Full}
 use Rattle.support.specs.Support.{supportOf}
-use Rattle.correct.specs.Pass.{passOf, Small}
+use Rattle.correct.specs.Pass.{Tally, tallyOf, Small}
 use Rattle.through.specs.Through.{through}
 
 -- A line with byte 10 behind its result.
-abbrev pub lineThrough : KmerSet → List Entry → List ℕ → Rules.Pass
+abbrev pub lineThrough : KmerSet → List Entry → List ℕ → Tally
 lineThrough set es line =
     let p = through set es line in
     record {
@@ -25,16 +25,17 @@ lineThrough set es line =
       attempts = p .attempts;
       accepted = p .accepted;
       support = p .support;
+      bases = p .bases;
     }
 
 -- A line stands behind the first `at` bytes of the output; Full where a pass result and byte 10 are more than what is left.
 abbrev pub LineIs : KmerSet → List Entry → List ℕ → ℕ → List ℕ → List ℕ → Pass → Type 0
 LineIs set es line at o o′ (Done r) =
-    (passOf r (drop at o′) ≡ lineThrough set es line)
+    (tallyOf r (drop at o′) ≡ lineThrough set es line)
     × (take at o′ ≡ take at o)
     × (at + r .written ≤ length o)
     × (longest set es line + 1 ≤ length o - at)
-    × Small (length es) (passOf r (drop at o′))
+    × Small (length es) (tallyOf r (drop at o′))
 LineIs set es line at o o′ Full = length o - at < longest set es line + 1
 
 -- Counts added, with a support s.
@@ -47,6 +48,7 @@ summed a b s =
       attempts = a .attempts + b .attempts;
       accepted = a .accepted + b .accepted;
       support = s;
+      bases = a .bases + b .bases;
     }
 
 -- r is the sum of a and b, its support the weaker of theirs.
@@ -62,3 +64,4 @@ pub record Countable (n : Counts) : Type 0 where
   pub lookups : n .lookups < 2 ^ 64
   pub attempts : n .attempts < 2 ^ 64
   pub accepted : n .accepted < 2 ^ 64
+  pub bases : n .bases < 2 ^ 64

@@ -63,10 +63,11 @@ fn correct_line(
         attempts: done.attempts,
         accepted: done.accepted,
         support: done.support,
+        bases: done.bases,
     })
 }
 
-fn add(a: Counts, b: Counts) -> Counts
+pub fn add(a: Counts, b: Counts) -> Counts
     requires { ⌜ Countable (summed a b 0) ⌝ }
     ensures { λ r. ⌜ Summed a b r ⌝ }
 {
@@ -77,6 +78,7 @@ fn add(a: Counts, b: Counts) -> Counts
         attempts: a.attempts + b.attempts,
         accepted: a.accepted + b.accepted,
         support: support::weaker(a.accepted, a.support, b.accepted, b.support),
+        bases: a.bases + b.bases,
     }
 }
 
@@ -108,6 +110,7 @@ pub fn correct_lines(
         attempts: 0,
         accepted: 0,
         support: 0,
+        bases: 0,
     };
     let mut line = 0;
     let mut from = 0;

@@ -10,8 +10,8 @@ use Rattle.rules.specs.Refusal.{Refusal, accepted, refused}
 use Rattle.rules.specs.Set.{KmerSet, headerK, setCheck, setOf, opened}
 use Rattle.rules.specs.Blocks.{blocksFor, blocksFrom, unmade}
 use Rattle.rules.specs.Index.{indexEntry, entriesFrom, indexEntries, indexList, indexBlocks, makeIndex}
-use Rattle.rules.proofs.Blocks.{Bytes, blocks-length}
-use Rattle.rules.proofs.Index.{entries-length, entries-rise, list-length, list-words}
+use Rattle.rules_laws.proofs.Blocks.{Bytes, blocks-length}
+use Rattle.rules_laws.proofs.Index.{entries-length, entries-rise, list-length, list-words}
 use Rattle.opening.proofs.Opening.{set-k}
 use Rattle.lay.specs.Lay.{Put, Sealed, Holds, Extended}
 use Rattle.lay.proofs.Laws.{extended-none, extended-more, holds-none, sealed-is, cleared-length, laid-short, laid-fits}

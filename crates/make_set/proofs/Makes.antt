@@ -1,20 +1,19 @@
 -- Laws of the call: its checks in their order.
 use Prim.Native.Nat.{ℕ, _+_, _*_, _-_, _%_, _≤_, _<_}
 use native.Mathlib.Omega.{arith}
-use borrow.Author.Tests.{eq-eqb, ne-eqb, le-leb, lt-leb, leb-true}
+use borrow.Author.Tests.{eq-eqb, ne-eqb, le-leb, lt-leb}
 use mathlib.Core.Path.{_≡_, sym, _∙_}
 use mathlib.Core.Bool.{Bool, true, false, _&&_, and-false}
 use mathlib.Core.Option.{none, some}
 use mathlib.Core.List.{List, _++_}
 use lib.Dec.{eqb, leb}
 use lib.ListN.{length, replicate}
-use Rattle.rules.specs.Refusal.{Refusal, accepted, refused, Check, _orElse_, unless}
+use Rattle.rules.specs.Refusal.{Refusal, accepted, refused, unless}
 use Rattle.rules.specs.Set.{maxKeys, kRight}
-use Rattle.rules.specs.Blocks.{blocksFor, fits, filled}
-use Rattle.rules.specs.MakeSet.{textLines, textKeys, textCounts, linesCheck, textCheck, setWords, setBlocks, setUnmade, bothLaid, makeSet}
-use Rattle.rules.proofs.Opened.{passed, unless-passed}
-use Rattle.rules.proofs.Blocks.{blocks-length}
-use Rattle.rules.proofs.MakeSet.{text-counts-length}
+use Rattle.rules.specs.Blocks.{blocksFor, setWords, setBlocks, fits, filled}
+use Rattle.rules_make.specs.MakeSet.{textLines, textKeys, textCounts, linesCheck, textCheck, setUnmade, bothLaid, makeSet}
+use Rattle.rules_laws.proofs.Blocks.{blocks-length}
+use Rattle.rules_make.proofs.MakeSet.{text-counts-length}
 
 module _ (text : List ℕ) (k least : ℕ) where
   pub at-k : kRight k ≡ false → textCheck text k least ≡ some (record { number = 9; place = 0 })

@@ -1,7 +1,7 @@
 -- What making a set answers, in the rules' terms.
 use Prim.Native.Nat.{ℕ}
 use mathlib.Core.List.{List}
-use Rattle.rules.specs.MakeSet.{SetMade}
+use Rattle.rules_make.specs.MakeSet.{SetMade}
 use Rattle.lay.specs.declared.Made.{Made}
 use Rattle.lay.specs.Made.{outcomeOf}
 

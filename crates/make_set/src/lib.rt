@@ -4,7 +4,7 @@ use judge_text::Judged;
 use lay::Made;
 use refusal::Refusal;
 ghost use mathlib.Core.Path.{_≡_};
-ghost use Rattle.rules.specs.MakeSet as Rules;
+ghost use Rattle.rules_make.specs.MakeSet as Rules;
 ghost use Rattle.make_set.specs.Make.{setMadeOf};
 
 const MAX_KEYS: usize = 16777216;

@@ -11,9 +11,9 @@ use Rattle.rules.specs.Set.{setOf, offering, opened}
 use Rattle.rules.specs.Job.{entriesOf, lines}
 use Rattle.rules.specs.Index.{indexCheck}
 use Rattle.rules.specs.Calls.{batchRight, offerCheck}
-use Rattle.rules.specs.Needs as rules
-use Rattle.rules.specs.Needs.{needsCheck, askedCheck, declined}
-use Rattle.rules.proofs.Needs.{needed-any, needs-right, needs-checked, needs-not-opened, needs-offer-wrong, needs-opened, needs-demand3}
+use Rattle.rules_needs.specs.Needs as rules
+use Rattle.rules_needs.specs.Needs.{needsCheck, askedCheck, declined}
+use Rattle.rules_needs.proofs.Needs.{needed-any, needs-right, needs-checked, needs-not-opened, needs-offer-wrong, needs-opened, needs-demand3}
 use Rattle.refusal.specs.declared.Refusal.{Refusal}
 use Rattle.refusal.specs.declared.Refusal.the-variants.{Batch}
 use Rattle.refusal.specs.Refusal.{refusalOf}

@@ -7,18 +7,17 @@ use mathlib.Core.Bool.{true}
 use mathlib.Core.List.{List, [], _∷_}
 use lib.ListN.{length, take, drop, length-append, length-take, length-drop, drop-of-length-le}
 use Rattle.rules.specs.Set.{KmerSet}
-use Rattle.rules.specs.Driver as Rules
 use Rattle.rules.specs.Job.{Entry, entryAt, entryCount, entriesFrom, entriesOf, pass, result, lines, linesFrom}
 use Rattle.rules.specs.Counts.{sum, passesOf, allPasses, turns, lookups}
 use Rattle.rules.specs.Calls.{maxRead, maxLines, batchRight, results, report}
-use Rattle.rules.specs.Needs as rules
-use Rattle.rules.specs.Needs.{neededFor}
-use Rattle.rules.proofs.Calls.{sum-first}
+use Rattle.rules_needs.specs.Needs as rules
+use Rattle.rules_needs.specs.Needs.{neededFor}
+use Rattle.rules_laws.proofs.Calls.{sum-first}
 use Rattle.input.specs.Input.{LineAt}
 use Rattle.report.proofs.Within.{few-lines}
 use Rattle.correct.specs.declared.Counts.{Counts}
 use Rattle.correct.specs.declared.Pass.the-variants.{Done}
-use Rattle.correct.specs.Pass.{maxF}
+use Rattle.correct.specs.Pass.{onePass, maxF}
 use Rattle.count.specs.Count.{Counted}
 use Rattle.needs.specs.declared.Need.{Need}
 use Rattle.needs.specs.Needs.{needsOf, plusLine}
@@ -78,8 +77,9 @@ module _ (set : KmerSet) (e : Entry) where
 
     -- A line more.
     pub next : (from end : ℕ) (done : Need) (more : Counts) {spare : ℕ} → Going from done → LineAt batch from end
-        → Counted (length (take (end - from) (drop from batch))) spare (pass set e (take (end - from) (drop from batch))) (Done more)
+        → Counted (length (take (end - from) (drop from batch))) spare (onePass set e (take (end - from) (drop from batch))) (Done more)
         → Going (end + 1) (plusLine done more)
+    unfolding onePass
     next from end done more g l c =
         let line : List ℕ = take (end - from) (drop from batch) in
         let rest = left (end + 1) in

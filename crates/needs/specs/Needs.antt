@@ -6,10 +6,10 @@ use lib.ListN.{length, replicate}
 use Rattle.rules.specs.Refusal.{Outcome, accepted, refused}
 use Rattle.rules.specs.Set.{KmerSet}
 use Rattle.rules.specs.Job.{Entry, entryCount, entriesOf, Confirmed, lines}
-use Rattle.rules.specs.Counts.{Demand3}
+use Rattle.rules_ceiling.specs.Ceiling.{Demand3}
 use Rattle.rules.specs.Calls.{maxRead}
-use Rattle.rules.specs.Needs as rules
-use Rattle.rules.specs.Needs.{neededFor}
+use Rattle.rules_needs.specs.Needs as rules
+use Rattle.rules_needs.specs.Needs.{neededFor}
 use Rattle.refusal.specs.Refusal.{refusalOf}
 use Rattle.correct.specs.declared.Counts.{Counts}
 use Rattle.needs.specs.declared.Need.{Need}

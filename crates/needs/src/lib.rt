@@ -13,7 +13,7 @@ ghost use lib.ListN.{length};
 ghost use Rattle.rules.specs.Set.{setOf, offering};
 ghost use Rattle.rules.specs.Job.{entriesOf, lines};
 ghost use Rattle.rules.specs.Calls.{batchRight};
-ghost use Rattle.rules.specs.Needs as rules;
+ghost use Rattle.rules_needs.specs.Needs as rules;
 ghost use Rattle.set.specs.Ready.{Ready};
 ghost use Rattle.set.specs.Counted.{setWith};
 ghost use Rattle.needs.specs.Needs.{plusLine, counted, asked, Bookable, Exact, Ceiling};

@@ -10,7 +10,7 @@ use lib.ListN.{length}
 use borrow.Author.Tests.{lt-ltb, eq-eqb, ne-eqb}
 use Rattle.rules.specs.Refusal as Rules
 use Rattle.rules.specs.Refusal.{accepted, refused, atPlace, firstFailing}
-use Rattle.rules.proofs.Opened.{opened-check}
+use Rattle.rules_laws.proofs.Opened.{opened-check}
 use Rattle.rules.specs.Set.{headerK, headerN, headerRight, lengthRight, checkRight, blocks, setCheck, setOf, opened}
 use Rattle.refusal.specs.declared.Refusal.{Refusal}
 use Rattle.refusal.specs.declared.Refusal.the-variants.{Length, Header}

@@ -8,7 +8,7 @@ use mathlib.Core.List.{List, [], _∷_, _++_}
 use mathlib.Core.Bool.{Bool, true, false}
 use lib.Dec.{ltb, leb}
 use Rattle.io.specs.Digits.{glyph, digits, Fewest}
-use Rattle.rules.specs.Program.{digit, decimalIn, decimal}
+use Rattle.rules_program.specs.Program.{digit, decimalIn, decimal}
 
 glyph-digit : (d : ℕ) → d < 10 → glyph d ≡ digit d
 glyph-digit d l = rw (lt-ltb d 10 l)

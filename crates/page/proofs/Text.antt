@@ -5,7 +5,7 @@ use mathlib.Core.Path.{_≡_, refl, sym, ap, _∙_, subst}
 use mathlib.Core.List.{List, [], _∷_, _++_, append-assoc}
 use lib.ListN.{length, take, drop, replicate, length-append, length-replicate}
 use lib.Seq.{paste, take-append-seam, take-length, drop-append-add, drop-nil}
-use Rattle.rules.specs.Program.{zeros}
+use Rattle.rules_program.specs.Program.{zeros}
 use Rattle.page.specs.Page.{Page, Puts, pageLength}
 
 pub length-zeros : (n : ℕ) → length (zeros n) ≡ n

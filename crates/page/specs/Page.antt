@@ -3,7 +3,7 @@ use Prim.Native.Nat.{ℕ, _-_, _≤_}
 use mathlib.Core.Path.{_≡_}
 use mathlib.Core.List.{List, _++_}
 use lib.ListN.{length}
-use Rattle.rules.specs.Program.{zeros}
+use Rattle.rules_program.specs.Program.{zeros}
 
 abbrev pub pageLength : ℕ
 pageLength = 32896

@@ -5,7 +5,7 @@ ghost use mathlib.Core.List.{_++_};
 ghost use mathlib.Core.Path.{_≡_};
 ghost use Prim.Native.Nat.{_+_, _≤_};
 ghost use lib.ListN.{length};
-ghost use Rattle.rules.specs.Program.{decimal, refusalLine, countsLine};
+ghost use Rattle.rules_program.specs.Program.{decimal, refusalLine, countsLine};
 ghost use Rattle.refusal.specs.Refusal.{refusalOf};
 ghost use Rattle.report.specs.Answer.{reportOf};
 ghost use Rattle.page.specs.Page.{Puts};

@@ -14,8 +14,8 @@ use lib.Seq.{getD-set-same, getD-set-other}
 use lib.Dec.{eqb}
 use lib.Bits.{bitAnd, bitOr, and-step, or-step, and-zero-r, and-self, and-mask, or-comm}
 use Rattle.rules.specs.Letters.{Kmer, same, met}
-use Rattle.rules.proofs.Kmer.{same-true, add-is, two-four}
-use Rattle.rules.proofs.Scan.{sole-is}
+use Rattle.rules_laws.proofs.Kmer.{same-true, add-is, two-four}
+use Rattle.rules_laws.proofs.Scan.{sole-is}
 use Rattle.rules.specs.Scan.{sole}
 use Rattle.kmer.specs.declared.Header.{Header}
 use Rattle.kmer.specs.Kmer.{Shifts}

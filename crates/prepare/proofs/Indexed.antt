@@ -9,9 +9,9 @@ use lib.ListN.{length, getD}
 use Rattle.rules.specs.Set.{firstLetters, firstCode, entryIn, headerK, headerN, keyWord, setCheck, setOf}
 use Rattle.rules.specs.Blocks.{blocksFor}
 use Rattle.rules.specs.Index.{indexEntry, indexEntries, indexList, indexBlocks, indexCheck}
-use Rattle.rules.proofs.Kmer.{two-four}
-use Rattle.rules.proofs.Blocks.{blocks-length}
-use Rattle.rules.proofs.Index as Rules
+use Rattle.rules_laws.proofs.Kmer.{two-four}
+use Rattle.rules_laws.proofs.Blocks.{blocks-length}
+use Rattle.rules_laws.proofs.Index as Rules
 use Rattle.index.proofs.Laws.{set-keys, n-keys, entry-le, key-is}
 use Rattle.set.specs.Ready.{prefix, prefixes, StartsAt, Table}
 use Rattle.set.proofs.Opened.{opened-n-le}

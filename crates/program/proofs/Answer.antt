@@ -11,10 +11,10 @@ use Rattle.rules.specs.Report as Reports
 use Rattle.rules.specs.Set.{KmerSet, offering, opened}
 use Rattle.rules.specs.Job.{Entry, entriesOf, lines}
 use Rattle.rules.specs.Calls.{Given, withoutIndex, After, unchanged, noRoom, tooLong, results, report, corrected, offerCheck, call, batchRight, givenCheck, correctBatch}
-use Rattle.rules.specs.Program.{zeros, refusalLine, countsLine, printedFor}
+use Rattle.rules_program.specs.Program.{zeros, refusalLine, countsLine, printedFor}
 use Rattle.refusal.specs.declared.Refusal.{Refusal as Refused·by}
 use Rattle.refusal.specs.Refusal.{refusalOf}
-use Rattle.rules.proofs.Calls.{corrected-full, corrected-fits, call-refused, call-not-opened, call-offer-wrong, call-opened}
+use Rattle.rules_laws.proofs.Calls.{corrected-full, corrected-fits, call-refused, call-not-opened, call-offer-wrong, call-opened}
 use Rattle.report.specs.declared.Report.{Report}
 use Rattle.report.specs.declared.Answer.{Answer}
 use Rattle.report.specs.declared.Answer.the-variants.{Report as Reported, Refused}

@@ -8,7 +8,7 @@ use mathlib.Core.List.{List, []}
 use lib.Dec.{eqb, leb}
 use lib.ListN.{length}
 use Rattle.rules.specs.Calls.{Given, correctBatch}
-use Rattle.rules.specs.Program.{Files, zeros, badFile, upTo, callOn, callOf, printedFor, printed}
+use Rattle.rules_program.specs.Program.{Files, zeros, badFile, upTo, callOn, callOf, printedFor, printed}
 use Rattle.report.specs.Answer.{given}
 use Rattle.program.specs.declared.Whole.{Whole}
 use Rattle.program.specs.Files.{fileOf, filesOf, taken, allTaken}

@@ -4,7 +4,7 @@ use mathlib.Core.Path.{_≡_}
 use mathlib.Core.List.{List, [], _++_}
 use lib.ListN.{take}
 use Rattle.rules.specs.Calls.{After}
-use Rattle.rules.specs.Program.{refusalLine, countsLine, printedFor}
+use Rattle.rules_program.specs.Program.{refusalLine, countsLine, printedFor}
 use Rattle.refusal.specs.Refusal.{refusalOf}
 use Rattle.report.specs.declared.Answer.{Answer}
 use Rattle.report.specs.declared.Answer.the-variants.{Report as Reported, Refused}

@@ -4,7 +4,7 @@ use mathlib.Core.Bool.{Bool, true, false, _&&_}
 use mathlib.Core.Option.{Option, none, some}
 use mathlib.Core.List.{List}
 use lib.Dec.{eqb, leb}
-use Rattle.rules.specs.Program.{Files}
+use Rattle.rules_program.specs.Program.{Files}
 use Rattle.program.specs.declared.Whole.{Whole}
 
 -- A file that was read to its end, or not.

@@ -6,13 +6,13 @@ use refusal::Refusal;
 use report::Answer;
 use report::Report;
 
-fn pair_is(record: &[u8; 64], i: usize, first: u64, second: u64) -> bool
-    requires { ⌜ i < 15 ⌝ }
+fn pair_is(record: &[u8; 76], i: usize, first: u64, second: u64) -> bool
+    requires { ⌜ i < 18 ⌝ }
 {
     number(record, i) == first && number(record, i + 1) == second
 }
 
-fn refusal_agrees(refusal: Refusal, record: &[u8; 64]) -> bool {
+fn refusal_agrees(refusal: Refusal, record: &[u8; 76]) -> bool {
     pair_is(
         record,
         8,
@@ -21,7 +21,7 @@ fn refusal_agrees(refusal: Refusal, record: &[u8; 64]) -> bool {
     )
 }
 
-pub fn open_agrees(set: &[u8], record: &[u8; 64]) -> bool {
+pub fn open_agrees(set: &[u8], record: &[u8; 76]) -> bool {
     match opening::open(set) {
         Opened::Set(k, n) => pair_is(record, 8, 0, 0) && pair_is(record, 10, k as u64, n as u64),
         Opened::Refused(refusal) => refusal_agrees(refusal, record),
@@ -29,18 +29,20 @@ pub fn open_agrees(set: &[u8], record: &[u8; 64]) -> bool {
 }
 
 // Whether a support is told, and which.
-fn support_agrees(report: Report, record: &[u8; 64]) -> bool {
+fn support_agrees(report: Report, record: &[u8; 76]) -> bool {
     let supported = if report.supported { 1 } else { 0 };
     number(record, 7) == supported && number(record, 1) == report.support as u64
 }
 
-fn answer_agrees(answer: Answer, record: &[u8; 64]) -> bool {
+fn answer_agrees(answer: Answer, record: &[u8; 76]) -> bool {
     match answer {
         Answer::Report(report) => {
             pair_is(record, 8, 0, 0)
                 && pair_is(record, 10, report.written as u64, report.turns)
                 && pair_is(record, 12, report.lookups, report.attempts)
                 && pair_is(record, 14, report.accepted, report.yield_)
+                && pair_is(record, 16, report.quotient, report.remainder)
+                && number(record, 18) == report.bases
                 && support_agrees(report, record)
         }
         Answer::Refused(refusal) => refusal_agrees(refusal, record),
@@ -62,7 +64,7 @@ fn lent_is(lent: &[u8], result: &[u8], rest: u8) -> bool {
 }
 
 // Every refusal but 11 leaves the lent bytes as they were.
-fn rest_of(record: &[u8; 64], fill: u8) -> u8 {
+fn rest_of(record: &[u8; 76], fill: u8) -> u8 {
     match number(record, 8) {
         1..=10 => fill,
         15..=17 => fill,
@@ -74,7 +76,7 @@ fn call(
     set: &[u8],
     index: &[u8],
     counts: &[u32],
-    record: &[u8; 64],
+    record: &[u8; 76],
     job: &[u8],
     input: &[u8],
     output: &mut [u8],
@@ -86,7 +88,7 @@ fn call(
     job::correct_batch(set, index, counts, job, input, output, work)
 }
 
-fn need_agrees(answer: needs::Answer, record: &[u8; 64]) -> bool {
+fn need_agrees(answer: needs::Answer, record: &[u8; 76]) -> bool {
     match answer {
         needs::Answer::Need(need) => {
             pair_is(record, 8, 0, 0)
@@ -101,7 +103,7 @@ pub fn needs_agrees(
     set: &[u8],
     index: &[u8],
     counts: &[u32],
-    record: &[u8; 64],
+    record: &[u8; 76],
     fill: u8,
     job: &[u8],
     batch: &[u8],
@@ -116,7 +118,7 @@ pub fn call_agrees(
     set: &[u8],
     index: &[u8],
     counts: &[u32],
-    record: &[u8; 64],
+    record: &[u8; 76],
     fill: u8,
     job: &[u8],
     input: &[u8],

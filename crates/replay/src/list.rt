@@ -23,8 +23,8 @@ fn number_of(bytes: &[u8], i: usize) -> u64
 }
 
 // The i-th number of a record.
-pub fn number(record: &[u8; 64], i: usize) -> u64
-    requires { ⌜ i < 16 ⌝ }
+pub fn number(record: &[u8; 76], i: usize) -> u64
+    requires { ⌜ i < 19 ⌝ }
     ensures { λ r. ⌜ r < 2 ^ 32 ⌝ }
 {
     number_of(record, i)

@@ -64,7 +64,7 @@ fn compare(
     set: &[u8],
     index: &[u8],
     counts: &[u32],
-    record: &[u8; 64],
+    record: &[u8; 76],
     fill: u8,
     job: &[u8],
     input: &[u8],
@@ -97,7 +97,7 @@ fn compare_needs(
     set: &[u8],
     index: &[u8],
     counts: &[u32],
-    record: &[u8; 64],
+    record: &[u8; 76],
     fill: u8,
     job: &[u8],
     batch: &[u8],
@@ -120,7 +120,7 @@ fn compare_needs(
     ))
 }
 
-fn replay_call(set: &[u8], index: &[u8], counts: &[u32], record: &[u8; 64], fill: u8) -> Case {
+fn replay_call(set: &[u8], index: &[u8], counts: &[u32], record: &[u8; 76], fill: u8) -> Case {
     let mut job = [0u8; MAX_JOB];
     let mut input = [0u8; MAX_INPUT];
     let mut result = [0u8; MAX_OUTPUT];
@@ -161,7 +161,7 @@ fn replay_counted(
     set: &[u8],
     index: &[u8],
     count_bytes: &[u8],
-    record: &[u8; 64],
+    record: &[u8; 76],
     fill: u8,
 ) -> Case {
     let mut counts = [0u32; MAX_COUNTS];
@@ -173,7 +173,7 @@ fn replay_counted(
     replay_call(set, index, &counts[..counts_end], record, fill)
 }
 
-fn replay_case(set: &[u8], index: &[u8], count_bytes: &[u8], record: &[u8; 64], fill: u8) -> Case {
+fn replay_case(set: &[u8], index: &[u8], count_bytes: &[u8], record: &[u8; 76], fill: u8) -> Case {
     match number(record, 0) {
         2 => told(open_agrees(set, record)),
         3..=4 => replay_counted(set, index, count_bytes, record, fill),
@@ -183,7 +183,7 @@ fn replay_case(set: &[u8], index: &[u8], count_bytes: &[u8], record: &[u8; 64], 
 }
 
 // If the record is of that kind, reads its bytes, which stand for the cases that follow, and the next record; else the bytes stay.
-fn next_bytes(kind: u64, record: &mut [u8; 64], bytes: &mut [u8], length: usize) -> Part
+fn next_bytes(kind: u64, record: &mut [u8; 76], bytes: &mut [u8], length: usize) -> Part
     requires { ⌜ Counts length (now bytes) ⌝ }
     ensures { λ r. ⌜ Counts (r .length) (now (bytes .exit)) ⌝ }
 {
@@ -194,7 +194,7 @@ fn next_bytes(kind: u64, record: &mut [u8; 64], bytes: &mut [u8], length: usize)
         };
     }
     let part = read_part(bytes, number(record, 1) as usize);
-    let next = read_part(record, 64);
+    let next = read_part(record, 76);
     Part {
         length: part.length,
         whole: part.whole && next.whole,
@@ -202,13 +202,13 @@ fn next_bytes(kind: u64, record: &mut [u8; 64], bytes: &mut [u8], length: usize)
 }
 
 // An index, or counts, are offered until the next set.
-fn kept(record: &[u8; 64], offered: usize) -> usize {
+fn kept(record: &[u8; 76], offered: usize) -> usize {
     if number(record, 0) == SET { 0 } else { offered }
 }
 
 // Reads the record of the next case, and before it the set, the index and the counts, if they are there; else they stay.
 fn next_case(
-    record: &mut [u8; 64],
+    record: &mut [u8; 76],
     set: &mut [u8],
     length: usize,
     index: &mut [u8],
@@ -222,7 +222,7 @@ fn next_case(
         × Counts (r .index) (now (index .exit))
         × Counts (r .counts) (now (counts .exit)) ⌝ }
 {
-    let first = read_part(record, 64);
+    let first = read_part(record, 76);
     let index_stays = part_of(index, kept(record, indexed));
     let counts_stay = part_of(counts, kept(record, counted));
     let set_part = next_bytes(SET, record, set, length);
@@ -238,8 +238,8 @@ fn next_case(
 
 // A record of zeros, and nothing behind it.
 fn ends() -> bool {
-    let mut last = [0u8; 65];
-    io::read_full(STDIN_FILENO, &mut last) == 64 && check::same(&last, &[0; 65])
+    let mut last = [0u8; 77];
+    io::read_full(STDIN_FILENO, &mut last) == 76 && check::same(&last, &[0; 77])
 }
 
 fn print(number: usize, word: &[u8]) {
@@ -261,7 +261,7 @@ fn replay(cases: usize, fill: u8) {
     let mut counts_end = 0;
     let mut agree = 0;
     for case in 0..cases {
-        let mut record = [0u8; 64];
+        let mut record = [0u8; 76];
         let next = next_case(
             &mut record,
             &mut set,
@@ -297,7 +297,7 @@ fn replay(cases: usize, fill: u8) {
 }
 
 fn main() {
-    let mut head = [0u8; 64];
+    let mut head = [0u8; 76];
     let part = read_part(&mut head, 36);
     if !part.whole || number(&head, 0) != 1 {
         return malformed(0);

@@ -13,15 +13,14 @@ use lib.Dec.{ltb, eqb}
 use lib.Seq.{length-take-le}
 use Rattle.rules.specs.Refusal.{accepted}
 use Rattle.rules.specs.Report as Reports
-use Rattle.rules.specs.Report.{yieldOf}
+use Rattle.rules.specs.Report.{yieldOf, quotientOf, remainderOf}
 use Rattle.rules.specs.Set.{KmerSet, offering, opened}
 use Rattle.rules.specs.Index.{indexCheck}
-use Rattle.rules.specs.Driver.{Pass}
 use Rattle.rules.specs.Job.{Entry, Confirmed}
-use Rattle.rules.specs.Counts.{sum, allPasses, turns, lookups, attempts, corrections, supportOver}
+use Rattle.rules.specs.Counts.{sum, allPasses, turns, lookups, attempts, corrections, supportOver, W}
 use Rattle.rules.specs.Calls.{Given, After, unchanged, noRoom, tooLong, results, report, corrected}
-use Rattle.rules.proofs.Demands.{ceilings}
-use Rattle.rules.proofs.Offered.{same-report}
+use Rattle.rules_ceiling.proofs.Demands.{ceilings}
+use Rattle.rules_laws.proofs.Offered.{same-report}
 use Rattle.correct.specs.declared.Counts.{Counts}
 use Rattle.report.specs.declared.Report.{Report}
 use Rattle.refusal.specs.declared.Refusal.{Refusal}
@@ -30,14 +29,14 @@ use Rattle.report.specs.declared.Answer.{Answer}
 use Rattle.report.specs.declared.Answer.the-variants.{Report as Reported, Refused}
 use Rattle.refusal.specs.Refusal.{refusalOf}
 use Rattle.support.specs.Support.{supportOf}
-use Rattle.correct.specs.Pass.{passOf}
+use Rattle.correct.specs.Pass.{Tally, tallyOf}
 use Rattle.report.specs.Answer.{supportTold, reportOf, answerOf, Exact, Ceiling}
 use Rattle.report.specs.Ending.{Cleared, supportedBy, reportOn}
-use Rattle.rules.proofs.Calls.{corrected-full, corrected-fits}
+use Rattle.rules_laws.proofs.Calls.{corrected-full, corrected-fits}
 
 -- All of a call's reads: the bytes written, and what all passes count.
-unfoldable pub throughAll : KmerSet → List Entry → List ℕ → List (List ℕ) → Pass
-unfolding results sum allPasses turns lookups attempts corrections
+unfoldable pub throughAll : KmerSet → List Entry → List ℕ → List (List ℕ) → Tally
+unfolding results sum allPasses turns lookups attempts corrections W
 throughAll set es ending reads =
     let ps = allPasses set es reads in
     record {
@@ -47,6 +46,7 @@ throughAll set es ending reads =
       attempts = sum (attempts set) ps;
       accepted = sum (corrections set) ps;
       support = supportOver set ps;
+      bases = sum (W set) ps;
     }
 
 -- Refusals that change no lent byte.
@@ -88,27 +88,30 @@ module _ (set : KmerSet) (es : List Entry) (ending : List ℕ) (g : Given) (read
         work = h .work ∙ ap (λ (a : After). a .work) (sym is);
       }
 
-  report-is : (done : Counts) (offered : Bool) (out : List ℕ) → offered ≡ ltb 0 (length (set .counts)) → done .written ≤ length out
-      → passOf done out ≡ throughAll set es ending reads → reportOf (reportOn offered done) ≡ report set es ending reads
+  pub report-is : (done : Counts) (offered : Bool) (out : List ℕ) → offered ≡ ltb 0 (length (set .counts)) → done .written ≤ length out
+      → tallyOf done out ≡ throughAll set es ending reads → reportOf (reportOn offered done) ≡ report set es ending reads
   unfolding report throughAll
   report-is done offered out f l e = λ i. record {
-    written = (sym (length-take-le (done .written) out l) ∙ ap (λ (p : Pass). length (p .bytes)) e) i;
+    written = (sym (length-take-le (done .written) out l) ∙ ap (λ (p : Tally). length (p .bytes)) e) i;
     turns = e i .turns;
     lookups = e i .lookups;
     attempts = e i .attempts;
     accepted = e i .accepted;
     yield = yieldOf (e i .accepted) (e i .attempts);
-    support = support-is offered (set .counts) done (supportOver set (allPasses set es reads)) f (ap (λ (p : Pass). p .support) e) i;
+    support = support-is offered (set .counts) done (supportOver set (allPasses set es reads)) f (ap (λ (p : Tally). p .support) e) i;
+    quotient = quotientOf (e i .lookups) (e i .bases);
+    remainder = remainderOf (e i .lookups) (e i .bases);
+    bases = e i .bases;
   }
 
   -- Accepted: out holds the results when the rest is cleared.
   pub fits-exact : (done : Counts) (offered : Bool) (out : List ℕ) {r : Answer} {o w : List ℕ} → offered ≡ ltb 0 (length (set .counts)) → tooLong set es ending 0 (length (g .output)) reads ≡ none
-      → passOf done out ≡ throughAll set es ending reads → done .written ≤ length out
+      → tallyOf done out ≡ throughAll set es ending reads → done .written ≤ length out
       → length out ≡ length (g .output) → r ≡ Reported (reportOn offered done) → Cleared (done .written) out (length (g .work)) o w → Exact after r o w
   unfolding throughAll
   fits-exact done offered out f e s l same a h =
       let is = corrected-fits set es ending g reads e in
-      let t : take (done .written) out ≡ results set es ending reads = ap (λ (p : Pass). p .bytes) s in
+      let t : take (done .written) out ≡ results set es ending reads = ap (λ (p : Tally). p .bytes) s in
       let left : length out - done .written ≡ length (g .output) - length (results set es ending reads) =
       omega (arith, length-take-le (done .written) out l, ap length t) in
       record {

@@ -11,8 +11,8 @@ use lib.ListN.{length, getD}
 use Rattle.rules.specs.Refusal.{Check, _orElse_, unless}
 use Rattle.rules.specs.Job.{lines}
 use Rattle.rules.specs.Calls.{maxRead, maxOutput, maxWork, maxLines, buffersRight, jobCheck, inputCheck, batchRight}
-use Rattle.rules.proofs.Opened.{both as and-true, passed, unless-passed}
-use Rattle.rules.proofs.Upward.{job-right}
+use Rattle.rules_laws.proofs.Opened.{both as and-true, passed, unless-passed}
+use Rattle.rules_laws.proofs.Upward.{job-right}
 use Rattle.input.specs.Input.{Within}
 
 module _ (i : ℕ) (job : List ℕ) (o w : ℕ) where
@@ -38,6 +38,7 @@ module _ (i : ℕ) (job : List ℕ) (o w : ℕ) where
         confirms = right .1;
         output = room .0;
         work = omega arith;
+        work-input = omega arith;
       }
 
 module _ (batch : List ℕ) (h : batchRight batch ≡ true) where

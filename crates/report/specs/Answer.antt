@@ -8,7 +8,7 @@ use Rattle.rules.specs.Refusal.{Outcome, accepted, refused}
 use Rattle.rules.specs.Report as Reports
 use Rattle.rules.specs.Set.{KmerSet}
 use Rattle.rules.specs.Job.{Entry}
-use Rattle.rules.specs.Counts.{Demand3}
+use Rattle.rules_ceiling.specs.Ceiling.{Demand3}
 use Rattle.rules.specs.Calls.{Given, After}
 use Rattle.refusal.specs.Refusal.{refusalOf}
 use Rattle.report.specs.declared.Report.{Report}
@@ -30,6 +30,9 @@ reportOf r =
       accepted = r .accepted;
       yield = r .«yield_»;
       support = supportTold (r .supported) (r .support);
+      quotient = r .quotient;
+      remainder = r .remainder;
+      bases = r .bases;
     }
 
 -- The rules' outcome for each case.

@@ -5,7 +5,7 @@ use mathlib.Core.Bool.{Bool, true, false, _&&_}
 use mathlib.Core.List.{List, _++_}
 use lib.ListN.{length, take, replicate}
 use lib.Dec.{ltb}
-use Rattle.rules.specs.Report.{yieldOf}
+use Rattle.rules.specs.Report.{yieldOf, quotientOf, remainderOf}
 use Rattle.correct.specs.declared.Counts.{Counts}
 use Rattle.report.specs.declared.Report.{Report}
 
@@ -30,4 +30,7 @@ reportOn offered n =
       «yield_» = yieldOf (n .accepted) (n .attempts);
       supported = supportedBy offered n;
       support = n .support;
+      quotient = quotientOf (n .lookups) (n .bases);
+      remainder = remainderOf (n .lookups) (n .bases);
+      bases = n .bases;
     }

@@ -4,10 +4,10 @@ use refusal::Refusal;
 ghost use mathlib.Core.Path.{_≡_};
 ghost use Prim.Native.Nat.{_≤_, _<_, _^_};
 ghost use lib.ListN.{length};
-ghost use Rattle.rules.specs.Report.{yieldOf};
+ghost use Rattle.rules.specs.Report.{yieldOf, quotientOf, remainderOf};
 ghost use Rattle.report.specs.Ending.{Cleared, reportOn};
 
-// Document 01, "Report".
+// Document 01, "Report", and document 02, W8 and W10.
 pub struct Report {
     pub written: usize,
     pub turns: u64,
@@ -18,6 +18,10 @@ pub struct Report {
     // Whether there is a support; where there is none, the number says nothing.
     pub supported: bool,
     pub support: u32,
+    // Lookups for each base, and the bases: the sum of W over all passes.
+    pub quotient: u64,
+    pub remainder: u64,
+    pub bases: u64,
 }
 
 pub enum Answer {
@@ -63,6 +67,27 @@ fn yield_of(accepted: u64, attempts: u64) -> u64
     whole + whole % 2
 }
 
+struct Divided {
+    quotient: u64,
+    remainder: u64,
+}
+
+// The whole quotient of lookups by bases, and what is left; without bases both are 0 (document 02, W10).
+fn per_base(lookups: u64, bases: u64) -> Divided
+    ensures { λ r. ⌜ (r .quotient ≡ quotientOf lookups bases) × (r .remainder ≡ remainderOf lookups bases) ⌝ }
+{
+    if bases == 0 {
+        return Divided {
+            quotient: 0,
+            remainder: 0,
+        };
+    }
+    Divided {
+        quotient: lookups / bases,
+        remainder: lookups % bases,
+    }
+}
+
 // Accepted: the report on what was done. There is a support where counts are offered and something was accepted (document 02, W8).
 pub fn accept(done: Counts, offered: bool, output: &mut [u8], work: &mut [u8]) -> Answer
     requires { ⌜ (done .written ≤ length (now output)) × (done .accepted < 2 ^ 54) ⌝ }
@@ -71,6 +96,7 @@ pub fn accept(done: Counts, offered: bool, output: &mut [u8], work: &mut [u8]) -
         × Cleared (done .written) (now (output .entry)) (length (now (work .entry))) (now (output .exit)) (now (work .exit)) ⌝ }
 {
     clear_rest(done.written, output, work);
+    let divided = per_base(done.lookups, done.bases);
     Answer::Report(Report {
         written: done.written,
         turns: done.turns,
@@ -80,5 +106,8 @@ pub fn accept(done: Counts, offered: bool, output: &mut [u8], work: &mut [u8]) -
         yield_: yield_of(done.accepted, done.attempts),
         supported: offered & (0 < done.accepted),
         support: done.support,
+        quotient: divided.quotient,
+        remainder: divided.remainder,
+        bases: done.bases,
     })
 }

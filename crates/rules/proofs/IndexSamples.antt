@@ -1,18 +1,16 @@
 -- Document 02, W7: the index, what its maker answers, refusal 15, and calls with an index, by computation. Serves W7's readings.
 use Prim.Native.Nat.{ℕ}
 use mathlib.Core.Path.{_≡_, refl}
-use mathlib.Core.Bool.{true, false}
 use mathlib.Core.Option.{Option, none, some}
 use mathlib.Core.List.{List, [], _∷_, _++_, map}
 use lib.ListN.{length, replicate, set, take}
 use Rattle.rules.specs.Refusal.{Outcome, accepted, refused}
 use Rattle.rules.specs.Set.{KmerSet, offering, firstCode, entryIn, lookup, blockWord, opened}
-use Rattle.rules.specs.Blocks.{blocksFor, Made, unmade, laidInto}
-use Rattle.rules.specs.MakeSet.{setBlocks}
+use Rattle.rules.specs.Blocks.{blocksFor, setBlocks, Made, unmade, laidInto}
 use Rattle.rules.specs.Index.{indexEntry, indexEntries, indexList, indexBlocks, makeIndex, indexCheck}
 use Rattle.rules.specs.Job.{lines}
 use Rattle.rules.specs.Calls.{Given, callBy, givenCheck, batchRight, correctRead, correctBatch}
-use Rattle.rules.specs.Samples.{A, C, T, G, AACCG, AACGTC, AACGCCG, AACTCCG, sampleSet, wordBytes, sampleBytes}
+use Rattle.rules.specs.Samples.{A, C, G, AACGTC, AACGCCG, AACTCCG, sampleSet, wordBytes, sampleBytes}
 use Rattle.rules.proofs.Samples.{sampleOpens, otherOpens, readBy, batchBy, given, refusalOf}
 
 -- ---- entries
@@ -93,10 +91,10 @@ pub lookups :
 unfolding lookup offering sampleIndex sampleSet
 lookups = refl
 
--- At k = 7, 5 and 6 are both found among the keys of their first letters; 4, whose canonical code is 11946, and 10 are not.
+-- At k = 7, 5, its reverse complement 16042, and 6 are found among the keys of their first letters; 10 is not.
 pub lookupsOfSeven :
-    (let seven : KmerSet = withKeys 7 (3 ∷ 5 ∷ 6 ∷ 9 ∷ 16383 ∷ []) in map (lookup (offering (indexBlocks seven) [] seven)) (3 ∷ 5 ∷ 6 ∷ 9 ∷ 16383 ∷ 4 ∷ 10 ∷ []))
-    ≡ some 0 ∷ some 1 ∷ some 2 ∷ some 3 ∷ some 4 ∷ none ∷ none ∷ []
+    (let seven : KmerSet = withKeys 7 (3 ∷ 5 ∷ 6 ∷ 9 ∷ 16383 ∷ []) in map (lookup (offering (indexBlocks seven) [] seven)) (3 ∷ 5 ∷ 16042 ∷ 6 ∷ 9 ∷ 10 ∷ []))
+    ≡ some 0 ∷ some 1 ∷ some 1 ∷ some 2 ∷ some 3 ∷ none ∷ []
 unfolding lookup offering indexBlocks withKeys
 lookupsOfSeven = refl
 
@@ -179,39 +177,26 @@ wrong = refl
 pub offer : List ℕ → Given → Given
 offer index g = record { set = g .set; index = index; counts = g .counts; job = g .job; input = g .input; output = g .output; work = g .work }
 
--- With its index, and with an empty one, which is not offered, the printed case is as it is without: bytes, turns, lookups.
+-- With its index the printed case is as it is without: bytes, turns, lookups.
 pub printedCaseIndexed :
-    map (λ index. correctBatch (offer index (given sampleBytes (3 ∷ 1 ∷ []) (AACGCCG ++ (10 ∷ A ∷ A ∷ 10 ∷ [])) 12 24))) (sampleIndex ∷ [] ∷ [])
-    ≡ replicate 2 (record {
-      answer = accepted (record { written = 11; turns = 1; lookups = 21; attempts = 1; accepted = 1; yield = 1000; support = none });
+    correctBatch (offer sampleIndex (given sampleBytes (3 ∷ 1 ∷ []) (AACGCCG ++ (10 ∷ A ∷ A ∷ 10 ∷ [])) 12 24))
+    ≡ record {
+      answer = accepted (record { written = 11; turns = 1; lookups = 21; attempts = 1; accepted = 1; yield = 1000; support = none; quotient = 5; remainder = 1; bases = 4 });
       output = AACTCCG ++ (10 ∷ A ∷ A ∷ 10 ∷ 0 ∷ []);
       work = replicate 24 0;
-    })
+    }
 unfolding callBy givenCheck batchRight lines offer given sampleSet sampleIndex
-printedCaseIndexed =
-    λ i. map (λ index. batchBy (offer index (given sampleBytes (3 ∷ 1 ∷ []) (AACGCCG ++ (10 ∷ A ∷ A ∷ 10 ∷ [])) 12 24)) (sampleOpens .0) i) (sampleIndex ∷ [] ∷ [])
-
--- A read through all four methods: Two mends AACCG; One, Graph and GapSize then find it right.
-pub fourMethodsIndexed :
-    map (λ index. correctRead (offer index (given sampleBytes (2 ∷ 2 ∷ 1 ∷ 1 ∷ 3 ∷ 1 ∷ 4 ∷ 1 ∷ []) AACCG 8 16))) (sampleIndex ∷ [] ∷ [])
-    ≡ replicate 2 (record {
-      answer = accepted (record { written = 7; turns = 15; lookups = 52; attempts = 1; accepted = 1; yield = 1000; support = none });
-      output = AACTCCG ++ (0 ∷ []);
-      work = replicate 16 0;
-    })
-unfolding callBy givenCheck offer given sampleSet sampleIndex
-fourMethodsIndexed =
-    λ i. map (λ index. readBy (offer index (given sampleBytes (2 ∷ 2 ∷ 1 ∷ 1 ∷ 3 ∷ 1 ∷ 4 ∷ 1 ∷ []) AACCG 8 16)) (sampleOpens .0) i) (sampleIndex ∷ [] ∷ [])
+printedCaseIndexed = batchBy (offer sampleIndex (given sampleBytes (3 ∷ 1 ∷ []) (AACGCCG ++ (10 ∷ A ∷ A ∷ 10 ∷ [])) 12 24)) (sampleOpens .0)
 
 oneOpens : opened (setBlocks 1 (3 ∷ [])) ≡ accepted (withKeys 1 (3 ∷ []))
 unfolding opened setBlocks withKeys
 oneOpens = refl
 
--- k = 1, key 3: GCAG. C is solid, since its canonical code is that of G. m is 1.
+-- k = 1, key 3: GCAG, with its index and with an empty one, which is not offered. C is solid, since its canonical code is that of G. m is 1.
 pub oneLetterIndexed :
     map (λ index. correctRead (offer index (given (setBlocks 1 (3 ∷ [])) (1 ∷ 1 ∷ []) (G ∷ C ∷ A ∷ G ∷ []) 4 8))) (oneIndex ∷ [] ∷ [])
     ≡ replicate 2 (record {
-      answer = accepted (record { written = 4; turns = 3; lookups = 8; attempts = 1; accepted = 0; yield = 0; support = none });
+      answer = accepted (record { written = 4; turns = 3; lookups = 8; attempts = 1; accepted = 0; yield = 0; support = none; quotient = 2; remainder = 2; bases = 3 });
       output = G ∷ C ∷ A ∷ G ∷ [];
       work = replicate 8 0;
     })

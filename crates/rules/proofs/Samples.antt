@@ -11,7 +11,7 @@ use Rattle.rules.specs.Scan.{fourCost}
 use Rattle.rules.specs.Solid.{solidsOf}
 use Rattle.rules.specs.Driver.{Pass}
 use Rattle.rules.specs.Job.{Entry, entriesOf, lines, pass, result}
-use Rattle.rules.specs.Counts.{Fed, sum, allPasses, turns, lookups, ceiling}
+use Rattle.rules.specs.Counts.{Fed, sum, allPasses, turns, lookups}
 use Rattle.rules.specs.Calls.{Given, After, callBy, givenCheck, batchRight, correctRead, correctBatch}
 use Rattle.rules.specs.Samples.{A, C, T, G, N, AACGTC, AACGCCG, AACTCCG, sampleSet, sampleBytes, Sample, line, table, unknownTable, JobSample, jobLine, jobTable}
 use Rattle.rules.specs.Scenarios.{OnSet, on, scenarioTable}
@@ -71,13 +71,13 @@ pub scenarios : map byRulesOn scenarioTable ≡ scenarioTable
 unfolding byRulesOn scenarioTable
 scenarios = refl
 
--- A line of the second table as the rules have it.
+-- A line of the second table as the rules have it, but for its ceiling, which crates/rules_ceiling shows.
 pub byJob : JobSample → JobSample
-unfolding entriesOf result sum allPasses turns lookups ceiling jobLine
+unfolding entriesOf result sum allPasses turns lookups jobLine
 byJob s =
     let es : List Entry = entriesOf (s .job) in
     let ps : List Fed = allPasses sampleSet es (s .read ∷ []) in
-    jobLine (s .job) (s .read) (result sampleSet es (s .read)) (sum (turns sampleSet) ps) (sum (lookups sampleSet) ps) (sum (ceiling sampleSet) ps)
+    jobLine (s .job) (s .read) (result sampleSet es (s .read)) (sum (turns sampleSet) ps) (sum (lookups sampleSet) ps) (s .ceiling)
 
 pub jobs : map byJob jobTable ≡ jobTable
 unfolding byJob jobTable sampleSet
@@ -123,7 +123,7 @@ given bytes job input out work =
 pub printedCase :
     correctBatch (given sampleBytes (3 ∷ 1 ∷ []) (AACGCCG ++ (10 ∷ A ∷ A ∷ 10 ∷ [])) 12 24)
     ≡ record {
-      answer = accepted (record { written = 11; turns = 1; lookups = 21; attempts = 1; accepted = 1; yield = 1000; support = none });
+      answer = accepted (record { written = 11; turns = 1; lookups = 21; attempts = 1; accepted = 1; yield = 1000; support = none; quotient = 5; remainder = 1; bases = 4 });
       output = A ∷ A ∷ C ∷ T ∷ C ∷ C ∷ G ∷ 10 ∷ A ∷ A ∷ 10 ∷ 0 ∷ [];
       work = replicate 24 0;
     }
@@ -134,7 +134,7 @@ printedCase = batchBy _ (sampleOpens .0)
 pub bothLines :
     correctBatch (given sampleBytes (1 ∷ 1 ∷ []) (A ∷ A ∷ C ∷ G ∷ C ∷ 10 ∷ (AACGCCG ++ (10 ∷ []))) 14 28)
     ≡ record {
-      answer = accepted (record { written = 14; turns = 6; lookups = 28; attempts = 2; accepted = 2; yield = 1000; support = none });
+      answer = accepted (record { written = 14; turns = 6; lookups = 28; attempts = 2; accepted = 2; yield = 1000; support = none; quotient = 4; remainder = 4; bases = 6 });
       output = A ∷ A ∷ C ∷ T ∷ C ∷ 10 ∷ A ∷ A ∷ C ∷ T ∷ C ∷ C ∷ G ∷ 10 ∷ [];
       work = replicate 28 0;
     }

@@ -1,7 +1,7 @@
 -- Document 02, W8: computed samples. The table of supports, refusal 16 in its order, and whole calls with counts.
 use Prim.Native.Nat.{ℕ}
 use mathlib.Core.Path.{_≡_, refl}
-use mathlib.Core.Option.{Option, none, some}
+use mathlib.Core.Option.{none, some}
 use mathlib.Core.List.{List, [], _∷_, _++_, map}
 use lib.ListN.{replicate}
 use Rattle.rules.specs.Letters.{kmer}
@@ -12,7 +12,7 @@ use Rattle.rules.specs.Job.{Entry, entriesOf, lines, result}
 use Rattle.rules.specs.Report.{Report}
 use Rattle.rules.specs.Calls.{Given, report, offerCheck, callBy, givenCheck, batchRight, correctRead, correctBatch}
 use Rattle.rules.specs.Samples.{A, C, T, G, AACGCCG, AACTCCG, sampleSet, sampleBytes}
-use Rattle.rules.specs.Supports.{Supported, counted, supportTable}
+use Rattle.rules.specs.Supports.{Supported, supportTable}
 use Rattle.rules.proofs.Samples.{sampleOpens, otherOpens, readBy, batchBy, given, refusalOf}
 
 -- ---- supports
@@ -51,7 +51,7 @@ offer index counts g = record { set = g .set; index = index; counts = counts; jo
 pub printedCaseCounted :
     correctBatch (offer (indexBlocks sampleSet) (10 ∷ 20 ∷ 30 ∷ 40 ∷ 50 ∷ []) (given sampleBytes (3 ∷ 1 ∷ []) (AACGCCG ++ (10 ∷ A ∷ A ∷ 10 ∷ [])) 12 24))
     ≡ record {
-      answer = accepted (record { written = 11; turns = 1; lookups = 21; attempts = 1; accepted = 1; yield = 1000; support = some 10 });
+      answer = accepted (record { written = 11; turns = 1; lookups = 21; attempts = 1; accepted = 1; yield = 1000; support = some 10; quotient = 5; remainder = 1; bases = 4 });
       output = AACTCCG ++ (10 ∷ A ∷ A ∷ 10 ∷ 0 ∷ []);
       work = replicate 24 0;
     }

@@ -1,10 +1,13 @@
 -- Document 01, "Records", Set, the other way round: a list of words as blocks; and what a maker of blocks answers (document 02).
-use Prim.Native.Nat.{ℕ, zero, suc, _+_, _*_, _-_, _/_, _%_, _^_}
+use Prim.Native.Nat.{ℕ, zero, suc, _+_, _*_, _-_, _/_, _%_, _^_, _≤_, _<_}
+use mathlib.Core.Path.{_≡_}
 use mathlib.Core.Bool.{Bool, true, false}
 use mathlib.Core.List.{List, [], _∷_, _++_}
 use lib.ListN.{length, getD, replicate}
 use lib.Dec.{leb}
+use Rattle.rules.specs.Letters.{canonical}
 use Rattle.rules.specs.Refusal.{Refusal, Outcome, accepted, refused}
+use Rattle.rules.specs.Set.{maxK, maxKeys}
 
 -- ---- words as bytes
 
@@ -43,6 +46,25 @@ blocksFrom words b (suc m) = blockOf words b ++ blocksFrom words (suc b) m
 -- The blocks that m words need.
 abbrev pub blocksFor : ℕ → ℕ
 blocksFor m = (m + 62) / 63
+
+-- ---- a set's blocks
+
+-- Keys as document 01 wants them: canonical, below 4^k and strictly rising; and k and their number within its limits.
+pub record Keys (k : ℕ) (keys : List ℕ) : Type 0 where
+  pub k-odd : k % 2 ≡ 1
+  pub k-high : k ≤ maxK
+  pub few : length keys ≤ maxKeys
+  pub same : (i : ℕ) → i < length keys → canonical k (getD keys i 0) ≡ getD keys i 0
+  pub small : (i : ℕ) → i < length keys → getD keys i 0 < 4 ^ k
+  pub rising : (i : ℕ) → suc i < length keys → getD keys i 0 < getD keys (suc i) 0
+
+-- Block 0: word 0 is k, word 1 is n, the rest zero; then the keys.
+unfoldable pub setWords : ℕ → List ℕ → List ℕ
+setWords k keys = k ∷ length keys ∷ (replicate 61 0 ++ keys)
+
+unfoldable pub setBlocks : ℕ → List ℕ → List ℕ
+unfolding setWords blocksFrom
+setBlocks k keys = blocksFrom (setWords k keys) 0 (1 + blocksFor (length keys))
 
 -- ---- makers of blocks
 

@@ -1,5 +1,5 @@
 -- Document 01, refusals 1 to 6 and 11, and what the single-read and the batch call answer and leave in the lent buffers; document 02, W1,
--- W7: an index may be offered with the set (refusal 15), W8: and the keys' counts (refusal 16).
+-- W7: an index may be offered with the set (refusal 15), W8: and the keys' counts (refusal 16), W10: lookups for each base.
 use Prim.Native.Nat.{ℕ, suc, _+_, _*_, _-_, max}
 use mathlib.Core.Bool.{Bool, true, false, _&&_, _||_}
 use mathlib.Core.Option.{Option, none, some}
@@ -11,8 +11,8 @@ use Rattle.rules.specs.Set.{KmerSet, offering, opened}
 use Rattle.rules.specs.Index.{indexCheck}
 use Rattle.rules.specs.Driver.{Pass}
 use Rattle.rules.specs.Job.{Entry, known, methodByte, confirmByte, entryCount, entriesOf, lines, pass, result}
-use Rattle.rules.specs.Report.{Report, yieldOf}
-use Rattle.rules.specs.Counts.{Fed, sum, allPasses, turns, lookups, attempts, corrections, supportOver}
+use Rattle.rules.specs.Report.{Report, yieldOf, quotientOf, remainderOf}
+use Rattle.rules.specs.Counts.{Fed, sum, allPasses, turns, lookups, attempts, corrections, supportOver, W}
 
 -- ---- the limits
 
@@ -125,9 +125,9 @@ module _ (set : KmerSet) (es : List Entry) (ending : List ℕ) where
   results [] = []
   results (read ∷ reads) = result set es read ++ (ending ++ results reads)
 
-  -- The report: numbers are sums over all passes, yield from the sums; support is none where no counts are offered.
+  -- The report: numbers are sums over all passes, yield, quotient and remainder from the sums; support is none where no counts are offered.
   unfoldable pub report : List (List ℕ) → Report
-  unfolding results allPasses sum turns lookups attempts corrections supportOver yieldOf
+  unfolding results allPasses sum turns lookups attempts corrections supportOver W yieldOf quotientOf remainderOf
   report reads =
       let ps : List Fed = allPasses set es reads in
       record {
@@ -138,6 +138,9 @@ module _ (set : KmerSet) (es : List Entry) (ending : List ℕ) where
         accepted = sum (corrections set) ps;
         yield = yieldOf (sum (corrections set) ps) (sum (attempts set) ps);
         support = elim (set .counts) [ [] ↦ none | c ∷ cs ↦ supportOver set ps ];
+        quotient = quotientOf (sum (lookups set) ps) (sum (W set) ps);
+        remainder = remainderOf (sum (lookups set) ps) (sum (W set) ps);
+        bases = sum (W set) ps;
       }
 
   -- With an opened set: 11, or the result with the rest of the output zero and the whole work buffer zero.

@@ -13,12 +13,9 @@ pub mod Graph
 pub mod GapSize
 pub mod Driver
 pub mod Calls
-pub mod Program
 pub mod Solid
 pub mod Blocks
-pub mod MakeSet
 pub mod Index
-pub mod Needs
 pub mod Samples
 pub mod Scenarios
 pub mod Supports

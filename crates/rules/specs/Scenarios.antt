@@ -1,10 +1,11 @@
 -- A second table of samples, beside document 01's: for each scenario of One and Two a small set and a read in which it is the one used,
--- and GapSize where it does not hand over to One. Bytes, turns and lookups are not computed by these rules: compare/ found them, where natir/br
--- and document 01 written down once more agree on every line. Another check start, resume, count of letters or least length gives another line.
+-- GapSize where it does not hand over to One, and two walks of Graph that are given up. Bytes, turns and lookups are not computed by these
+-- rules: compare/ found them, where natir/br and document 01 written down once more agree on every line (Graph's two were counted by hand).
+-- Another check start, resume, count of letters or least length gives another line.
 use Prim.Native.Nat.{ℕ}
 use mathlib.Core.List.{List, [], _∷_}
 use Rattle.rules.specs.Set.{KmerSet}
-use Rattle.rules.specs.Job.{One, Two, GapSize}
+use Rattle.rules.specs.Job.{One, Two, Graph, GapSize}
 use Rattle.rules.specs.Samples.{A, C, T, G, Sample, line}
 
 -- A line, and the set that it is for.
@@ -38,6 +39,8 @@ scenarioTable =
     ∷ on 3 (15 ∷ 24 ∷ 40 ∷ 60 ∷ []) (line One 1 (T ∷ C ∷ C ∷ A ∷ A ∷ A ∷ G ∷ []) (T ∷ C ∷ C ∷ A ∷ A ∷ A ∷ G ∷ []) 4 17)  -- a score not cut at the end
     ∷ on 5 (252 ∷ 344 ∷ 741 ∷ 917 ∷ []) (line GapSize 1 (T ∷ A ∷ G ∷ G ∷ G ∷ G ∷ A ∷ C ∷ A ∷ []) (T ∷ A ∷ G ∷ G ∷ G ∷ A ∷ C ∷ A ∷ []) 2 13)  -- GapSize, index below k
     ∷ on 5 (349 ∷ 373 ∷ 509 ∷ 1013 ∷ []) (line GapSize 1 (G ∷ C ∷ G ∷ G ∷ G ∷ G ∷ G ∷ C ∷ G ∷ C ∷ C ∷ []) (G ∷ C ∷ G ∷ G ∷ G ∷ C ∷ C ∷ C ∷ G ∷ C ∷ C ∷ []) 5 19)  -- GapSize, index above k
+    ∷ on 3 (6 ∷ 23 ∷ 51 ∷ 58 ∷ 60 ∷ []) (line Graph 1 (A ∷ A ∷ C ∷ G ∷ A ∷ C ∷ T ∷ []) (A ∷ A ∷ C ∷ G ∷ A ∷ C ∷ T ∷ []) 4 12)  -- Graph, T is x
+    ∷ on 3 (43 ∷ 46 ∷ 58 ∷ []) (line Graph 1 (C ∷ A ∷ A ∷ T ∷ []) (C ∷ A ∷ A ∷ T ∷ []) 1 34)  -- Graph, round three k-mers to the mark of move 4: 7 moves
     ∷ on 3 (6 ∷ 23 ∷ 51 ∷ 58 ∷ 60 ∷ []) (line GapSize 1 (A ∷ A ∷ C ∷ G ∷ C ∷ []) (A ∷ A ∷ C ∷ G ∷ C ∷ []) 2 44)  -- GapSize, a walk that is given up
     ∷ on 3 (60 ∷ 63 ∷ []) (line GapSize 1 (T ∷ C ∷ C ∷ T ∷ C ∷ T ∷ C ∷ []) (T ∷ C ∷ C ∷ T ∷ C ∷ T ∷ C ∷ []) 4 16)  -- GapSize, a repeat
     ∷ []

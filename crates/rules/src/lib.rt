@@ -1,1 +1,1 @@
-// The rules are definitions (specs/) and theorems about them (proofs/); this crate has no code to run.
+// The rules are definitions (specs/) and what they give for samples (proofs/); this crate has no code to run.

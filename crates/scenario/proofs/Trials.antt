@@ -11,14 +11,14 @@ use Rattle.rules.specs.Letters as letters
 use Rattle.rules.specs.Counted.{Try, refuse, give, after, next, _>>=_, _>>_}
 use Rattle.rules.specs.Scan.{ask, isSolid, notSolid, fourCost, sole}
 use Rattle.rules.specs.Exist.{Scenario, row, with, one, two}
-use Rattle.rules.proofs.Scan.{ask-known, ask-one, ask-cost, sole-lookups, sole-cost}
+use Rattle.rules_laws.proofs.Scan.{ask-known, ask-one, ask-cost, sole-lookups, sole-cost}
 use Rattle.kmer.specs.declared.Kmer.{Kmer as KmerOf}
 use Rattle.kmer.specs.Kmer.{kmerOf, IsKmer}
 use Rattle.set.specs.declared.Asked.{Asked}
 use Rattle.set.specs.Asked.{AskedIs}
-use Rattle.scan.specs.declared.Next.{Next}
-use Rattle.scan.specs.declared.Next.the-variants.{Kmer, Refused}
-use Rattle.scan.specs.Scan.{NextIs}
+use Rattle.successors.specs.declared.Next.{Next}
+use Rattle.successors.specs.declared.Next.the-variants.{Kmer, Refused}
+use Rattle.successors.specs.Successors.{NextIs}
 use Rattle.scenario.specs.declared.Trial.{Trial}
 use Rattle.scenario.proofs.Numbers.{range}
 use Rattle.scenario.specs.Scenario.{nth, trialOf, plus, soleAfter, solidAfter, passingOf, insteadOf, insteadAfter, TrialIs}

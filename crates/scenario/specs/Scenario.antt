@@ -10,7 +10,7 @@ use Rattle.rules.specs.Counted.{Try, refuse, give, _>>_}
 use Rattle.rules.specs.Scan.{isSolid, notSolid, sole}
 use Rattle.rules.specs.Exist.{Scenario, one, two}
 use Rattle.rules.specs.Exist as rules
-use Rattle.scan.specs.Scan.{NextIs}
+use Rattle.successors.specs.Successors.{NextIs}
 use Rattle.scenario.specs.declared.Row.{Row}
 use Rattle.scenario.specs.declared.Trial.{Trial}
 use Rattle.scenario.specs.declared.Mend.{Mend}

@@ -5,7 +5,7 @@ mod two;
 
 use kmer::Header;
 use kmer::Kmer;
-use scan::Next;
+use successors::Next;
 ghost use mathlib.Core.Bool.{Bool};
 ghost use mathlib.Core.List.{List};
 ghost use mathlib.Core.Path.{_≡_};

@@ -5,7 +5,7 @@ use super::Row;
 use super::Trial;
 use kmer::Header;
 use kmer::Kmer;
-use scan::Next;
+use successors::Next;
 ghost use mathlib.Core.Bool.{Bool};
 ghost use mathlib.Core.List.{List};
 ghost use mathlib.Core.Path.{_≡_};
@@ -87,8 +87,8 @@ fn sole(set: &[u8], starts: &[u32], head: Header, x: Kmer) -> Trial
     ensures { λ r. ⌜ TrialIs (head .k) (Scan.sole (head .k) (solid (setOf (now (set .entry)))) (kmerOf x)) r ⌝ }
 {
     Trial {
-        tried: scan::sole_next(set, starts, head, x),
-        lookups: scan::next_cost(x, head),
+        tried: successors::sole_next(set, starts, head, x),
+        lookups: successors::next_cost(x, head),
     }
 }
 
@@ -144,9 +144,9 @@ fn instead(set: &[u8], starts: &[u32], head: Header, x: Kmer, s: &[u8]) -> Trial
             lookups,
         };
     }
-    lookups += scan::next_cost(x, head);
+    lookups += successors::next_cost(x, head);
     Trial {
-        tried: scan::sole_next(set, starts, head, x),
+        tried: successors::sole_next(set, starts, head, x),
         lookups,
     }
 }
@@ -173,9 +173,9 @@ fn instead_after(set: &[u8], starts: &[u32], head: Header, x: Kmer, s: &[u8]) ->
             lookups,
         };
     }
-    lookups += scan::next_cost(y, head);
+    lookups += successors::next_cost(y, head);
     Trial {
-        tried: scan::sole_next(set, starts, head, y),
+        tried: successors::sole_next(set, starts, head, y),
         lookups,
     }
 }

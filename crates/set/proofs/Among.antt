@@ -10,8 +10,8 @@ use lib.Dec.{ltb}
 use lib.ListN.{length, getD}
 use Rattle.rules.specs.Letters.{canonical}
 use Rattle.rules.specs.Set.{KmerSet, headerK, headerN, keyWord, setOf, setCheck, lookup, isNone, solid}
-use Rattle.rules.proofs.Keys.{keys-length, keys-at}
-use Rattle.rules.proofs.Lookup.{lookup-at, lookup-is, lookup-none}
+use Rattle.rules_laws.proofs.Keys.{keys-length, keys-at}
+use Rattle.rules_laws.proofs.Lookup.{lookup-at, lookup-is, lookup-none}
 use Rattle.few_keys.specs.declared.Found.{Found}
 use Rattle.few_keys.specs.declared.Found.the-variants.{At, Nothing}
 use Rattle.few_keys.specs.Find.{Answers}

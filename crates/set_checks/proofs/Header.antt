@@ -8,7 +8,7 @@ use lib.ListN.{length}
 use borrow.Author.Tests.{eqb-true, leb-true}
 use Rattle.rules.specs.Refusal.{firstFailing}
 use Rattle.rules.specs.Set.{blockWord, headerK, headerN, headerRight, isNone}
-use Rattle.rules.proofs.Opened.{both}
+use Rattle.rules_laws.proofs.Opened.{both}
 
 abbrev pub sizes : ℕ → ℕ → Bool
 sizes k n = eqb (k % 2) 1 && leb k 31 && leb n 16777216

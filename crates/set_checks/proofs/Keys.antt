@@ -9,7 +9,7 @@ use lib.Dec.{eqb, ltb, leb, leb·zero, eqb·suc-zero}
 use borrow.Author.Tests.{eq-eqb, ne-eqb, lt-ltb, le-ltb, le-leb, lt-leb, ltb-true, ltb-false}
 use Rattle.rules.specs.Letters.{canonical, evenOnes, mask}
 use Rattle.rules.specs.Set.{keyRight, keyWord, headerK, headerN}
-use Rattle.rules.proofs.Kmer.{four-pos, canonical-one}
+use Rattle.rules_laws.proofs.Kmer.{four-pos, canonical-one}
 use Rattle.kmer.proofs.Laws.{canonical-even, canonical-odd, even-wide}
 use Rattle.set_checks.specs.Keys.{leastKey}
 

@@ -10,13 +10,12 @@ use mathlib.Core.List.{List, [], _∷_}
 use lib.ListN.{length}
 use lib.Dec.{eqb}
 use Rattle.rules.specs.Set.{KmerSet}
-use Rattle.rules.specs.Driver.{Pass, weaker}
-use Rattle.rules.specs.Job.{Entry, entryAt, entryCount, entriesFrom, entriesOf, pass, result}
+use Rattle.rules.specs.Job.{Entry, entryAt, entryCount, entriesFrom, entriesOf, result}
 use Rattle.rules.specs.Counts.{sum, passesOf, turns, lookups, attempts, corrections, support, supportOver}
 use Rattle.rules.specs.Calls.{longest}
-use Rattle.rules.proofs.Support.{weaker-none, weaker-assoc}
-use Rattle.correct.specs.Pass.{Small}
-use Rattle.through.specs.Through.{through, held}
+use Rattle.rules_laws.proofs.Support.{weaker-none, weaker-assoc}
+use Rattle.correct.specs.Pass.{Tally, onePass, Small}
+use Rattle.through.specs.Through.{through, held, entriesLeft, both, goOn}
 
 -- ---- the buffer that is read
 
@@ -39,57 +38,39 @@ held-length n output work e = go (eqb (n % 2) 0) refl
 -- ---- the entries from i on
 
 module _ (job : List ℕ) where
-  abbrev pub entriesLeft : ℕ → List Entry
-  entriesLeft i = entriesFrom job i (entryCount job - i)
-
-  pub entries-all : entriesOf job ≡ entriesLeft 0
+  pub entries-all : entriesOf job ≡ entriesLeft job 0
   unfolding entriesOf
   entries-all = ap (entriesFrom job 0) (sym (sub-zero (entryCount job)))
 
-  pub entries-next : (i : ℕ) → i < entryCount job → entriesLeft i ≡ entryAt job i ∷ entriesLeft (i + 1)
+  pub entries-next : (i : ℕ) → i < entryCount job → entriesLeft job i ≡ entryAt job i ∷ entriesLeft job (i + 1)
   unfolding entriesFrom
   entries-next i h = let more : entryCount job - i ≡ suc (entryCount job - suc i) = omega arith in rw (more, add-one i, entriesFrom)
 
-  pub entries-over : (i : ℕ) → entryCount job ≤ i → entriesLeft i ≡ []
+  pub entries-over : (i : ℕ) → entryCount job ≤ i → entriesLeft job i ≡ []
   unfolding entriesFrom
   entries-over i h = let none : entryCount job - i ≡ 0 = omega arith in rw (none, entriesFrom)
 
 -- ---- counts
 
--- The passes so far, p, and the next, q.
-abbrev pub both : Pass → Pass → Pass
-both p q =
-    record {
-      bytes = q .bytes;
-      turns = p .turns + q .turns;
-      lookups = p .lookups + q .lookups;
-      attempts = p .attempts + q .attempts;
-      accepted = p .accepted + q .accepted;
-      support = weaker (p .support) (q .support);
-    }
-
-pub add-small : (i j : ℕ) (p q : Pass) → Small i p → Small j q → Small (i + j) (both p q)
+pub add-small : (i j : ℕ) (p q : Tally) → Small i p → Small j q → Small (i + j) (both p q)
 add-small i j p q a b =
     record {
       turns = omega (arith, a .turns, b .turns);
       lookups = omega (arith, a .lookups, b .lookups);
       attempts = omega (arith, a .attempts, b .attempts);
       accepted = omega (arith, a .accepted, b .accepted);
+      bases = omega (arith, a .bases, b .bases);
     }
 
 module _ (set : KmerSet) where
-  -- The passes so far and then the entries that are left.
-  abbrev pub goOn : Pass → List Entry → Pass
-  goOn p es = both p (through set es (p .bytes))
-
-  pub begun : (e : Entry) (es : List Entry) (read : List ℕ) → goOn (pass set e read) es ≡ through set (e ∷ es) read
-  unfolding through passesOf sum turns lookups attempts corrections support supportOver result
+  pub begun : (e : Entry) (es : List Entry) (read : List ℕ) → goOn set (onePass set e read) es ≡ through set (e ∷ es) read
+  unfolding onePass through passesOf sum turns lookups attempts corrections support supportOver result
   begun e es read = refl
 
-  pub next : (p : Pass) (e : Entry) (es : List Entry) → goOn (both p (pass set e (p .bytes))) es ≡ goOn p (e ∷ es)
-  unfolding through passesOf sum turns lookups attempts corrections support supportOver result
+  pub next : (p : Tally) (e : Entry) (es : List Entry) → goOn set (both p (onePass set e (p .bytes))) es ≡ goOn set p (e ∷ es)
+  unfolding onePass through passesOf sum turns lookups attempts corrections support supportOver result
   next p e es =
-      let q = pass set e (p .bytes) in
+      let q = onePass set e (p .bytes) in
       let r = through set es (q .bytes) in
       λ i. record {
         bytes = r .bytes;
@@ -98,9 +79,10 @@ module _ (set : KmerSet) where
         attempts = add-assoc (p .attempts) (q .attempts) (r .attempts) i;
         accepted = add-assoc (p .accepted) (q .accepted) (r .accepted) i;
         support = weaker-assoc (p .support) (q .support) (r .support) i;
+        bases = add-assoc (p .bases) (q .bases) (r .bases) i;
       }
 
-  pub over : (p : Pass) → goOn p [] ≡ p
+  pub over : (p : Tally) → goOn set p [] ≡ p
   unfolding through passesOf sum supportOver result
   over p =
       λ i. record {
@@ -110,20 +92,21 @@ module _ (set : KmerSet) where
         attempts = add-zero (p .attempts) i;
         accepted = add-zero (p .accepted) i;
         support = weaker-none (p .support) i;
+        bases = add-zero (p .bases) i;
       }
 
   -- ---- refusal 11
 
   module _ (room : ℕ) (e : Entry) (es : List Entry) (fed : List ℕ) where
-    abbrev p : Pass
-    p = pass set e fed
+    abbrev p : Tally
+    p = onePass set e fed
 
     pub fits : length (p .bytes) ≤ room → max room (longest set es (p .bytes)) ≡ max room (longest set (e ∷ es) fed)
-    unfolding longest
+    unfolding onePass longest
     fits h = omega arith
 
     pub long : room < length (p .bytes) → room < longest set (e ∷ es) fed
-    unfolding longest
+    unfolding onePass longest
     long h = omega arith
 
   pub longest-end : (fed : List ℕ) → longest set [] fed ≡ length fed

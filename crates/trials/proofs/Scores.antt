@@ -15,8 +15,8 @@ use Rattle.rules.specs.Set.{KmerSet, lookup, solid}
 use Rattle.rules.specs.Counted.{Counted, after, refuse, _>>=_}
 use Rattle.rules.specs.Scan.{ask}
 use Rattle.rules.specs.Exist.{Scenario, Mend, cons, one, two, solidRun, score, keep, tried, kept}
-use Rattle.rules.proofs.Kmer.{Known, ne-known}
-use Rattle.rules.proofs.Scan.{ask-is, ask-one, ask-none}
+use Rattle.rules_laws.proofs.Kmer.{Known, ne-known}
+use Rattle.rules_laws.proofs.Scan.{ask-is, ask-one, ask-none}
 use Rattle.few_keys.specs.declared.Found.{Found}
 use Rattle.set.specs.declared.Asked.{Asked}
 use Rattle.set.specs.Asked.{AskedIs}

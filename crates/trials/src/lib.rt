@@ -3,8 +3,8 @@
 use few_keys::Found;
 use kmer::Header;
 use kmer::Kmer;
-use scan::Next;
 use scenario::Mend;
+use successors::Next;
 ghost use Prim.Native.Nat.{_≤_, _<_};
 ghost use Rattle.rules.specs.Set.{solid, setOf};
 ghost use Rattle.rules.specs.Exist as rules;

@@ -13,8 +13,8 @@ use Rattle.rules.specs.Counted.{Try}
 use Rattle.rules.specs.Scan.{ask, errorLen}
 use Rattle.rules.specs.Exist.{Mend}
 use Rattle.rules.specs.Driver.{Pass, State, keepBase, mendBase, turn, turnsOf}
-use Rattle.rules.proofs.Scan.{scan-is}
-use Rattle.rules.proofs.Driver.{Case, is-solid, is-quiet, is-refused, is-mended, case, turn-solid, turn-quiet, turn-refused, turn-mended, turnsOf-step, turnsOf-end, Steady, finish, finish-step, refused-kept}
+use Rattle.rules_laws.proofs.Scan.{scan-is}
+use Rattle.rules_laws.proofs.Driver.{Case, is-solid, is-quiet, is-refused, is-mended, case, turn-solid, turn-quiet, turn-refused, turn-mended, turnsOf-step, turnsOf-end, Steady, finish, finish-step, refused-kept}
 
 -- a is done by the time that b is
 pub record Within (a b : Pass) : Type 0 where

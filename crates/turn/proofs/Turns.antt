@@ -20,9 +20,9 @@ use Rattle.rules.specs.Scan.{ask, errorLen}
 use Rattle.rules.specs.Exist.{Mend}
 use Rattle.rules.specs.Driver.{State, weaker, weakest, keepBase, mendBase}
 use Rattle.rules.specs.Job.{methodOf}
-use Rattle.rules.proofs.Scan.{scan-is}
-use Rattle.rules.proofs.Driver.{turn-solid, turn-quiet, turn-refused, turn-mended, Steady, finish-step, left, left-step}
-use Rattle.rules.proofs.Demands.{steady}
+use Rattle.rules_laws.proofs.Scan.{scan-is}
+use Rattle.rules_laws.proofs.Driver.{turn-solid, turn-quiet, turn-refused, turn-mended, Steady, finish-step, left, left-step}
+use Rattle.rules_ceiling.proofs.Demands.{steady}
 use Rattle.kmer.specs.declared.Header.{Header}
 use Rattle.kmer.specs.declared.Kmer.{Kmer}
 use Rattle.kmer.specs.Kmer.{kmerOf, IsKmer, HasLetters}
@@ -128,14 +128,19 @@ module _ (bytes starts : List ℕ) (head : Header) (counts : List ℕ) (method c
   done-within x e = subst (λ (q : State). Within (q .done) (endOf bytes head counts method c st)) e (turn-within k sol count ce (ready-steady (t .ready) counts method c (t .confirm)) st b s rest-is)
 
   module _ (many : length put ≡ p .written) (n : Countable (endOf bytes head counts method c st)) where
-    pub keep-fits : (v : Bool) (a l : ℕ) → turnOf bytes head counts method c st b s ≡ keepBase st b s y v a l → Fits p 1 l a 0
+    -- Where a base is kept the lookups are few, and so any few more can be added.
+    pub kept-lookups : (v : Bool) (a l : ℕ) → turnOf bytes head counts method c st b s ≡ keepBase st b s y v a l → p .lookups + l < 2 ^ 63
     unfolding stateOf keepBase
-    keep-fits v a l e =
+    kept-lookups v a l e = omega (arith, done-within _ e .lookups, n .lookups)
+
+    pub keep-fits : (v : Bool) (a l : ℕ) → turnOf bytes head counts method c st b s ≡ keepBase st b s y v a l → (more : ℕ) → more < 2 ^ 63 → Fits p 1 more a 0
+    unfolding stateOf keepBase
+    keep-fits v a l e more few =
         let d = done-within _ e in
         record {
           written = omega (arith, d .bytes, n .bytes, length-append put (b ∷ []), many);
           turns = omega (arith, d .turns, n .turns);
-          lookups = omega (arith, d .lookups, n .lookups);
+          lookups = omega (arith, kept-lookups v a l e, few);
           attempts = omega (arith, d .attempts, n .attempts);
           accepted = omega (arith, d .accepted, n .accepted);
         }

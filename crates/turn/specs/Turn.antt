@@ -14,7 +14,7 @@ use Rattle.rules.specs.Exist.{Mend}
 use Rattle.rules.specs.Driver as rules
 use Rattle.rules.specs.Driver.{State}
 use Rattle.rules.specs.Job.{methodOf, correctError}
-use Rattle.rules.proofs.Driver.{finish}
+use Rattle.rules_laws.proofs.Driver.{finish}
 use Rattle.kmer.specs.declared.Header.{Header}
 use Rattle.kmer.specs.declared.Kmer.{Kmer}
 use Rattle.kmer.specs.Kmer.{kmerOf, IsKmer, HasLetters}

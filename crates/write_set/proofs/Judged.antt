@@ -9,8 +9,8 @@ use lib.Dec.{leb}
 use lib.ListN.{length}
 use Rattle.rules.specs.Refusal.{Check, _orElse_, unless}
 use Rattle.rules.specs.Set.{maxKeys, kRight}
-use Rattle.rules.specs.MakeSet.{textLines, textKeys, linesCheck, textCheck}
-use Rattle.rules.proofs.Opened.{passed, unless-passed}
+use Rattle.rules_make.specs.MakeSet.{textLines, textKeys, linesCheck, textCheck}
+use Rattle.rules_laws.proofs.Opened.{passed, unless-passed}
 
 module _ (text : List ℕ) (k least : ℕ) where
   pub text-passed : textCheck text k least ≡ none → (kRight k ≡ true) × (linesCheck k least 0 none (textLines text) ≡ none) × (length (textKeys k least text) ≤ maxKeys)

@@ -9,11 +9,12 @@ use mathlib.Core.Option.{Option, none}
 use mathlib.Core.List.{List, [], _∷_, _++_}
 use lib.ListN.{length, getD, take, drop, set, replicate, length-set, length-drop, drop-of-length-le}
 use lib.Seq.{drop-cons, take-suc, take-all, take-at, length-take-le, paste, paste-zero, paste-suc}
-use Rattle.rules.specs.Blocks.{blocksFor, blocksFrom}
-use Rattle.rules.specs.MakeSet.{textCheck, setWords, setBlocks, textLines, textKeys, textCounts, formRight, kept, lineCount, lineKey, maxCount, linesCheck, lineCheck, unlessAt, lastKept, keptLines, lineKeys, lineCounts}
-use Rattle.rules.proofs.Opened.{passed}
-use Rattle.rules.proofs.Blocks.{Bytes, zeros-at}
-use Rattle.rules.proofs.MakeSet.{unless-at, set-length, set-words, text-keys, text-counts-length}
+use Rattle.rules.specs.Blocks.{blocksFor, blocksFrom, setWords, setBlocks}
+use Rattle.rules_make.specs.MakeSet.{textCheck, textLines, textKeys, textCounts, formRight, kept, lineCount, lineKey, maxCount, linesCheck, lineCheck, unlessAt, lastKept, keptLines, lineKeys, lineCounts}
+use Rattle.rules_laws.proofs.Opened.{passed}
+use Rattle.rules_laws.proofs.Blocks.{Bytes, zeros-at}
+use Rattle.rules_laws.proofs.SetBlocks.{set-length, set-words}
+use Rattle.rules_make.proofs.MakeSet.{unless-at, text-keys, text-counts-length}
 use Rattle.lay.specs.Lay.{Put, Sealed, Holds, Extended}
 use Rattle.lay.proofs.Laws.{extended-none, extended-more, holds-none, holds-more, holds-same, sealed-is, cleared-length}
 use Rattle.kmer_text.specs.Text.{TextLine}

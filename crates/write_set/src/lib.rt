@@ -6,8 +6,8 @@ ghost use mathlib.Core.List.{_++_};
 ghost use Prim.Native.Nat.{_+_, _*_, _-_, _≤_};
 ghost use lib.ListN.{length, take, drop, replicate};
 ghost use Rattle.rules.specs.Set.{maxKeys};
-ghost use Rattle.rules.specs.Blocks.{blocksFor};
-ghost use Rattle.rules.specs.MakeSet as Rules;
+ghost use Rattle.rules.specs.Blocks.{blocksFor, setBlocks};
+ghost use Rattle.rules_make.specs.MakeSet as Rules;
 ghost use Rattle.kmer.specs.Kmer.{Shifts};
 ghost use Rattle.lay.specs.Lay.{Extended};
 
@@ -51,7 +51,7 @@ fn clear_counts(counts: &mut [u32], from: usize)
 pub fn write(text: &[u8], head: Header, least: u64, n: usize, blocks: &mut [u8], counts: &mut [u32])
     requires { ⌜ Shifts head × (Rules.textCheck (now text) (head .k) least ≡ none) × (n ≡ length (Rules.textKeys (head .k) least (now text)))
         × (512 * (1 + blocksFor n) ≤ length (now blocks)) × (n ≤ length (now counts)) ⌝ }
-    ensures { λ _. ⌜ (now (blocks .exit) ≡ Rules.setBlocks (head .k) (Rules.textKeys (head .k) least (now (text .entry)))
+    ensures { λ _. ⌜ (now (blocks .exit) ≡ setBlocks (head .k) (Rules.textKeys (head .k) least (now (text .entry)))
         ++ replicate (length (now (blocks .entry)) - 512 * (1 + blocksFor n)) 0)
         × (now (counts .exit) ≡ Rules.textCounts (head .k) least (now (text .entry)) ++ replicate (length (now (counts .entry)) - n) 0) ⌝ }
 {

@@ -70,7 +70,8 @@ impl Against {
     pub fn correct_batch(&self, set: &[u8], job: &Job, output: &mut [u8], work: &mut [u8]) -> Answer {
         match self.call(set, job, output, work) {
             [0, _, written, turns, lookups, attempts, accepted, yields] => {
-                Ok(Report { written, turns, lookups, attempts, accepted, yields, support: None })
+                // What a build may not tell yet is left out.
+                Ok(Report { written, turns, lookups, attempts, accepted, yields, support: None, quotient: 0, remainder: 0, bases: 0 })
             }
             [number, place, ..] => Err(Refusal { number, place }),
         }

@@ -51,6 +51,11 @@ pub struct Report {
     pub yields: u64,
     /// None if nothing was accepted or no counts are offered.
     pub support: Option<u32>,
+    /// Document 02, W10: of the lookups by the sum of W, both 0 where that is 0.
+    pub quotient: u64,
+    pub remainder: u64,
+    /// The sum of W.
+    pub bases: u64,
 }
 
 pub type Answer = Result<Report, Refusal>;
@@ -198,17 +203,21 @@ pub fn support(passes: &[Vec<Pass>], counts: &[u32]) -> Option<u32> {
     evidence.map(|key| counts[*key]).min()
 }
 
-/// Numbers are sums over all passes, yield from the sums, support the smallest of all.
+/// Numbers are sums over all passes, yield, quotient and remainder from the sums, support the smallest of all.
 fn report(written: usize, passes: &[Vec<Pass>], counts: &[u32]) -> Report {
     let sum = |of: fn(&Pass) -> u64| passes.iter().flatten().map(of).sum();
     let (attempts, accepted): (u64, u64) = (sum(|pass| pass.attempts), sum(|pass| pass.accepted));
+    let (lookups, bases): (u64, u64) = (sum(|pass| pass.lookups), sum(|pass| pass.w));
     Report {
         written: written as u64,
         turns: sum(|pass| pass.turns),
-        lookups: sum(|pass| pass.lookups),
+        lookups,
         attempts,
         accepted,
         yields: nearest(accepted * 1000, attempts),
         support: support(passes, counts),
+        quotient: lookups.checked_div(bases).unwrap_or(0),
+        remainder: lookups.checked_rem(bases).unwrap_or(0),
+        bases,
     }
 }

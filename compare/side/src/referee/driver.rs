@@ -6,6 +6,8 @@ use super::set::Set;
 #[derive(Clone, Default)]
 pub struct Pass {
     pub bytes: Vec<u8>,
+    /// The length of what it is fed less k, 0 if that is shorter than k.
+    pub w: u64,
     pub turns: u64,
     pub lookups: u64,
     pub attempts: u64,
@@ -29,7 +31,7 @@ pub fn pass(set: &Set, method: Method, c: u8, read: &[u8]) -> Pass {
     if read.len() < k {
         return Pass { bytes: read.to_vec(), ..Pass::default() };
     }
-    let mut pass = Pass { bytes: read[..k].to_vec(), ..Pass::default() };
+    let mut pass = Pass { bytes: read[..k].to_vec(), w: (read.len() - k) as u64, ..Pass::default() };
     let mut asking = Asking::new(set);
     let mut kmer = Kmer::of(k, &read[..k]);
     if kmer.code().is_none() {

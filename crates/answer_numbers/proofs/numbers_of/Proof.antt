@@ -1,6 +1,6 @@
 use Prim.Native.Nat.{ℕ}
 use mathlib.Core.Path.{ap}
-use mathlib.Core.List.{List, _∷_}
+use mathlib.Core.List.{List, [], _∷_}
 use borrow.Author.Needs.{needs}
 use Rattle.answer_numbers.specs.Numbers.{numbersOf}
 use Rattle.answer_numbers.proofs.Numbers.{support-told}
@@ -31,7 +31,8 @@ returns c =
     let a = c .before .before .before in
     let r = a .answer .given .0 .0 in
     rw (a .answer .given .1, c .support-number .ensures)
-    (ap (λ (l : List ℕ). 0 ∷ 0 ∷ r .written ∷ r .turns ∷ r .lookups ∷ r .attempts ∷ r .accepted ∷ r .«yield_» ∷ l) (support-told (r .supported) (r .support)))
+    (ap (λ (l : List ℕ). 0 ∷ 0 ∷ r .written ∷ r .turns ∷ r .lookups ∷ r .attempts ∷ r .accepted ∷ r .«yield_» ∷ l)
+    (support-told (r .supported) (r .support) (r .quotient ∷ r .remainder ∷ r .bases ∷ [])))
 
 returns-2 : tie.Need-returns-2
 unfolding numbersOf

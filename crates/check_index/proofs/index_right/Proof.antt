@@ -2,7 +2,7 @@ use Prim.Native.Nat.{_*_}
 use native.Mathlib.Omega.{arith}
 use mathlib.Core.Path.{sym, ap, _∙_}
 use borrow.Author.Tests.{not-true, not-false}
-use Rattle.rules.proofs.Blocks.{Bytes}
+use Rattle.rules_laws.proofs.Blocks.{Bytes}
 use Rattle.index.proofs.Laws.{count-few}
 use Rattle.check_index.proofs.Laws.{wrong-length, wrong-check, words-decide}
 use borrow.Author.Needs.{needs}

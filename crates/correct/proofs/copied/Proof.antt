@@ -22,7 +22,7 @@ unfolding supportOf
 returns-2 c =
     let copied = c .before .before .before .copy in
     rw (c .unchanged .ensures)
-    (λ i. record { bytes = copied .ensures i; turns = 0; lookups = 0; attempts = 0; accepted = 0; support = none }, omega (arith, c .before .before .before .before .before .if1 .left, copied .kept .1 .0))
+    (λ i. record { bytes = copied .ensures i; turns = 0; lookups = 0; attempts = 0; accepted = 0; support = none; bases = 0 }, omega (arith, c .before .before .before .before .before .if1 .left, copied .kept .1 .0))
 
 pub copied-spec : {M : Type 1} → statement M
 copied-spec = tie.close (tie.spec returns copy-requires unchanged-requires same-length returns-2)

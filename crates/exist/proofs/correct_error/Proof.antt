@@ -10,13 +10,13 @@ use Rattle.rules.specs.Counted.{Try, after}
 use Rattle.rules.specs.Scan.{alternative}
 use Rattle.rules.specs.Exist.{Mend, exist}
 use Rattle.kmer.specs.Kmer.{kmerOf}
-use Rattle.scan.specs.declared.Alt.the-variants.{Kmer}
-use Rattle.scan.specs.Scan.{AltIs}
+use Rattle.successors.specs.declared.Alt.the-variants.{Kmer}
+use Rattle.successors.specs.Successors.{AltIs}
 use Rattle.set.proofs.Counted.{with-count}
 use Rattle.scenario.specs.Scenario.{scenarios, ofCode, spelledOut}
 use Rattle.exist.specs.declared.Pick.the-variants.{Mend as Use}
 use Rattle.exist.specs.Exist.{PickIs}
-use Rattle.scan.proofs.Laws.{alternative-at-most}
+use Rattle.successors.proofs.Laws.{alternative-at-most}
 use Rattle.exist.proofs.Attempts.{exist-none, exist-answer, exist-lookups, refused, mended}
 use Rattle.exist.proofs.correct_error.Statement.{statement}
 use Rattle.exist.proofs.correct_error.Tie as tie

@@ -73,7 +73,28 @@ pub struct Count {
     pub solid: u64,
 }
 
-/// What an accepted call counts. The numbers of a batch are sums over its lines, its support is the smallest of theirs.
+/// What an accepted call counts. The numbers of a batch are sums over its lines, with the yield, quotient and remainder of the sums; its support is
+/// the smallest of theirs.
+///
+/// To add many calls, add their lookups and their bases and divide once: quotients, as averages, do not add.
+///
+/// ```
+/// # let mut set = vec![0; corrector::set_length(5)];
+/// # corrector::make_set(b"ACT,9\nCCG,4\nCTC,7\nAAC,5\nTCC,8\n", 3, 1, &mut set, &mut [0; 5])?;
+/// # use corrector::{Entry, Job, Method};
+/// # let mut work = [0; 64];
+/// # let mut call = |method, batch: &[u8]| {
+/// #     let entries = [Entry::new(method, 1).expect("confirm is not 0")];
+/// #     corrector::correct_batch(&set, None, None, Job::new(&entries), batch, &mut [0; 16], &mut work)
+/// # };
+/// let first = call(Method::Graph, b"AACGCCG\n")?;
+/// let second = call(Method::One, b"AACGC\nAACGCCG\n")?;
+/// assert_eq!((first.lookups, first.bases, first.quotient, first.remainder), (21, 4, 5, 1));
+/// assert_eq!((second.lookups, second.bases, second.quotient, second.remainder), (28, 6, 4, 4));
+/// let (lookups, bases) = (first.lookups + second.lookups, first.bases + second.bases);
+/// assert_eq!((lookups / bases, lookups % bases), (4, 9));
+/// # Ok::<(), corrector::Refusal>(())
+/// ```
 #[derive(Clone, Copy, Debug, PartialEq, Eq)]
 pub struct Report {
     /// Bytes of the output.
@@ -90,6 +111,12 @@ pub struct Report {
     pub yield_: u64,
     /// The smallest count behind the accepted corrections, which may be 0; none if nothing was accepted or no counts were offered.
     pub support: Option<u32>,
+    /// Lookups for each base: the whole quotient of [`lookups`](Report::lookups) by [`bases`](Report::bases), 0 without bases.
+    pub quotient: u64,
+    /// What is left: quotient × bases + remainder are the lookups, and the remainder is smaller than the bases. 0 without bases.
+    pub remainder: u64,
+    /// The sum over all passes of W, the bases beyond the first k.
+    pub bases: u64,
 }
 
 /// What a batch will need, exactly. All three are sums over its lines.
@@ -263,11 +290,11 @@ fn made(numbers: [u64; 3]) -> Result<usize, Refusal> {
     }
 }
 
-fn answer(numbers: [u64; 10]) -> Result<Report, Refusal> {
+fn answer(numbers: [u64; 13]) -> Result<Report, Refusal> {
     match numbers {
-        [0, _, written, turns, lookups, attempts, accepted, yield_, supported, support] => {
+        [0, _, written, turns, lookups, attempts, accepted, yield_, supported, support, quotient, remainder, bases] => {
             let support = (supported == 1).then_some(support as u32);
-            Ok(Report { written: written as usize, turns, lookups, attempts, accepted, yield_, support })
+            Ok(Report { written: written as usize, turns, lookups, attempts, accepted, yield_, support, quotient, remainder, bases })
         }
         [number, place, ..] => Err(Refusal::from_numbers(number, place)),
     }

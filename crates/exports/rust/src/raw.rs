@@ -69,13 +69,13 @@ pub fn open(set: &[u8]) -> [u64; 4] {
     answer
 }
 
-/// Number, place, written, turns, lookups, attempts, accepted, yield, supported, support.
-pub fn correct(call: Call, lent: Lent<'_>) -> [u64; 10] {
+/// Number, place, written, turns, lookups, attempts, accepted, yield, supported, support, quotient, remainder, bases.
+pub fn correct(call: Call, lent: Lent<'_>) -> [u64; 13] {
     let entry = match call {
         Call::Read => corrector_read,
         Call::Batch => corrector_batch,
     };
-    let mut answer = [0; 10];
+    let mut answer = [0; 13];
     // SAFETY: each pointer and length are a live slice's; `output`, `work` and `answer` are lent to this call alone, so that they overlap
     // nothing; and the call keeps no pointer.
     unsafe {

@@ -103,7 +103,7 @@ fn samples_of_graph_and_gap_size() {
 
 #[test]
 fn short_reads() {
-    let none = Report { written: 0, turns: 0, lookups: 0, attempts: 0, accepted: 0, yield_: 0, support: None };
+    let none = Report { written: 0, turns: 0, lookups: 0, attempts: 0, accepted: 0, yield_: 0, support: None, quotient: 0, remainder: 0, bases: 0 };
     assert_eq!(gives(One, 1, b"AA", b"AA"), Report { written: 2, ..none });
     assert_eq!(gives(One, 1, b"", b""), none);
     assert_eq!(gives(One, 1, b"AAC", b"AAC"), Report { written: 3, lookups: 1, ..none });
@@ -120,7 +120,8 @@ fn jobs_are_the_bytes_of_their_file() {
 #[test]
 fn a_job_without_entries_copies() {
     let report = gives_by(&[], b"AACGC", b"AACGC");
-    assert_eq!(report, Report { written: 5, turns: 0, lookups: 0, attempts: 0, accepted: 0, yield_: 0, support: None });
+    let none = Report { written: 0, turns: 0, lookups: 0, attempts: 0, accepted: 0, yield_: 0, support: None, quotient: 0, remainder: 0, bases: 0 };
+    assert_eq!(report, Report { written: 5, ..none });
     Done::batch(&sample_set(), Job::from_bytes(b""), b"AACGC\n\nAA\n").gives(b"AACGC\n\nAA\n");
 }
 
@@ -153,6 +154,9 @@ fn each_pass_has_its_own_confirm() {
         lookups: one.lookups + other.lookups,
         attempts: one.attempts + other.attempts,
         accepted: one.accepted + other.accepted,
+        quotient: (one.lookups + other.lookups) / (one.bases + other.bases),
+        remainder: (one.lookups + other.lookups) % (one.bases + other.bases),
+        bases: one.bases + other.bases,
         ..other
     };
     let (refused, mended) = (gives(Two, 1, b"AACCG", b"AACCG"), gives(Two, 2, b"AACCG", b"AACTCCG"));

@@ -6,12 +6,12 @@ use lib.ListN.{length}
 use borrow.Author.Needs.{needs}
 use Rattle.rules.specs.Set.{solid, setOf, lookup}
 use Rattle.rules.specs.Scan.{alternative}
-use Rattle.rules.proofs.Few.{SolidKmer}
-use Rattle.rules.proofs.Exactly.{x-good}
+use Rattle.rules_laws.proofs.Few.{SolidKmer}
+use Rattle.rules_laws.proofs.Exactly.{x-good}
 use Rattle.kmer.specs.Kmer.{kmerOf, IsKmer}
 use Rattle.set.proofs.Counted.{with-count}
-use Rattle.scan.specs.Scan.{AltIs}
-use Rattle.scan.proofs.Laws.{alternative-at-most, alternative-back}
+use Rattle.successors.specs.Successors.{AltIs}
+use Rattle.successors.proofs.Laws.{alternative-at-most, alternative-back}
 use Rattle.gap_size.proofs.Laws.{gap-full, no-alternative, from-alternative}
 use Rattle.gap_size.proofs.ins_sub_correction.Statement.{statement}
 use Rattle.gap_size.proofs.ins_sub_correction.Tie as tie

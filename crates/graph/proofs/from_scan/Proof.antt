@@ -6,8 +6,9 @@ use Rattle.rules.specs.Set.{solid, setOf, lookup}
 use Rattle.rules.specs.Scan.{alternative}
 use Rattle.kmer.specs.Kmer.{kmerOf, IsKmer}
 use Rattle.set.proofs.Counted.{with-count}
-use Rattle.scan.specs.Scan.{AltIs, scanOf}
-use Rattle.scan.proofs.Laws.{alternative-known, alternative-at-most, alternative-back}
+use Rattle.scan.specs.Scan.{scanOf}
+use Rattle.successors.specs.Successors.{AltIs}
+use Rattle.successors.proofs.Laws.{alternative-known, alternative-at-most, alternative-back}
 use Rattle.graph.proofs.Laws.{no-alternative, from-alternative}
 use Rattle.graph.proofs.from_scan.Statement.{statement}
 use Rattle.graph.proofs.from_scan.Tie as tie

@@ -1,5 +1,5 @@
 use native.Mathlib.Omega.{arith}
-use Rattle.rules.proofs.Keys.{the-header, keys-room}
+use Rattle.rules_laws.proofs.Keys.{the-header, keys-room}
 use Rattle.index.proofs.Laws.{below-entry}
 use borrow.Author.Needs.{needs}
 use Rattle.index.proofs.is_below.Statement.{statement}

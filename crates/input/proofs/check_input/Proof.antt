@@ -3,7 +3,7 @@ use mathlib.Core.Bool.{Bool}
 use borrow.Author.Tests.{leb-true, not-true, not-false}
 use Rattle.rules.specs.Refusal.{_orElse_, unless}
 use Rattle.rules.specs.Calls.{inputCheck}
-use Rattle.rules.proofs.Opened.{unless-passed}
+use Rattle.rules_laws.proofs.Opened.{unless-passed}
 use Rattle.input.proofs.Checks.{refuses, is-fine}
 use borrow.Author.Needs.{needs}
 use Rattle.input.proofs.check_input.Statement.{statement}

@@ -5,7 +5,7 @@ use lib.Dec.{eqb, leb}
 use borrow.Author.Tests.{lt-leb, le-leb, eq-eqb, ne-eqb}
 use Rattle.rules.specs.Refusal.{_orElse_, unless}
 use Rattle.rules.specs.Job.{entryCount}
-use Rattle.rules.specs.Needs.{needsCheck}
+use Rattle.rules_needs.specs.Needs.{needsCheck}
 use Rattle.input.proofs.Checks.{refuses, is-fine}
 use borrow.Author.Needs.{needs}
 use Rattle.input.proofs.check_needs.Statement.{statement}

@@ -6,7 +6,7 @@ use mathlib.Core.Logic.{⊎-elim}
 use lib.ListN.{length, take, drop}
 use borrow.Author.Needs.{needs}
 use borrow.Author.Tests.{not-true, not-false}
-use Rattle.rules.specs.MakeSet.{formRight}
+use Rattle.rules_make.specs.MakeSet.{formRight}
 use Rattle.judge_text.proofs.Judging.{Judging, judging-starts, judging-ends, judged-breaks, judged-falls, judged-kept, judged-passed, key-fits}
 use Rattle.judge_text.proofs.judge.Statement.{statement}
 use Rattle.judge_text.proofs.judge.Tie as tie

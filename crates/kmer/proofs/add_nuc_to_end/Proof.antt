@@ -2,7 +2,7 @@ use native.Mathlib.Omega.{arith}
 use mathlib.Core.Path.{_≡_, ap, _∙_}
 use Prim.Native.Nat.{_%_}
 use Rattle.rules.specs.Letters.{add, complement}
-use Rattle.rules.proofs.Kmer.{push-lt}
+use Rattle.rules_laws.proofs.Kmer.{push-lt}
 use lib.Dec.{lit<}
 use Rattle.kmer.specs.Kmer.{kmerOf}
 use Rattle.kmer.proofs.Laws.{low-bits, rev-add, rev-fits}

@@ -2,7 +2,7 @@ use mathlib.Core.Path.{refl}
 use Rattle.rules.specs.Letters.{dropLast}
 use Rattle.kmer.specs.Kmer.{kmerOf}
 use borrow.Author.Needs.{needs}
-use Rattle.rules.proofs.Kmer.{revcomp-lt, complement-lt}
+use Rattle.rules_laws.proofs.Kmer.{revcomp-lt, complement-lt}
 use Rattle.kmer.proofs.Laws.{revcomp-drop}
 use Rattle.kmer.proofs.drop_last.Statement.{statement}
 use Rattle.kmer.proofs.drop_last.Tie as tie

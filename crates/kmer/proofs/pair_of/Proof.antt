@@ -1,6 +1,6 @@
 use native.Mathlib.Omega.{arith}
 use borrow.Author.Needs.{needs}
-use Rattle.rules.proofs.Kmer.{complement-lt}
+use Rattle.rules_laws.proofs.Kmer.{complement-lt}
 use Rattle.kmer.proofs.Laws.{pair-is}
 use Rattle.kmer.proofs.pair_of.Statement.{statement}
 use Rattle.kmer.proofs.pair_of.Tie as tie

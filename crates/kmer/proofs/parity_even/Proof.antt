@@ -3,7 +3,7 @@ use mathlib.Core.Path.{sym, ap}
 use lib.Dec.{eqb}
 use borrow.Author.Needs.{needs}
 use Rattle.rules.specs.Letters.{evenOnes}
-use Rattle.rules.proofs.Kmer.{ones-in}
+use Rattle.rules_laws.proofs.Kmer.{ones-in}
 use Rattle.kmer.proofs.parity_even.Statement.{statement}
 use Rattle.kmer.proofs.parity_even.Tie as tie
 

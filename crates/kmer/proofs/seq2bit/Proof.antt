@@ -1,15 +1,12 @@
 use Prim.Native.Nat.{_-_, _≤_}
-use native.Mathlib.Omega.{arith}
-use native.Mathlib.Nat.{one-le-pow}
-use lib.Dec.{lit<}
 use mathlib.Core.Path.{_≡_, refl, sym, _∙_}
 use lib.ListN.{take}
 use lib.Seq.{slice, slice-empty}
 use borrow.Author.Needs.{needs}
-use Rattle.rules.specs.Letters.{addAll, kmer, code, complement}
-use Rattle.rules.proofs.Kmer.{four-pos, code-le}
+use Rattle.rules.specs.Letters.{addAll, kmer, code}
+use Rattle.rules_laws.proofs.Kmer.{code-le}
 use Rattle.kmer.specs.Kmer.{IsKmer, kmerOf}
-use Rattle.kmer.proofs.Laws.{mask-fits, revcomp-zero, next-base}
+use Rattle.kmer.proofs.Laws.{next-base}
 use Rattle.kmer.proofs.seq2bit.Statement.{statement}
 use Rattle.kmer.proofs.seq2bit.Tie as tie
 
@@ -23,24 +20,12 @@ Inv-loop seq head k kmer₀ i₀ kmer i =
 abbrev μ-loop : tie.MeasureT-loop
 μ-loop seq head k kmer₀ i₀ kmer i = k - i
 
-complement-requires : tie.Need-complement-requires Inv-loop μ-loop
-complement-requires c κs = search needs
-
-mul-t8 : tie.Need-mul-t8 Inv-loop μ-loop
-unfolding complement
-mul-t8 c =
-    let b = c .before .before .before in
-    rw (c .complement .ensures .0, b .pre .0 .mask-is) (omega (arith, mask-fits (b .args .head .k) (b .pre .0 .k-high)))
+all-a-requires : tie.Need-all-a-requires Inv-loop μ-loop
+all-a-requires c κs = search needs
 
 loop-holds : tie.Need-loop-holds Inv-loop μ-loop
-unfolding kmerOf
-loop-holds c =
-    let b = c .before .before .before in (
-      refl,
-      search needs,
-      record { small = four-pos _; turned = rw (c .complement .ensures .0, b .pre .0 .mask-is) (revcomp-zero _); unknown-lt = one-le-pow _ 2 (lit< tt) },
-      refl,
-    )
+unfolding kmer addAll
+loop-holds c = (refl, search needs, c .all-a .ensures .kmer, rw (c .all-a .ensures .is))
 
 shared-slice-read-nuc2bit : tie.Need-shared-slice-read-nuc2bit Inv-loop μ-loop
 shared-slice-read-nuc2bit c = search needs
@@ -51,7 +36,7 @@ nuc2bit-requires c κs = search needs
 add-nuc-to-end-requires : tie.Need-add-nuc-to-end-requires Inv-loop μ-loop
 add-nuc-to-end-requires c κs =
     let l = c .before .before .before in
-    (l .before .before .before .before .pre .0, l .loop .inv .2, rw (c .nuc2bit .ensures) (code-le _))
+    (l .before .before .before .pre .0, l .loop .inv .2, rw (c .nuc2bit .ensures) (code-le _))
 
 add-i : tie.Need-add-i Inv-loop μ-loop
 add-i c = search needs
@@ -62,7 +47,7 @@ loop-less c = search needs
 loop-again : tie.Need-loop-again Inv-loop μ-loop
 loop-again c =
     let l = c .before .before .before .before in
-    let b = l .before .before .before .before in
+    let b = l .before .before .before in
     let i = l .loop .inv in
     let e = c .add-nuc-to-end .ensures in (
       i .0,
@@ -77,7 +62,7 @@ unfolding addAll kmer
 returns c =
     let l = c .before in
     let i = l .loop .inv in
-    let e : l .loop .i ≡ l .before .before .before .before .args .head .k = search needs in
+    let e : l .loop .i ≡ l .before .before .before .args .head .k = search needs in
     record { is = rw (e, slice-empty) at (i .3); kmer = i .2 }
 
 pub seq2bit-spec : {M : Type 1} → statement M
@@ -86,8 +71,7 @@ seq2bit-spec =
     (tie.spec
     Inv-loop
     μ-loop
-    complement-requires
-    mul-t8
+    all-a-requires
     loop-holds
     shared-slice-read-nuc2bit
     nuc2bit-requires

@@ -1,6 +1,6 @@
 use native.Mathlib.Omega.{arith}
 use Prim.Native.Nat.{_-_}
-use Rattle.rules.proofs.Kmer.{four-pos}
+use Rattle.rules_laws.proofs.Kmer.{four-pos}
 use Rattle.kmer.proofs.Laws.{quarter-is}
 use borrow.Author.Needs.{needs}
 use Rattle.kmer.proofs.top.Statement.{statement}

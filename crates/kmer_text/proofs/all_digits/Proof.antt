@@ -3,7 +3,7 @@ use mathlib.Core.Path.{_≡_, refl, sym, _∙_}
 use lib.ListN.{length, drop}
 use borrow.Author.Needs.{needs}
 use borrow.Author.Tests.{not-true, not-false}
-use Rattle.rules.specs.MakeSet.{all, isDigit}
+use Rattle.rules_make.specs.MakeSet.{all, isDigit}
 use Rattle.kmer_text.proofs.Laws.{all-more, all-fails, all-end}
 use Rattle.kmer_text.proofs.all_digits.Statement.{statement}
 use Rattle.kmer_text.proofs.all_digits.Tie as tie

@@ -6,7 +6,7 @@ use lib.Seq.{length-take-le}
 use mathlib.Core.Path.{_≡_, sym, ap, _∙_}
 use borrow.Author.Needs.{needs}
 use borrow.Author.Tests.{eq-eqb, ne-eqb, not-true, not-false}
-use Rattle.rules.specs.MakeSet.{formRight, digits, all, isLetter, isDigit}
+use Rattle.rules_make.specs.MakeSet.{formRight, digits, all, isLetter, isDigit}
 use Rattle.kmer_text.proofs.Laws.{part-slice, no-digit, a-digit, many-digits, few-digits}
 use Rattle.kmer_text.proofs.form_right.Statement.{statement}
 use Rattle.kmer_text.proofs.form_right.Tie as tie

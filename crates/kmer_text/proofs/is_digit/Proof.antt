@@ -1,5 +1,5 @@
 use borrow.Author.Tests.{le-leb, lt-leb}
-use Rattle.rules.specs.MakeSet.{isDigit}
+use Rattle.rules_make.specs.MakeSet.{isDigit}
 use Rattle.kmer_text.proofs.is_digit.Statement.{statement}
 use Rattle.kmer_text.proofs.is_digit.Tie as tie
 

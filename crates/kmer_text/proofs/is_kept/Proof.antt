@@ -1,6 +1,6 @@
 use mathlib.Core.Path.{ap}
 use lib.Dec.{leb}
-use Rattle.rules.specs.MakeSet.{kept}
+use Rattle.rules_make.specs.MakeSet.{kept}
 use borrow.Author.Needs.{needs}
 use Rattle.kmer_text.proofs.is_kept.Statement.{statement}
 use Rattle.kmer_text.proofs.is_kept.Tie as tie

@@ -2,8 +2,8 @@ use Prim.Native.Nat.{_+_, _-_}
 use native.Mathlib.Omega.{arith}
 use mathlib.Core.Path.{_≡_, ap, _∙_}
 use lib.ListN.{length, take, drop, length-take, length-drop}
-use Rattle.rules.specs.MakeSet.{digits, lineCount}
-use Rattle.rules.specs.MakeSet as Rules
+use Rattle.rules_make.specs.MakeSet.{digits, lineCount}
+use Rattle.rules_make.specs.MakeSet as Rules
 use Rattle.kmer_text.proofs.Laws.{Formed, formed, part-slice}
 use borrow.Author.Needs.{needs}
 use Rattle.kmer_text.proofs.line_count.Statement.{statement}

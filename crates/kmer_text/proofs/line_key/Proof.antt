@@ -1,7 +1,7 @@
 use native.Mathlib.Omega.{arith}
 use mathlib.Core.Path.{ap, _∙_}
 use Rattle.rules.specs.Letters.{canonical}
-use Rattle.rules.specs.MakeSet.{lineKey}
+use Rattle.rules_make.specs.MakeSet.{lineKey}
 use Rattle.kmer.proofs.Laws.{code-is}
 use Rattle.kmer_text.proofs.Laws.{formed}
 use borrow.Author.Needs.{needs}

@@ -4,8 +4,8 @@ use mathlib.Core.Path.{_≡_, refl, sym, _∙_}
 use lib.Dec.{lit<}
 use lib.ListN.{length, drop}
 use borrow.Author.Needs.{needs}
-use Rattle.rules.specs.MakeSet.{isDigit}
-use Rattle.rules.specs.MakeSet as Rules
+use Rattle.rules_make.specs.MakeSet.{isDigit}
+use Rattle.rules_make.specs.MakeSet as Rules
 use Rattle.kmer_text.proofs.Laws.{all-at, digit-range, number-more, number-end, ten-more, ten-fits}
 use Rattle.kmer_text.proofs.number_of.Statement.{statement}
 use Rattle.kmer_text.proofs.number_of.Tie as tie

@@ -113,6 +113,7 @@ fits c =
         lookups = k .0 .lookups;
         attempts = k .0 .attempts;
         accepted = k .0 .accepted;
+        bases = k .0 .bases;
       },
       k .1,
     )

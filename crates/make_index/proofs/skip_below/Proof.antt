@@ -5,7 +5,7 @@ use borrow.Author.Needs.{needs}
 use borrow.Author.Tests.{not-false, ltb-true}
 use Rattle.rules.specs.Set.{setOf}
 use Rattle.rules.specs.Index.{indexEntry}
-use Rattle.rules.proofs.Keys.{the-header}
+use Rattle.rules_laws.proofs.Keys.{the-header}
 use Rattle.index.proofs.Laws.{entry-le}
 use Rattle.make_index.proofs.skip_below.Statement.{statement}
 use Rattle.make_index.proofs.skip_below.Tie as tie

@@ -5,7 +5,7 @@ use lib.ListN.{length}
 use mathlib.Core.Bool.{true}
 use mathlib.Core.Logic.{⊎-elim}
 use Rattle.rules.specs.Set.{kRight}
-use Rattle.rules.specs.MakeSet.{textKeys, textCheck}
+use Rattle.rules_make.specs.MakeSet.{textKeys, textCheck}
 use Rattle.judge_text.specs.declared.Judged.the-variants.{Kept}
 use Rattle.judge_text.specs.Judged.{JudgedAs}
 use Rattle.judge_text.proofs.Judging.{is-refused}

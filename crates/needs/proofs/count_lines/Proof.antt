@@ -7,15 +7,16 @@ use mathlib.Core.List.{List, [], _∷_, _++_}
 use lib.ListN.{length, take, drop, replicate, length-take, length-drop}
 use borrow.Author.Needs.{needs}
 use Rattle.rules.specs.Refusal.{accepted}
-use Rattle.rules.specs.Job.{Entry, entry, entriesOf, lines, pass}
+use Rattle.rules.specs.Job.{Entry, entry, entriesOf, lines}
 use Rattle.rules.specs.Calls.{maxRead}
-use Rattle.rules.specs.Needs as rules
-use Rattle.rules.specs.Needs.{neededFor}
-use Rattle.rules.proofs.Job.{confirmed-entry}
+use Rattle.rules_needs.specs.Needs as rules
+use Rattle.rules_needs.specs.Needs.{neededFor}
+use Rattle.rules_laws.proofs.Job.{confirmed-entry}
 use Rattle.set.specs.Counted.{setWith}
 use Rattle.report.proofs.Within.{ends-in-10}
 use Rattle.correct.specs.declared.Pass.{Pass}
 use Rattle.correct.specs.declared.Pass.the-variants.{Done}
+use Rattle.correct.specs.Pass.{onePass}
 use Rattle.count.specs.Count.{Counted}
 use Rattle.needs.specs.Needs.{plusLine}
 use Rattle.needs.proofs.Lines.{sole-entry, Going, begin, next, fits, over}
@@ -92,7 +93,7 @@ Told c =
     let a = start l .args in
     let line = take (e .line-end .result - l .loop .from) (drop (l .loop .from) (a .batch .now)) in
     Counted (length line) (length (l .loop .work))
-    (pass (setWith (a .set .now) (a .counts .now)) (entry (l .before .before .method-of .result) (l .before .confirm-of .result)) line)
+    (onePass (setWith (a .set .now) (a .counts .now)) (entry (l .before .before .method-of .result) (l .before .confirm-of .result)) line)
 
 same-length : tie.Need-same-length Inv-loop μ-loop
 same-length c = search needs

@@ -6,8 +6,8 @@ use borrow.Author.Needs.{needs}
 use borrow.Author.Tests.{not-true, not-false}
 use lib.ListN.{length, length-replicate}
 use Rattle.rules.specs.Calls.{batchRight}
-use Rattle.rules.specs.Needs as rules
-use Rattle.rules.specs.Needs.{needsCheck}
+use Rattle.rules_needs.specs.Needs as rules
+use Rattle.rules_needs.specs.Needs.{needsCheck}
 use Rattle.input.specs.Input.{checkOf}
 use Rattle.input.proofs.Checks.{is-refused}
 use Rattle.set.specs.Ready.{tableLength}

@@ -1,4 +1,4 @@
-use Rattle.rules.specs.Program.{refusalLine}
+use Rattle.rules_program.specs.Program.{refusalLine}
 use Rattle.page.proofs.Text.{puts-both}
 use borrow.Author.Needs.{needs}
 use Rattle.page.proofs.put_refusal.Statement.{statement}

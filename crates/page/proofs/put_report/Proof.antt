@@ -1,4 +1,4 @@
-use Rattle.rules.specs.Program.{countsLine}
+use Rattle.rules_program.specs.Program.{countsLine}
 use Rattle.page.proofs.Text.{puts-both}
 use borrow.Author.Needs.{needs}
 use Rattle.page.proofs.put_report.Statement.{statement}

@@ -3,7 +3,7 @@ use mathlib.Core.Path.{refl, sym}
 use mathlib.Core.List.{[]}
 use lib.Seq.{length-take-le}
 use borrow.Author.Needs.{needs}
-use Rattle.rules.specs.Program.{zeros}
+use Rattle.rules_program.specs.Program.{zeros}
 use Rattle.page.proofs.Text.{length-page}
 use Rattle.program.proofs.Answer.{answered}
 use Rattle.program.proofs.call_on.Statement.{statement}

@@ -3,7 +3,7 @@ use mathlib.Core.Path.{subst}
 use mathlib.Core.List.{List, []}
 use borrow.Author.Needs.{needs}
 use Rattle.rules.specs.Calls.{After, correctBatch}
-use Rattle.rules.specs.Program.{zeros}
+use Rattle.rules_program.specs.Program.{zeros}
 use Rattle.report.specs.declared.Answer.{Answer}
 use Rattle.report.specs.declared.Answer.the-variants.{Report, Refused}
 use Rattle.report.specs.Answer.{given}

@@ -1,7 +1,7 @@
 use mathlib.Core.Path.{ap, _∙_}
 use borrow.Author.Needs.{needs}
 use Rattle.rules.specs.Letters.{add}
-use Rattle.rules.proofs.Kmer.{code-le}
+use Rattle.rules_laws.proofs.Kmer.{code-le}
 use Rattle.scan.proofs.add_base.Statement.{statement}
 use Rattle.scan.proofs.add_base.Tie as tie
 

@@ -5,7 +5,7 @@ use lib.ListN.{length, drop}
 use borrow.Author.Needs.{needs}
 use Rattle.rules.specs.Set.{solid, setOf}
 use Rattle.rules.specs.Scan.{scanFrom, errorLen}
-use Rattle.rules.proofs.Scan.{ask-cost}
+use Rattle.rules_laws.proofs.Scan.{ask-cost}
 use Rattle.kmer.specs.Kmer.{kmerOf, IsKmer}
 use Rattle.scan.proofs.Laws.{scan-found, scan-on, scan-end}
 use Rattle.scan.proofs.error_len.Statement.{statement}

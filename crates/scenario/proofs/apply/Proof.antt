@@ -1,7 +1,7 @@
 use mathlib.Core.Path.{refl}
 use lib.Dec.{lit≤}
 use Rattle.rules.specs.Counted.{give}
-use Rattle.scan.specs.declared.Next.the-variants.{Kmer}
+use Rattle.successors.specs.declared.Next.the-variants.{Kmer}
 use Rattle.scenario.proofs.Trials.{trial-is, one-trial}
 use Rattle.scenario.proofs.apply.Statement.{statement}
 use Rattle.scenario.proofs.apply.Tie as tie

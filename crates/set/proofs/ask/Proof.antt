@@ -2,8 +2,8 @@ use native.Mathlib.Omega.{arith}
 use mathlib.Core.Path.{_≡_, sym, ap, _∙_}
 use Rattle.rules.specs.Counted.{Counted}
 use mathlib.Core.Bool.{Bool}
-use Rattle.rules.proofs.Kmer.{ne-known}
-use Rattle.rules.proofs.Scan.{ask-is, ask-one, ask-none}
+use Rattle.rules_laws.proofs.Kmer.{ne-known}
+use Rattle.rules_laws.proofs.Scan.{ask-is, ask-one, ask-none}
 use Rattle.kmer.specs.Kmer.{kmerOf}
 use borrow.Author.Needs.{needs}
 use Rattle.rules.specs.Set.{setOf}

@@ -6,7 +6,7 @@ use lib.Dec.{eqb, leb}
 use lib.ListN.{length}
 use borrow.Author.Needs.{needs}
 use borrow.Author.Tests.{leb-true, eq-eqb, ne-eqb}
-use Rattle.rules.proofs.Opened.{both}
+use Rattle.rules_laws.proofs.Opened.{both}
 use Rattle.set_checks.proofs.Tests.{joined}
 use Rattle.set_checks.proofs.Header.{sizes, counted, restZero, header-test}
 use Rattle.set_checks.proofs.header_right.Statement.{statement}

@@ -14,7 +14,7 @@ use Rattle.set_checks.specs.Checks.{wrongKey}
 use Rattle.blocks.proofs.First.{passed, failed}
 use Rattle.set_checks.proofs.Header.{Sized, sized}
 use Rattle.set_checks.proofs.Keys.{key-test, least-next}
-use Rattle.rules.proofs.Opened.{both}
+use Rattle.rules_laws.proofs.Opened.{both}
 use Rattle.blocks.proofs.Words.{key-in-block}
 use Rattle.set_checks.proofs.look_at_keys.Statement.{statement}
 use Rattle.set_checks.proofs.look_at_keys.Tie as tie

@@ -12,7 +12,7 @@ use Rattle.rules.specs.Calls.{maxRead}
 use Rattle.input.specs.Input.{checkOf}
 use Rattle.input.proofs.Checks.{is-refused}
 use Rattle.opening.proofs.Opening.{is-refused as set-is-refused, set-opened, set-checked, set-refused}
-use Rattle.rules.proofs.Index.{index-passes}
+use Rattle.rules_laws.proofs.Index.{index-passes}
 use Rattle.set.specs.Ready.{tableLength}
 use Rattle.solid.proofs.Solids.{count-long, count-refused, count-none, count-all}
 use borrow.Author.Needs.{needs}

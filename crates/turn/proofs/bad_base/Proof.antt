@@ -1,4 +1,4 @@
-use Prim.Native.Nat.{_+_}
+use Prim.Native.Nat.{_+_, _<_, _^_}
 use native.Mathlib.Omega.{arith}
 use mathlib.Core.Path.{_≡_, ap, _∙_, subst}
 use mathlib.Core.Bool.{false}
@@ -10,7 +10,7 @@ use Rattle.scan.specs.declared.Attempt.the-variants.{Mend, Refused}
 use Rattle.set.proofs.Counted.{with-solid}
 use Rattle.turn.specs.Turn.{Fits}
 use Rattle.turn.proofs.Parts.{tail-part}
-use Rattle.turn.proofs.Turns.{rest-is, keep-fits, kept-went, Tried, refused-keep, mended-fits, mended-is, is-full, not-mend, not-refused, no-room, short}
+use Rattle.turn.proofs.Turns.{rest-is, kept-lookups, keep-fits, kept-went, Tried, refused-keep, mended-fits, mended-is, is-full, not-mend, not-refused, no-room, short}
 use Rattle.turn.proofs.bad_base.Statement.{statement}
 use Rattle.turn.proofs.bad_base.Tie as tie
 
@@ -72,21 +72,23 @@ returns c =
 shared-slice-read-keep : tie.Need-shared-slice-read-keep
 shared-slice-read-keep c = search needs
 
--- the counts of the whole turn
-fits : (c : tie.After-tried2) → (let s = start (attempt2 c) in Fits (s .args .p) 1 (s .args .asked + c .tried2 .given .0 .0) 1 0)
-fits c =
+-- the lookups so far, with those of the whole turn
+few : (c : tie.After-tried2) → (let s = start (attempt2 c) in s .args .p .lookups + (s .args .asked + c .tried2 .given .0 .0) < 2 ^ 63)
+few c =
     let s = start (attempt2 c) in
     let t = s .pre .0 in
-    keep-fits _ _ _ _ _ _ _ _ t (t .put) (t .many) (t .countable) false 1 _ (refused-keep _ _ _ _ _ _ _ _ t (t .put) _ _ (s .pre .1) _ _ _ (refused c))
+    kept-lookups _ _ _ _ _ _ _ _ t (t .put) (t .many) (t .countable) false 1 _ (refused-keep _ _ _ _ _ _ _ _ t (t .put) _ _ (s .pre .1) _ _ _ (refused c))
 
 add-keep : tie.Need-add-keep
-add-keep c = omega (arith, fits (c .before .before) .lookups)
+add-keep c = omega (arith, few (c .before .before))
 
 keep-requires : tie.Need-keep-requires
 keep-requires c κs =
     let r = c .before .before .before in
     let s = start (attempt2 r) in
-    (omega (arith, s .good, s .pre .0 .more), fits r)
+    let t = s .pre .0 in
+    let e = refused-keep _ _ _ _ _ _ _ _ t (t .put) _ _ (s .pre .1) _ _ _ (refused r) in
+    (omega (arith, s .good, t .more), keep-fits _ _ _ _ _ _ _ _ t (t .put) (t .many) (t .countable) false 1 _ e _ (omega (arith, few r)))
 
 same-length-2 : tie.Need-same-length-2
 same-length-2 c = search needs

@@ -15,7 +15,7 @@ use Rattle.set.specs.Asked.{AskedIs}
 use Rattle.set.specs.Counted.{setWith}
 use Rattle.set.proofs.Counted.{with-solid}
 use Rattle.turn.specs.Turn.{stateOf, turnOf}
-use Rattle.turn.proofs.Turns.{solid-turn, quiet-turn, keep-fits, kept-went}
+use Rattle.turn.proofs.Turns.{solid-turn, quiet-turn, kept-lookups, keep-fits, kept-went}
 use Rattle.turn.proofs.turn.Statement.{statement}
 use Rattle.turn.proofs.turn.Tie as tie
 
@@ -67,7 +67,10 @@ keep-requires : tie.Need-keep-requires
 keep-requires c κs =
     let s = start (c .before .before) in
     let t = s .pre in
-    (omega (arith, s .good, t .more), keep-fits _ _ _ _ _ _ _ _ t (t .put) (t .many) (t .countable) true 0 _ (solid-kept (c .before) (t .put)))
+    let e = solid-kept (c .before) (t .put) in (
+      omega (arith, s .good, t .more),
+      keep-fits _ _ _ _ _ _ _ _ t (t .put) (t .many) (t .countable) true 0 _ e _ (omega (arith, kept-lookups _ _ _ _ _ _ _ _ t (t .put) (t .many) (t .countable) true 0 _ e)),
+    )
 
 same-length : tie.Need-same-length
 same-length c = search needs
@@ -87,7 +90,10 @@ keep-requires-2 : tie.Need-keep-requires-2
 keep-requires-2 c κs =
     let s = start (c .before .before .before) in
     let t = s .pre in
-    (omega (arith, s .good, t .more), keep-fits _ _ _ _ _ _ _ _ t (t .put) (t .many) (t .countable) false 0 _ (quiet-kept (c .before) (t .put)))
+    let e = quiet-kept (c .before) (t .put) in (
+      omega (arith, s .good, t .more),
+      keep-fits _ _ _ _ _ _ _ _ t (t .put) (t .many) (t .countable) false 0 _ e _ (omega (arith, kept-lookups _ _ _ _ _ _ _ _ t (t .put) (t .many) (t .countable) false 0 _ e)),
+    )
 
 same-length-2 : tie.Need-same-length-2
 same-length-2 c = search needs

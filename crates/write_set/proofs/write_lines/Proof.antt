@@ -4,7 +4,7 @@ use mathlib.Core.Path.{_≡_, ap, _∙_}
 use mathlib.Core.Bool.{true}
 use lib.ListN.{length, take, drop}
 use borrow.Author.Needs.{needs}
-use Rattle.rules.specs.MakeSet.{formRight, kept, maxCount, textKeys}
+use Rattle.rules_make.specs.MakeSet.{formRight, kept, maxCount, textKeys}
 use Rattle.write_set.proofs.Writes.{Writing, writing-starts, writing-ends, kept-by, passed-by, line-formed, written-inside, written-kept, written-passed, key-room}
 use Rattle.write_set.proofs.write_lines.Statement.{statement}
 use Rattle.write_set.proofs.write_lines.Tie as tie

@@ -9,7 +9,7 @@ use Rattle.rules.specs.Set.{solid, setOf}
 use Rattle.rules.specs.Counted.{Try, give, refuse}
 use Rattle.rules.specs.Exist.{Scenario, row, two}
 use Rattle.kmer.specs.Kmer.{kmerOf}
-use Rattle.scan.specs.declared.Next.the-variants.{Kmer, Refused}
+use Rattle.successors.specs.declared.Next.the-variants.{Kmer, Refused}
 use Rattle.scenario.specs.declared.Trial.{Trial}
 use Rattle.scenario.specs.Scenario.{nth, trialOf, TrialIs}
 use Rattle.scenario.proofs.Numbers.{past}

@@ -2,7 +2,7 @@ use native.Mathlib.Omega.{arith}
 use mathlib.Core.Path.{refl}
 use mathlib.Core.Bool.{true}
 use borrow.Author.Needs.{needs}
-use Rattle.scan.specs.declared.Next.the-variants.{Refused}
+use Rattle.successors.specs.declared.Next.the-variants.{Refused}
 use Rattle.scenario.proofs.Trials.{trial-is, asked-le, four-le, instead-refused, instead-on}
 use Rattle.scenario.proofs.two.instead.Statement.{statement}
 use Rattle.scenario.proofs.two.instead.Tie as tie

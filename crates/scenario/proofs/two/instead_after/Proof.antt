@@ -4,7 +4,7 @@ use mathlib.Core.Bool.{true}
 use borrow.Author.Tests.{not-true, not-false}
 use borrow.Author.Needs.{needs}
 use Rattle.rules.specs.Set.{solid, setOf}
-use Rattle.scan.specs.declared.Next.the-variants.{Refused}
+use Rattle.successors.specs.declared.Next.the-variants.{Refused}
 use Rattle.scenario.proofs.Trials.{trial-is, asked-le, four-le, after-refused, after-solid, after-on}
 use Rattle.scenario.proofs.two.instead_after.Statement.{statement}
 use Rattle.scenario.proofs.two.instead_after.Tie as tie

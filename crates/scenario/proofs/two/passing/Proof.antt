@@ -4,7 +4,7 @@ use lib.Dec.{lit≤}
 use borrow.Author.Needs.{needs}
 use Rattle.rules.specs.Letters as letters
 use Rattle.rules.specs.Counted.{give}
-use Rattle.scan.specs.declared.Next.the-variants.{Kmer}
+use Rattle.successors.specs.declared.Next.the-variants.{Kmer}
 use Rattle.scenario.proofs.Trials.{trial-is}
 use Rattle.scenario.specs.Scenario.{passingOf}
 use Rattle.scenario.proofs.two.passing.Statement.{statement}

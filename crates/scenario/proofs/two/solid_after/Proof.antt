@@ -3,7 +3,7 @@ use mathlib.Core.Path.{refl, sym, ap}
 use mathlib.Core.Option.{Option, some}
 use borrow.Author.Needs.{needs}
 use Rattle.rules.specs.Letters as letters
-use Rattle.scan.specs.declared.Next.the-variants.{Kmer, Refused}
+use Rattle.successors.specs.declared.Next.the-variants.{Kmer, Refused}
 use Rattle.scenario.proofs.Trials.{trial-is, asked-le, solid-yes, solid-no}
 use Rattle.scenario.specs.Scenario.{solidAfter}
 use Rattle.scenario.proofs.two.solid_after.Statement.{statement}

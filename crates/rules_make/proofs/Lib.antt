@@ -1,0 +1,2 @@
+pub mod MakeSet
+pub mod MakeSamples

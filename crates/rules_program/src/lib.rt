@@ -1,0 +1,1 @@
+// What the program prints: definitions (specs/) and samples (proofs/); this crate has no code to run.
