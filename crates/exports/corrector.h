@@ -2,7 +2,7 @@
  * The read corrector for C and C++ on x86-64 Linux: link libexports.a, which `rt staticlib exports` writes.
  *
  * Every call is proved to answer what the rules of crates/rules say and to leave every lent byte as they say, whatever it is given.
- * The formats of a set, a job, a batch and k-mer counts are in README.md, "Formats".
+ * The formats of a set, a job, a batch, FASTA and k-mer counts are in README.md, "Formats".
  *
  * Threads. A call keeps no state and allocates nothing: it reads and writes what it is lent, and nothing else. Any number of threads
  * may call at once. They may share a set, an index, offered counts, a job and input; output, work, blocks, a maker's counts and answer must be
@@ -32,11 +32,12 @@ extern "C" {
 
 /* Limits; what is beyond them is refused. */
 enum {
-    CORRECTOR_MAX_INPUT = 1048576,  /* bytes of a read or a batch */
+    CORRECTOR_MAX_INPUT = 1048576,  /* bytes of a read, a batch or a FASTA file */
     CORRECTOR_MAX_ENTRIES = 8,      /* of a job */
     CORRECTOR_MAX_OUTPUT = 1048576, /* bytes */
     CORRECTOR_MAX_WORK = 2097152,   /* bytes */
     CORRECTOR_MAX_LINES = 1024,     /* lines of a batch */
+    CORRECTOR_MAX_RECORDS = 1024,   /* records of a FASTA file */
     CORRECTOR_MAX_K = 31,
     CORRECTOR_MAX_KEYS = 16777216   /* keys of a set */
 };
@@ -64,27 +65,28 @@ struct corrector_entry {
 
 /*
  * Why a call is refused: what it returns, and number 0 of its answer. Checked upward, so that the least that applies is told, but for 11,
- * which comes last, and 17, which comes between 4 and 5; corrector_make_set has an order of its own.
+ * which comes last, 17, which comes between 4 and 5, and 18, which comes between 6 and 7; corrector_make_set has an order of its own.
  */
 enum corrector_refusal {
     CORRECTOR_NOT_REFUSED = 0,
-    CORRECTOR_INPUT_LENGTH = 1,   /* read or batch over CORRECTOR_MAX_INPUT bytes */
+    CORRECTOR_INPUT_LENGTH = 1,   /* read, batch or FASTA file over CORRECTOR_MAX_INPUT bytes */
     CORRECTOR_ENTRY_COUNT = 2,    /* over CORRECTOR_MAX_ENTRIES entries */
     CORRECTOR_METHOD_UNKNOWN = 3, /* place: the first such entry; told before any confirm is looked at */
     CORRECTOR_CONFIRM_ZERO = 4,   /* place: the first such entry */
     CORRECTOR_BUFFERS = 5,        /* output or work too long, or work shorter than corrector_work_length; of corrector_needs: work shorter than the batch */
-    CORRECTOR_BATCH = 6,          /* not empty without a final byte 10, or over CORRECTOR_MAX_LINES lines */
+    CORRECTOR_BATCH = 6,          /* not empty without a final byte 10, or over CORRECTOR_MAX_LINES lines; of corrector_fasta: over CORRECTOR_MAX_RECORDS records */
     CORRECTOR_SET_LENGTH = 7,     /* 0 or not a multiple of 512 */
     CORRECTOR_SET_CHECK = 8,      /* a wrong check word; place: the first such block */
     CORRECTOR_SET_HEADER = 9,     /* k, n, a header word or the number of blocks */
     CORRECTOR_SET_KEY = 10,       /* a key or a spare word; place: its index among the words of the key blocks */
-    CORRECTOR_NO_ROOM = 11,       /* a result does not fit the output; place: the line, 0 for a single read */
+    CORRECTOR_NO_ROOM = 11,       /* a result does not fit the output; place: the line or the record, 0 for a single read */
     CORRECTOR_LINE = 12,          /* a line of counts breaks the form; place: the line */
     CORRECTOR_NOT_RISING = 13,    /* the canonical code of a kept line doesn't rise; place: the line */
     CORRECTOR_TOO_SHORT = 14,     /* the buffer is too short for the blocks, or the list for the counts */
     CORRECTOR_INDEX = 15,         /* an offered index isn't the set's; checked behind 10 and before 11 */
     CORRECTOR_COUNTS = 16,        /* an offered list of counts has not one for each key; checked behind 15 and before 11 */
-    CORRECTOR_NOT_ONE_ENTRY = 17  /* of corrector_needs: the job has other than one entry; checked behind 4 and before 5 */
+    CORRECTOR_NOT_ONE_ENTRY = 17, /* of corrector_needs: the job has other than one entry; checked behind 4 and before 5 */
+    CORRECTOR_SEQUENCE = 18       /* of corrector_fasta: a sequence line before the first name line, or with `>` in it; place: the first such line */
 };
 
 /*
@@ -105,7 +107,7 @@ enum {
     /* corrector_make_set and corrector_make_index */
     CORRECTOR_LENGTH = 2, /* of the blocks, in bytes */
     CORRECTOR_MADE_NUMBERS = 3, /* how many there are */
-    /* corrector_read and corrector_batch */
+    /* corrector_read, corrector_batch and corrector_fasta */
     CORRECTOR_WRITTEN = 2, /* bytes of the output */
     CORRECTOR_TURNS = 3,
     CORRECTOR_LOOKUPS = 4,
@@ -182,6 +184,24 @@ uint64_t corrector_batch(
     const uint32_t *counts, size_t counts_length,
     const uint8_t *job, size_t job_length,
     const uint8_t *batch, size_t batch_length,
+    uint8_t *output, size_t output_length,
+    uint8_t *work, size_t work_length,
+    uint64_t *answer, size_t answer_length);
+
+/*
+ * The same for a FASTA file: records of a name line, which starts with `>`, and its sequence lines, if any, joined without their ends; lines of no
+ * bytes are skipped. The output has each name line unchanged and the corrected read in lines of 80 letters, the last possibly shorter, none for an
+ * empty read. The file is empty or ends with byte 10. Bytes are taken as they are: byte 13 is a base of its line, so convert a file with CRLF ends.
+ *
+ * Checked behind 5: 6, that the file ends so and has no more than CORRECTOR_MAX_RECORDS records, then 18. Refusal 11 tells the first record whose text
+ * (name line and read lines, each with its byte 10), or one of whose pass results, is longer than what is left of the output before its name line.
+ */
+uint64_t corrector_fasta(
+    const uint8_t *set, size_t set_length,
+    const uint8_t *index, size_t index_length,
+    const uint32_t *counts, size_t counts_length,
+    const uint8_t *job, size_t job_length,
+    const uint8_t *file, size_t file_length,
     uint8_t *output, size_t output_length,
     uint8_t *work, size_t work_length,
     uint64_t *answer, size_t answer_length);

@@ -1,4 +1,4 @@
-/* The library through corrector.h: document 01's samples, yields, lookups for each base, jobs of several confirms, every refusal, answers of every length, indexes, counts, needs, threads. */
+/* The library through corrector.h: document 01's samples, yields, lookups for each base, jobs of several confirms, every refusal, answers of every length, indexes, counts, needs, FASTA, threads. */
 #include "corrector.h"
 
 #include <pthread.h>
@@ -349,6 +349,43 @@ static void test_no_room(const uint8_t *set)
     check("11, just room", batch.number == 0 && batch.answer[CORRECTOR_WRITTEN] == 9);
 }
 
+/* ---- FASTA */
+
+static int fasta_gives(const uint8_t *set, const uint8_t *job, size_t job_length, const char *file, const char *result)
+{
+    size_t length = strlen(result);
+    struct done done = run(corrector_fasta, set, job, job_length, file, OUTPUT), just = run(corrector_fasta, set, job, job_length, file, length);
+    return gives(&done, result) && just.number == 0 && memcmp(just.output, result, length) == 0;
+}
+
+static int fasta_refused(const uint8_t *set, const uint8_t *job, size_t job_length, const char *file, size_t room, uint64_t number, uint64_t place)
+{
+    struct done done = run(corrector_fasta, set, job, job_length, file, room);
+    return refuses(&done, room, number, place);
+}
+
+static void test_fasta(const uint8_t *set)
+{
+    uint8_t cut[SET];
+    memcpy(cut, set, SET);
+    cut[0]++;
+    struct done done = run(corrector_fasta, set, JOB("\3\1"), ">a\nAACG\nCCG\n>b\n\n>c\nAA\n", OUTPUT);
+    check("FASTA", gives(&done, ">a\nAACTCCG\n>b\n>c\nAA\n") && done.answer[CORRECTOR_TURNS] == 1 && done.answer[CORRECTOR_LOOKUPS] == 21
+        && done.answer[CORRECTOR_BASES] == 4 && done.answer[CORRECTOR_YIELD] == 1000);
+    check("no records", fasta_gives(set, JOB("\1\1"), "", "") && fasta_gives(set, JOB("\1\1"), "\n\n", ""));
+    check("names, empty lines", fasta_gives(set, JOB(""), "\n>\n\n>>x > y\nA\n\nC\n", ">\n>>x > y\nAC\n"));
+    check("byte 13 is a base", fasta_gives(set, JOB(""), ">a\nA\r\nC\r\n", ">a\nA\rC\r\n"));
+    check("18 before the first name", fasta_refused(set, JOB("\1\1"), "\n\nAC\n>a\n", OUTPUT, CORRECTOR_SEQUENCE, 2));
+    check("18 by a mark", fasta_refused(set, JOB("\1\1"), ">a>\n\nAC\nA>C\n", OUTPUT, CORRECTOR_SEQUENCE, 3));
+    check("6 before 18", fasta_refused(set, JOB("\1\1"), "AC\n>a", OUTPUT, CORRECTOR_BATCH, 0));
+    check("18 before 8", fasta_refused(cut, JOB("\1\1"), "AC\n", OUTPUT, CORRECTOR_SEQUENCE, 0)
+        && fasta_refused(cut, JOB("\1\1"), ">a\n", OUTPUT, CORRECTOR_SET_CHECK, 0));
+    check("11 by the text", fasta_refused(set, JOB("\1\1"), ">\n>a\nAACC\n", 10, CORRECTOR_NO_ROOM, 1) && fasta_gives(set, JOB("\1\1"), ">\n>a\nAACC\n", ">\n>a\nAACTC\n"));
+    done = run(corrector_fasta, set, JOB("\1\377\3\1"), ">\n>\nAACAAAAAATCC\n", 14);
+    check("11 by a pass result", done.number == 0 && done.answer[CORRECTOR_WRITTEN] == 11
+        && fasta_refused(set, JOB("\1\377\3\1"), ">\n>\nAACAAAAAATCC\n", 13, CORRECTOR_NO_ROOM, 1));
+}
+
 /* ---- answers of every length: what is written is the start of the whole answer */
 
 static int starts_alike(const uint64_t *answer, size_t length, const uint64_t *whole, size_t numbers, size_t room)
@@ -403,6 +440,7 @@ static void test_answers(const uint8_t *set)
     check("answers of a refused read", short_answers(corrector_read, set, 0, 0, "AACGC") && short_answers(corrector_read, set, 4, 1, "AACGC"));
     check("answers of batch", short_answers(corrector_batch, set, 0, 1, "AACGC\nAACGCCG\n") && short_answers(corrector_batch, set, 5, 1, "AACGC\nAACGCCG\n"));
     check("answers of a refused batch", short_answers(corrector_batch, set, 5, 1, "AACGC"));
+    check("answers of FASTA", short_answers(corrector_fasta, set, 5, 1, ">a\nAACGC\n") && short_answers(corrector_fasta, set, 5, 1, ">a\nA>\n"));
 }
 
 static int counts_solid(const uint8_t *set, size_t length, const char *read, uint64_t kmers, uint64_t solid)
@@ -908,6 +946,7 @@ int main(void)
     test_lines(set);
     test_set_refusals();
     test_no_room(set);
+    test_fasta(set);
     test_answers(set);
     test_count(set);
     test_make(set);

@@ -19,6 +19,7 @@ impl Library for Linked {
         let call = match job.call {
             Call::Read => corrector::correct_read,
             Call::Batch | Call::Needs => corrector::correct_batch,
+            Call::Fasta => corrector::correct_fasta,
         };
         let (index, counts) = offered(job);
         call(set, index, counts, corrector::Job::from_bytes(&job.entries), &job.input, output, work).map(report).map_err(refusal)

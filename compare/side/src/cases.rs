@@ -7,6 +7,7 @@ use crate::set_file;
 
 pub mod counts;
 pub mod damage;
+pub mod fasta;
 pub mod index;
 pub mod make;
 pub mod needs;
@@ -56,12 +57,14 @@ pub enum Kind {
     Needs,
     /// The same where the result is longer than any output.
     NeedsLong,
+    /// FASTA files: as they are taken, with every room, and as they are refused; refusal 18 among the others.
+    Fasta,
     /// A set of a few hundred thousand keys.
     Large,
 }
 
 /// The kinds and how many units of each a run has. The exhaustive ones have as many as there are sets; the others are repeated by --rounds.
-const SCHEDULE: [(Kind, u64, bool); 20] = [
+const SCHEDULE: [(Kind, u64, bool); 21] = [
     (Kind::AllOfOne, 4, false),
     (Kind::AllOfThree, 529, false),
     (Kind::AllReads, 400, true),
@@ -81,6 +84,7 @@ const SCHEDULE: [(Kind, u64, bool); 20] = [
     (Kind::Counts, 2400, true),
     (Kind::Needs, 1600, true),
     (Kind::NeedsLong, 16, true),
+    (Kind::Fasta, 320, true),
     (Kind::Large, 2, true),
 ];
 
@@ -154,6 +158,7 @@ pub fn run(unit: &Unit, seed: u64, visit: &mut Visit) {
         Kind::Counts => counts::offered(rng, visit),
         Kind::Needs => needs::asked(rng, unit.number, visit),
         Kind::NeedsLong => needs::long(rng, unit.number, visit),
+        Kind::Fasta => fasta::taken(rng, unit.number, visit),
         Kind::Large => large(rng, visit),
     }
 }
@@ -164,7 +169,7 @@ pub fn job(call: Call, entries: &[u8], input: &[u8]) -> Job {
     job_with_room(call, entries, input, output)
 }
 
-fn job_with_room(call: Call, entries: &[u8], input: &[u8], output: usize) -> Job {
+pub fn job_with_room(call: Call, entries: &[u8], input: &[u8], output: usize) -> Job {
     let (index, counts) = (Vec::new(), Vec::new());
     Job { call, index, counts, entries: entries.to_vec(), input: input.to_vec(), output, work: 2 * output.max(input.len()) }
 }

@@ -5,6 +5,7 @@ use crate::referee::calls::{self, Answer, Call, Entry, Job, Outcome, Report, MOS
 use crate::referee::ceilings::ceilings;
 use crate::referee::correctors::{Method, ALL_BY, ALL_EVENTS, BY, METHODS};
 use crate::referee::driver::Pass;
+use crate::referee::fasta;
 use crate::referee::letters::code;
 use crate::referee::needs::{self, Needs};
 use crate::referee::set::{open, Refusal, Set};
@@ -63,7 +64,7 @@ pub fn any_counts(rng: &mut Rng, n: usize) -> Vec<u32> {
 }
 
 /// Numbers of refusals, and 0.
-const REFUSALS: usize = 18;
+const REFUSALS: usize = 19;
 
 /// What calls tell of lookups for each base, by name.
 type EachBase = (&'static str, fn(&Report, &[Vec<Pass>]) -> bool);
@@ -95,6 +96,9 @@ pub struct Tally {
     pub refusals: [u64; REFUSALS],
     /// Accepted calls, in the order of `EACH_BASE`.
     pub each_base: [u64; EACH_BASE.len()],
+    /// FASTA calls that were accepted, and those of them whose pass results alone need more room than the texts.
+    pub fasta: u64,
+    pub only_pass: u64,
     /// Calls that told what a batch needs, those of them that told more bytes than any output has, and their refusals.
     pub needs: u64,
     pub long: u64,
@@ -125,6 +129,8 @@ impl Default for Tally {
             parts: [0; PARTS.len()],
             refusals: [0; REFUSALS],
             each_base: [0; EACH_BASE.len()],
+            fasta: 0,
+            only_pass: 0,
             needs: 0,
             long: 0,
             needs_refusals: [0; REFUSALS],
@@ -162,6 +168,8 @@ impl Tally {
         self.lookups += other.lookups;
         self.several += other.several;
         self.apart += other.apart;
+        self.fasta += other.fasta;
+        self.only_pass += other.only_pass;
         self.needs += other.needs;
         self.long += other.long;
         add_each(&mut self.needs_refusals, &other.needs_refusals);
@@ -196,6 +204,7 @@ impl Tally {
         println!("met: {}", counts(ALL_EVENTS.iter().map(|event| format!("{event:?}")), &self.events));
         let numbers = || (0..).map(|number: u32| number.to_string());
         println!("refusals: {}", counts(numbers(), &self.refusals));
+        println!("FASTA calls accepted: {}, of which {} need more room for a pass result than for all texts", self.fasta, self.only_pass);
         println!(
             "needs told: {}, of which {} more bytes than any output has; refused: {}",
             self.needs,
@@ -350,6 +359,11 @@ pub fn check_call(library: &dyn Library, site: &Site, job: &Job, buffers: &mut B
         tally.counted += 1;
         tally.add_support(&outcome, site.counts());
     }
+    if job.call == Call::Fasta && outcome.answer.is_ok() {
+        check_again(job, &outcome)?;
+        tally.fasta += 1;
+        tally.only_pass += only_pass(job, &outcome) as u64;
+    }
     if job.call == Call::Batch {
         let asked = Job { call: Call::Needs, work: job.input.len(), ..job.clone() };
         // The passes of an accepted call need not be made again.
@@ -369,6 +383,28 @@ pub fn check_call(library: &dyn Library, site: &Site, job: &Job, buffers: &mut B
         }
     }
     Ok(())
+}
+
+/// The FASTA that was written, read again: the same names, the corrected reads, and no refusal of 6 or 18.
+fn check_again(job: &Job, outcome: &Outcome) -> Result<(), Disagreement> {
+    let given = fasta::records(&job.input);
+    let mended = given.iter().zip(&outcome.passes).map(|(record, made)| {
+        let read = made.last().map_or(&record.read, |pass| &pass.bytes).clone();
+        fasta::Record { name: record.name.clone(), read }
+    });
+    same("the output read again", mended.collect(), fasta::records(&outcome.bytes))?;
+    same("refusals of the output", None, fasta::file_refusal(&outcome.bytes).or_else(|| fasta::sequence_refusal(&outcome.bytes)))
+}
+
+/// Whether the output of an accepted FASTA call must be longer than its bytes: a pass result is longer than what the texts would leave.
+fn only_pass(job: &Job, outcome: &Outcome) -> bool {
+    let mut before = 0;
+    fasta::records(&job.input).iter().zip(&outcome.passes).any(|(record, made)| {
+        let longest = made.iter().map(|pass| pass.bytes.len()).max().unwrap_or(record.read.len());
+        let needed = before + longest;
+        before += fasta::text(&record.name, made.last().map_or(&record.read, |pass| &pass.bytes)).len();
+        needed > outcome.bytes.len()
+    })
 }
 
 /// What lines need, on all sides.
@@ -454,9 +490,9 @@ fn check_real(
 fn check_reads(site: &Site, job: &Job, passes: &[Vec<Pass>], tally: &mut Tally) -> Result<(), Disagreement> {
     let (Some(keys), Ok(set)) = (&site.keys, &site.opened) else { return Ok(()) };
     for (read, passes) in calls::reads(job).into_iter().zip(passes) {
-        check_ceilings(set, job, read, passes)?;
-        if has_codes(read) {
-            check_passes(keys, job, read, passes, tally)?;
+        check_ceilings(set, job, &read, passes)?;
+        if has_codes(&read) {
+            check_passes(keys, job, &read, passes, tally)?;
         } else {
             tally.add_other(passes);
         }

@@ -95,6 +95,7 @@ pub fn call_name(call: Call) -> &'static str {
     match call {
         Call::Read => "read",
         Call::Batch => "batch",
+        Call::Fasta => "FASTA",
         Call::Needs => "needs",
     }
 }

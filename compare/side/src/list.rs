@@ -1,6 +1,6 @@
 //! The fixed list of cases, for a replay with no Rust at hand. Its format is in compare/README.md.
 use crate::cases::needs::{self, Round};
-use crate::cases::{any_entries, batch_of, counts, damage, index, job, reads, sets};
+use crate::cases::{any_entries, batch_of, counts, damage, fasta, index, job, job_with_room, reads, sets};
 use crate::check::{any_counts, check_call, tells_confirms_apart, Buffers, Site, Tally, LENT};
 use crate::library::{Library, StandIn};
 use crate::referee::calls::{call, entries, Answer, Call, Job, Report};
@@ -24,6 +24,7 @@ const BATCH: u32 = 4;
 const INDEX: u32 = 5;
 const COUNTS: u32 = 6;
 const NEEDS: u32 = 7;
+const FASTA: u32 = 8;
 
 /// Words of a record, and of the list's head.
 const RECORD: usize = 19;
@@ -154,11 +155,15 @@ impl List {
         self.bytes.extend_from_slice(&job.input);
     }
 
-    /// A read or a batch call.
+    /// A read, a batch or a FASTA call.
     fn call(&mut self, site: &Site, job: &Job) {
         self.begin(site, job);
         let outcome = call(&site.opened, job);
-        let kind = if job.call == Call::Read { READ } else { BATCH };
+        let kind = match job.call {
+            Call::Read => READ,
+            Call::Fasta => FASTA,
+            Call::Batch | Call::Needs => BATCH,
+        };
         let lengths = [job.entries.len(), job.input.len(), job.output, job.work, outcome.bytes.len()].map(|length| length as u32);
         let [entries, input, output, work, result] = lengths;
         let answer = match outcome.answer {
@@ -704,6 +709,29 @@ fn per_base(list: &mut List, rng: &mut Rng) {
     }
 }
 
+/// FASTA: the samples; for every odd k about one in eight of a run's calls on a set.
+fn fasta_files(list: &mut List, rng: &mut Rng) {
+    let site = Site::new(crate::samples::set());
+    for (entries, file, output, _) in crate::samples::FASTA {
+        list.call(&site, &job_with_room(Call::Fasta, entries, file.as_bytes(), output));
+    }
+    for k in (1..=31).step_by(2) {
+        let (site, genome) = if k < 5 { (sets::dense(rng, k), reads::letters(rng, 60)) } else { small_genome(rng, k) };
+        fasta::all_of(rng, &site, &genome, false, &mut |site, job| {
+            let kept = |job: &&Job| fits(job) && job.output <= MOST_OUTPUT && job.index.len() <= MOST_INDEX && job.counts.len() <= MOST_COUNTS && one_in_eight(job);
+            if let Some(job) = job.filter(kept).filter(|_| site.bytes.len() <= MOST_SET) {
+                list.call(site, job);
+            }
+        });
+    }
+}
+
+/// By what a call is given.
+fn one_in_eight(job: &Job) -> bool {
+    let bytes = job.input.iter().chain(&job.entries).chain(&job.index);
+    bytes.fold(job.output + job.counts.len(), |sum, byte| sum.wrapping_mul(31).wrapping_add(*byte as usize)) % 8 == 0
+}
+
 pub fn write(file: &str, seed: u64) -> Result<(), String> {
     let mut list = List::default();
     let rng = &mut Rng::of_unit(seed, u64::MAX);
@@ -725,6 +753,7 @@ pub fn write(file: &str, seed: u64) -> Result<(), String> {
     needs_refused(&mut list, rng);
     needs_long(&mut list, rng);
     per_base(&mut list, rng);
+    fasta_files(&mut list, rng);
     list.tally.print();
     println!("{} cases, seed {seed}", list.cases);
     let bytes = list.finish();
@@ -774,7 +803,7 @@ pub fn replay(file: &str, library: &dyn Library) -> Result<bool, String> {
             }
             OPEN => library.open(set) == expected_open(&record),
             NEEDS => replay_needs(&mut reader, &record, (set, index, &counts), head[6] as u8, library)?,
-            READ | BATCH => replay_call(&mut reader, &record, (set, index, &counts), head[6] as u8, library)?,
+            READ | BATCH | FASTA => replay_call(&mut reader, &record, (set, index, &counts), head[6] as u8, library)?,
             kind => return Err(format!("no record of kind {kind}")),
         };
         passed += right as u32;
@@ -803,6 +832,7 @@ fn read_job(reader: &mut Reader, record: &[u32; RECORD], (_, index, counts): Off
     let call = match record[0] {
         READ => Call::Read,
         BATCH => Call::Batch,
+        FASTA => Call::Fasta,
         _ => Call::Needs,
     };
     let (entries, input) = (reader.take(entries)?.to_vec(), reader.take(input)?.to_vec());

@@ -1,5 +1,5 @@
 //! Document 01, "Sample reads", and reads for document 02: what it prints, held against a library.
-use crate::cases::job;
+use crate::cases::{job, job_with_room};
 use crate::library::Library;
 use crate::oracle::{self, Keys};
 use crate::referee::calls::{Call, Job};
@@ -159,6 +159,27 @@ impl Supported {
     }
 }
 
+/// Document 02, W11: a job, a file, and its output or the refusal's number and place, with an output of so many bytes. By One with confirm 255 AACAAAAAATCC stays, and Graph then makes AACTCC of it: the pass result is longer than the text, and its record is 11 where only
+/// the text would fit.
+pub const FASTA: [(&[u8], &str, usize, Result<&str, (u64, usize)>); 16] = [
+    (&[3, 1], ">first\nAACG\nCCG\n>second\n\n>third\nAA\n", 64, Ok(">first\nAACTCCG\n>second\n>third\nAA\n")),
+    (&[1, 1], ">a\nAACC\n", 9, Ok(">a\nAACTC\n")),
+    (&[1, 1], ">a\nAACC\n", 8, Err((11, 0))),
+    (&[], "\n\n>a > b\n\nA\n\nC\n\n", 32, Ok(">a > b\nAC\n")),
+    (&[], "", 0, Ok("")),
+    (&[], "\n\n", 0, Ok("")),
+    (&[], ">\n", 2, Ok(">\n")),
+    (&[], ">\n", 1, Err((11, 0))),
+    (&[], ">a\r\nAC\r\n", 32, Ok(">a\r\nAC\r\n")),
+    (&[], "\r\n>a\n", 32, Err((18, 0))),
+    (&[], "\n\nAC\n>a\n", 32, Err((18, 2))),
+    (&[], ">a\n\nAC\nA>C\n", 32, Err((18, 3))),
+    (&[], "AC\n>a", 32, Err((6, 0))),
+    (&[], ">a\nAC", 32, Err((6, 0))),
+    (&[1, 255, 3, 1], ">\n>\nAACAAAAAATCC\n", 14, Ok(">\n>\nAACTCC\n")),
+    (&[1, 255, 3, 1], ">\n>\nAACAAAAAATCC\n", 13, Err((11, 1))),
+];
+
 /// Two of those reads, and what natir/br makes of them, which reads N as G (docs/DIFFERENCES.md).
 const N_AS_G: [(&str, &str); 2] = [("CTCN", "CTCCN"), ("CCGNA", "CCGNA")];
 
@@ -193,6 +214,12 @@ pub fn wrong(library: &dyn Library) -> Vec<String> {
             wrong.push(format!("job {entries:?}, {batch:?} has not lookups, quotient, remainder, sum of W {expected:?}: {told:?}"));
         }
     }
+    for (entries, file, output, expected) in FASTA {
+        let told = fasta(library, entries, file, output);
+        if told != expected.map(|text| text.as_bytes().to_vec()) {
+            wrong.push(format!("job {entries:?}, {file:?} with an output of {output} does not give {expected:?}: {told:?}"));
+        }
+    }
     if !index_is_right(library) {
         wrong.push("the index of the samples' set differs".to_string());
     }
@@ -222,6 +249,14 @@ fn below(v: u64) -> u64 {
         59..=60 => 4,
         _ => 5,
     }
+}
+
+fn fasta(library: &dyn Library, entries: &[u8], file: &str, room: usize) -> Result<Vec<u8>, (u64, usize)> {
+    let job = job_with_room(Call::Fasta, entries, file.as_bytes(), room);
+    let (mut output, mut work) = (vec![0; job.output], vec![0; job.work]);
+    let report = library.correct(&set(), &job, &mut output, &mut work).map_err(|refusal| (refusal.number, refusal.place as usize))?;
+    output.truncate(report.written as usize);
+    Ok(output)
 }
 
 fn per_base(library: &dyn Library, job: &Job) -> Option<[u64; 4]> {

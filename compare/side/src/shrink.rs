@@ -93,7 +93,7 @@ impl Failure {
         let first = job_now(self);
         if first.call != Call::Read {
             for read in reads(&first) {
-                let single = Job { index: first.index.clone(), counts: first.counts.clone(), ..job(Call::Read, &first.entries, read) };
+                let single = Job { index: first.index.clone(), counts: first.counts.clone(), ..job(Call::Read, &first.entries, &read) };
                 if self.try_with(library, None, Some(single)) {
                     break;
                 }

@@ -7,6 +7,7 @@ ghost use Rattle.rules.specs.Set.{setOf, offering, opened};
 ghost use Rattle.rules.specs.Job.{entriesOf, lines};
 ghost use Rattle.rules.specs.Calls.{correctRead, correctBatch};
 ghost use Rattle.rules_needs.specs.Needs.{needs};
+ghost use Rattle.rules_fasta.specs.Fasta.{records, readsOf, correctFasta};
 ghost use Rattle.rules.specs.Solid.{countSolid};
 ghost use Rattle.rules_make.specs.MakeSet.{makeSet};
 ghost use Rattle.rules.specs.Index.{makeIndex};
@@ -76,6 +77,31 @@ pub extern "C" fn corrector_batch(
 {
     tell_answer(
         job::correct_batch(set, index, counts, job, batch, output, work),
+        answer,
+    )
+}
+
+// The FASTA call.
+#[no_mangle]
+pub extern "C" fn corrector_fasta(
+    set: &[u8],
+    index: &[u8],
+    counts: &[u32],
+    job: &[u8],
+    file: &[u8],
+    output: &mut [u8],
+    work: &mut [u8],
+    answer: &mut [u64],
+) -> u64
+    ensures exact { λ r. ⌜
+        Exact (correctFasta (given (now (set .entry)) (now (index .entry)) (now (counts .entry)) (now (job .entry)) (now (file .entry)) (now (output .entry)) (now (work .entry))))
+        (now (answer .entry)) r (now (output .exit)) (now (work .exit)) (now (answer .exit)) ⌝ }
+    ensures ceiling { λ r. ⌜
+        Ceiling (offering (now (index .entry)) (now (counts .entry)) (setOf (now (set .entry)))) (entriesOf (now (job .entry)))
+        (readsOf (records (now (file .entry)))) r (now (answer .exit)) ⌝ }
+{
+    tell_answer(
+        fasta::correct_fasta(set, index, counts, job, file, output, work),
         answer,
     )
 }

@@ -2,7 +2,7 @@
 use Prim.Native.Nat.{ℕ}
 use Rattle.rules.specs.Refusal as Rules
 use Rattle.refusal.specs.declared.Refusal.{Refusal}
-use Rattle.refusal.specs.declared.Refusal.the-variants.{Long, Methods, Method, Confirm, Buffers, Batch, Length, Check, Header, Key, NoRoom, Line, NotRising, TooShort, Index, Counts, NotOne}
+use Rattle.refusal.specs.declared.Refusal.the-variants.{Long, Methods, Method, Confirm, Buffers, Batch, Length, Check, Header, Key, NoRoom, Line, NotRising, TooShort, Index, Counts, NotOne, Sequence}
 
 abbrev numbered : ℕ → ℕ → Rules.Refusal
 numbered number place = record { number = number; place = place }
@@ -25,3 +25,4 @@ refusalOf TooShort = numbered 14 0
 refusalOf Index = numbered 15 0
 refusalOf Counts = numbered 16 0
 refusalOf NotOne = numbered 17 0
+refusalOf (Sequence line) = numbered 18 line

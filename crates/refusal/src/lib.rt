@@ -21,6 +21,7 @@ pub enum Refusal {
     Index,
     Counts,
     NotOne,
+    Sequence(usize),
 }
 
 pub fn number_of(refusal: Refusal) -> u64
@@ -44,6 +45,7 @@ pub fn number_of(refusal: Refusal) -> u64
         Refusal::Index => 15,
         Refusal::Counts => 16,
         Refusal::NotOne => 17,
+        Refusal::Sequence(_) => 18,
     }
 }
 
@@ -58,6 +60,7 @@ pub fn place_of(refusal: Refusal) -> u64
         Refusal::NoRoom(line) => line as u64,
         Refusal::Line(line) => line as u64,
         Refusal::NotRising(line) => line as u64,
+        Refusal::Sequence(line) => line as u64,
         Refusal::Long => 0,
         Refusal::Methods => 0,
         Refusal::Buffers => 0,

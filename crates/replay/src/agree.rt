@@ -67,7 +67,7 @@ fn lent_is(lent: &[u8], result: &[u8], rest: u8) -> bool {
 fn rest_of(record: &[u8; 76], fill: u8) -> u8 {
     match number(record, 8) {
         1..=10 => fill,
-        15..=17 => fill,
+        15..=18 => fill,
         _ => 0,
     }
 }
@@ -84,6 +84,9 @@ fn call(
 ) -> Answer {
     if number(record, 0) == 3 {
         return job::correct_read(set, index, counts, job, input, output, work);
+    }
+    if number(record, 0) == 8 {
+        return fasta::correct_fasta(set, index, counts, job, input, output, work);
     }
     job::correct_batch(set, index, counts, job, input, output, work)
 }

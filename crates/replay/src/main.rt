@@ -42,6 +42,8 @@ const COUNTS: u64 = 6;
 // A case that has no output and no result.
 const NEEDS: u64 = 7;
 
+const FASTA: u64 = 8;
+
 enum Case {
     Agrees,
     Differs,
@@ -178,6 +180,7 @@ fn replay_case(set: &[u8], index: &[u8], count_bytes: &[u8], record: &[u8; 76], 
         2 => told(open_agrees(set, record)),
         3..=4 => replay_counted(set, index, count_bytes, record, fill),
         NEEDS => replay_counted(set, index, count_bytes, record, fill),
+        FASTA => replay_counted(set, index, count_bytes, record, fill),
         _ => Case::Malformed,
     }
 }

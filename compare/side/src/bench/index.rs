@@ -54,7 +54,7 @@ fn index_of(library: &dyn Library, world: &World) -> Vec<u8> {
 fn calls(library: &dyn Library, world: &World, index: &[u8], call: Call) -> Calls {
     let mut batch = match call {
         Call::Read => Batch::of_read(library, world, METHOD, ERRORS, SHORT),
-        Call::Batch | Call::Needs => Batch::of_cell(library, world, METHOD, ERRORS),
+        Call::Batch | Call::Needs | Call::Fasta => Batch::of_cell(library, world, METHOD, ERRORS),
     };
     let parts = [Part::Ours, Part::Rust, Part::Indexed, Part::Opening];
     let rounds = Rounds::run(&parts, |part| match part {

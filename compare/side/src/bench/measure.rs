@@ -9,6 +9,7 @@ use crate::library::Library;
 use crate::oracle;
 use crate::referee::calls::{Answer, Call, Job, Report};
 use crate::referee::correctors::Method;
+use crate::referee::fasta::text;
 use crate::referee::needs::Needs;
 use crate::rng::Rng;
 use br::set::BoxKmerSet;
@@ -90,6 +91,8 @@ pub struct Batch<'a> {
     counts: Vec<u32>,
     /// Whether needs are measured, too.
     needs: bool,
+    /// The same reads as a FASTA file, and what comes of it; none where it is not measured.
+    fasta: Option<(Job, Vec<u8>)>,
     world: &'a World,
     set: BoxKmerSet<'a>,
     method: Method,
@@ -126,7 +129,7 @@ impl<'a> Batch<'a> {
         let job = Job { input, output, work: 2 * output, ..job(call, &[method.byte(), CONFIRM], &[]) };
         let (output, work) = (vec![0; job.output], vec![0; job.work]);
         let (set, counts) = (Box::new(&world.rust), Vec::new());
-        Batch { reads, report: None, library, against: None, counts, needs: false, world, set, method, job, expected, output, work }
+        Batch { reads, report: None, library, against: None, counts, needs: false, fasta: None, world, set, method, job, expected, output, work }
     }
 
     /// A read with errors by a read call, cut to so many bases.
@@ -158,6 +161,32 @@ impl<'a> Batch<'a> {
     /// The same, with its needs beside it where they are asked for.
     pub fn booked(self, needs: bool) -> Self {
         Batch { needs, ..self }
+    }
+
+    /// The same, with its reads as records beside it where they are asked for. Their names are short, their lines have 80 letters.
+    pub fn as_fasta(self, asked: bool) -> Self {
+        let file = |lines: &[u8]| {
+            let reads = lines.split_inclusive(|byte| *byte == 10).enumerate();
+            reads.flat_map(|(number, read)| text(format!(">{number}").as_bytes(), &read[..read.len() - 1])).collect::<Vec<u8>>()
+        };
+        let job = |input: Vec<u8>| {
+            let output = MOST_BYTES.min(input.len() * 5 / 4);
+            Job { call: Call::Fasta, work: 2 * output.max(input.len()), output, input, ..self.job.clone() }
+        };
+        Batch { fasta: asked.then(|| (job(file(&self.job.input)), file(&self.expected))), ..self }
+    }
+
+    /// One FASTA call of ours: natir/br's bytes, and the numbers that the batch call reports.
+    pub fn ours_as_fasta(&mut self) -> f64 {
+        let Some((job, expected)) = &self.fasta else { return 0.0 };
+        self.output.resize(self.output.len().max(job.output), 0);
+        self.work.resize(self.work.len().max(job.work), 0);
+        let (library, set) = (self.library, &self.world.set);
+        let (answer, seconds) = timed(|| library.correct(set, job, &mut self.output[..job.output], &mut self.work[..job.work]));
+        let report = answer.unwrap_or_else(|refusal| panic!("FASTA: refused {} at {}", refusal.number, refusal.place));
+        assert!(self.output[..report.written as usize] == *expected, "FASTA: {:?} gives other bytes than natir/br", self.method);
+        assert!(self.report.is_none_or(|batch| Report { written: batch.written, ..report } == batch), "FASTA reports others than the batch");
+        seconds
     }
 
     pub fn bases(&self) -> usize {
@@ -229,14 +258,15 @@ impl<'a> Batch<'a> {
 
     /// A call and its seconds; every byte must be the Rust's.
     fn checked(&mut self, name: &str, call: impl FnOnce(&Job, &mut [u8], &mut [u8]) -> Answer) -> (Report, f64) {
-        let (answer, seconds) = timed(|| call(&self.job, &mut self.output, &mut self.work));
+        let (job, output, work) = (&self.job, &mut self.output[..self.job.output], &mut self.work[..self.job.work]);
+        let (answer, seconds) = timed(|| call(job, output, work));
         let report = answer.unwrap_or_else(|refusal| panic!("{name}: refused {} at {}", refusal.number, refusal.place));
         assert!(self.output[..report.written as usize] == self.expected, "{name}: {:?} gives other bytes than natir/br", self.method);
         (report, seconds)
     }
 
     fn rounds(&mut self) -> Rounds {
-        let beside = [(self.against.is_some(), Part::Before), (!self.counts.is_empty(), Part::Counted), (self.needs, Part::Needs)];
+        let beside = [(self.against.is_some(), Part::Before), (!self.counts.is_empty(), Part::Counted), (self.needs, Part::Needs), (self.fasta.is_some(), Part::Fasta)];
         let mut parts: Vec<Part> = beside.into_iter().filter(|(asked, _)| *asked).map(|(_, part)| part).collect();
         let plain = if parts.is_empty() { [Part::Rust, Part::Ours] } else { [Part::Ours, Part::Rust] };
         parts.splice(0..0, plain);
@@ -248,6 +278,7 @@ impl<'a> Batch<'a> {
             Part::Before => self.before_over(&world.set),
             Part::Counted => self.ours_counted(),
             Part::Needs => self.needs(),
+            Part::Fasta => self.ours_as_fasta(),
             _ => self.ours(),
         })
     }
@@ -272,16 +303,17 @@ pub fn empty_batch(library: &dyn Library, world: &World, method: Method) -> f64 
     seconds
 }
 
-/// What a cell is measured beside: another build, calls with counts, and what is told beforehand.
+/// What a cell is measured beside: another build, calls with counts, what is told beforehand, and the same reads as FASTA.
 #[derive(Clone, Copy)]
 pub struct Beside<'a> {
     pub against: Option<&'a Against>,
     pub counts: bool,
     pub needs: bool,
+    pub fasta: bool,
 }
 
 pub fn cell(library: &dyn Library, beside: Beside, world: &World, method: Method, errors: usize, a_lookup: Loops) -> Cell {
-    let mut batch = Batch::of_cell(library, world, method, errors).against(beside.against).counted(beside.counts).booked(beside.needs);
+    let mut batch = Batch::of_cell(library, world, method, errors).against(beside.against).counted(beside.counts).booked(beside.needs).as_fasta(beside.fasta);
     let rounds = batch.rounds();
     let lookups = batch.report.as_ref().map_or(0, |report| report.lookups);
     Cell { method, keys: world.keys, k: world.k, huge: world.huge, errors, reads: batch.reads.len(), bases: batch.bases(), lookups, rounds, a_lookup }

@@ -34,7 +34,7 @@ pub fn run(side: &str, set: &str, batch: &str) -> Result<(), String> {
             let keys = stream(set).map_err(say)?;
             let set: BoxKmerSet = Box::new(&keys);
             for read in reads(&job) {
-                correct(&set, Method::One, CONFIRM, read);
+                correct(&set, Method::One, CONFIRM, &read);
             }
         }
     }

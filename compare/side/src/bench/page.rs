@@ -26,6 +26,8 @@ pub struct Results {
     pub counts: bool,
     /// Whether what a batch needs was timed, too.
     pub needs: bool,
+    /// Whether the same reads were timed as FASTA, too.
+    pub fasta: bool,
     pub cells: Vec<Cell>,
     pub huge: Vec<Cell>,
     pub placings: Vec<Placing>,
@@ -84,6 +86,13 @@ pub fn write(results: &Results, chart: &str) -> String {
              that the needs are told sooner.\n"
         );
     }
+    if results.fasta {
+        let _ = writeln!(
+            page,
+            "*FASTA* is `corrector_fasta` on the same reads, as records with lines of 80 letters, in the same rounds, whose order then rotates too; *batch by FASTA* is the median of the batch call's times by the \
+             median of its.\n"
+        );
+    }
     summary(&mut page, &results.cells, &results.huge);
     let _ = writeln!(
         page,
@@ -121,11 +130,12 @@ pub fn figure(value: f64) -> String {
 }
 
 /// What stands beside a cell of ours, each with the parts of which it is the one's time by the other's: more than 1 says that the second is faster.
-pub const BESIDE: [(&str, Part, Part); 4] = [
+pub const BESIDE: [(&str, Part, Part); 5] = [
     ("before by after", Part::Before, Part::Ours),
     ("without by with counts", Part::Ours, Part::Counted),
     ("before by with counts", Part::Before, Part::Counted),
     ("real by needs", Part::Ours, Part::Needs),
+    ("batch by FASTA", Part::Ours, Part::Fasta),
 ];
 
 /// The columns of a run beside another build or with counts, those that it has.

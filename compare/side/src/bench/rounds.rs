@@ -28,9 +28,11 @@ pub enum Part {
     Counted,
     /// What ours tells beforehand of the same batch.
     Needs,
+    /// Ours on the same reads as a FASTA file.
+    Fasta,
 }
 
-const PARTS: usize = 8;
+const PARTS: usize = 9;
 
 /// The Rust, ours and the opening.
 const PLAIN: usize = 3;

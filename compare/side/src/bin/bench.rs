@@ -17,7 +17,7 @@ use std::process::ExitCode;
 static ALLOCATOR: Allocator = Allocator;
 
 const USAGE: &str =
-    "compare/bench [--make] [--aligned] [--index] [--quick] [--stand-in] [--against LIBRARY [--against-offers nothing|index|counts]] [--counts] [--needs] [--out FOLDER] [--keys N,..] [--k K,..] [--method NAME,..] [--errors N,..] [--huge] [--split] [--running-time]";
+    "compare/bench [--make] [--aligned] [--index] [--quick] [--stand-in] [--against LIBRARY [--against-offers nothing|index|counts]] [--counts] [--needs] [--fasta] [--out FOLDER] [--keys N,..] [--k K,..] [--method NAME,..] [--errors N,..] [--huge] [--split] [--running-time]";
 const KEYS: [usize; 4] = [1_000, 100_000, 4_000_000, 16_000_000];
 /// How many of these --quick takes.
 const QUICK: usize = 2;
@@ -63,6 +63,7 @@ struct Options {
     against_offers: Option<Offers>,
     counts: bool,
     needs: bool,
+    fasta: bool,
     folder: Option<String>,
 }
 
@@ -92,8 +93,9 @@ impl Options {
             self.against.is_none(),
             !self.counts,
             !self.needs,
+            !self.fasta,
         ];
-        if self.folder.is_none() && whole == [true; 9] {
+        if self.folder.is_none() && whole == [true; 10] {
             self.folder = Some(if cfg!(feature = "linked") { "docs" } else { "target/compare" }.to_string());
         }
         self
@@ -125,6 +127,7 @@ fn options(arguments: &[String]) -> Result<Options, String> {
             "--against-offers" => options.against_offers = Some(offers(value()?)?),
             "--counts" => options.counts = true,
             "--needs" => options.needs = true,
+            "--fasta" => options.fasta = true,
             "--running-time" => count_running_time(),
             "--out" => options.folder = Some(value()?.clone()),
             // Chosen when this was built.
@@ -177,7 +180,7 @@ fn bench(arguments: &[String]) -> Result<(), String> {
         print!("{}", aligned::section(&aligned::measure_all(library(), against, &options.keys)));
         return Ok(());
     }
-    let results = measure_all(&options, Beside { against, counts: options.counts, needs: options.needs });
+    let results = measure_all(&options, Beside { against, counts: options.counts, needs: options.needs, fasta: options.fasta });
     let Some(folder) = &options.folder else {
         print!("{}{}", page::cell_tables(&results), page::slowest(&results.cells));
         return Ok(());
@@ -203,8 +206,8 @@ fn with_millions(options: &Options, against: Option<&Against>) -> String {
 
 fn measure_all(options: &Options, beside: Beside) -> Results {
     let library = library();
-    let (against, counts, needs) = (options.against.clone(), options.counts, options.needs);
-    let mut results = Results { library: library.name(), against, counts, needs, ..Results::default() };
+    let (against, counts, needs, fasta) = (options.against.clone(), options.counts, options.needs, options.fasta);
+    let mut results = Results { library: library.name(), against, counts, needs, fasta, ..Results::default() };
     for n in &options.keys {
         for k in &options.k {
             let rng = &mut Rng::of_unit(*k as u64, *n as u64);

@@ -120,7 +120,7 @@ pub fn input(rng: &mut Rng, genome: &[u8], long: bool, visit: &mut dyn FnMut(&Jo
     let read = reads::noisy(rng, genome, 60);
     let input = match call {
         Call::Read => read,
-        Call::Batch | Call::Needs => batch_of([&read]),
+        Call::Batch | Call::Needs | Call::Fasta => batch_of([&read]),
     };
     let mut job = job(call, &[rng.pick(&METHODS).byte(), rng.within(1, 5) as u8], &input);
     for _ in 0..rng.within(1, 2) {

@@ -1,11 +1,13 @@
 //! "Job" as document 02 has it, "Report" and the refusals: the single-read and the batch call.
 use super::correctors::Method;
 use super::driver::{pass, Pass};
+use super::fasta;
 use super::index;
 use super::letters::Kmer;
 use super::set::{Refusal, Set};
+use std::borrow::Cow;
 
-const MOST_INPUT: usize = 1_048_576;
+pub const MOST_INPUT: usize = 1_048_576;
 const MOST_ENTRIES: usize = 8;
 pub const MOST_OUTPUT: usize = 1_048_576;
 pub const MOST_WORK: usize = 2_097_152;
@@ -15,6 +17,8 @@ const MOST_LINES: usize = 1_024;
 pub enum Call {
     Read,
     Batch,
+    /// Document 02, W11: see `fasta`.
+    Fasta,
     /// Document 02, W9: see `needs`.
     Needs,
 }
@@ -68,16 +72,17 @@ pub struct Outcome {
 }
 
 impl Outcome {
-    fn refused(refusal: Refusal) -> Self {
+    pub fn refused(refusal: Refusal) -> Self {
         Outcome { answer: Err(refusal), bytes: Vec::new(), passes: Vec::new() }
     }
 }
 
-/// The reads of a call: a single read is a list of one read, a batch is lines each ended by byte 10.
-pub fn reads(job: &Job) -> Vec<&[u8]> {
+/// The reads of a call: a single read is a list of one read, a batch is lines each ended by byte 10, a FASTA file has a read in each record.
+pub fn reads(job: &Job) -> Vec<Cow<'_, [u8]>> {
     match job.call {
-        Call::Read => vec![&job.input],
-        Call::Batch | Call::Needs => job.input.split_inclusive(|byte| *byte == 10).map(|line| &line[..line.len() - 1]).collect(),
+        Call::Read => vec![Cow::from(&job.input)],
+        Call::Batch | Call::Needs => job.input.split_inclusive(|byte| *byte == 10).map(|line| Cow::from(&line[..line.len() - 1])).collect(),
+        Call::Fasta => fasta::records(&job.input).into_iter().map(|record| Cow::from(record.read)).collect(),
     }
 }
 
@@ -96,11 +101,12 @@ pub fn count_solid(opened: &Result<Set, Refusal>, read: &[u8]) -> Result<(u64, u
     Ok((kmers.len() as u64, kmers.flatten().filter(|code| set.solid(*code)).count() as u64))
 }
 
-/// The single-read or the batch call.
+/// The single-read, the batch or the FASTA call.
 pub fn call(opened: &Result<Set, Refusal>, job: &Job) -> Outcome {
     let refused = job_refusal(job).or_else(|| buffers_refusal(job)).or_else(|| lines_refusal(job));
     match refused.map_or_else(|| offered(opened, job), Err) {
         Err(refusal) => Outcome::refused(refusal),
+        Ok(set) if job.call == Call::Fasta => fasta::correct(set, job),
         Ok(set) => correct(set, job),
     }
 }
@@ -141,8 +147,11 @@ fn buffers_refusal(job: &Job) -> Option<Refusal> {
     wrong.then_some(Refusal::new(5, 0))
 }
 
-/// Refusal 6, of lines.
+/// Refusal 6, of lines; of a FASTA file 6 and then 18.
 pub fn lines_refusal(job: &Job) -> Option<Refusal> {
+    if job.call == Call::Fasta {
+        return fasta::file_refusal(&job.input).or_else(|| fasta::sequence_refusal(&job.input));
+    }
     let ended = job.input.last().is_none_or(|byte| *byte == 10);
     let lines = job.input.iter().filter(|byte| **byte == 10).count();
     (job.call != Call::Read && (!ended || lines > MOST_LINES)).then_some(Refusal::new(6, 0))
@@ -152,17 +161,17 @@ pub fn lines_refusal(job: &Job) -> Option<Refusal> {
 fn correct(set: &Set, job: &Job) -> Outcome {
     let ending: &[u8] = match job.call {
         Call::Read => &[],
-        Call::Batch | Call::Needs => &[10],
+        Call::Batch | Call::Needs | Call::Fasta => &[10],
     };
     let entries = entries(job);
     let (mut bytes, mut passes) = (Vec::new(), Vec::new());
     for (line, read) in reads(job).into_iter().enumerate() {
-        let made = passes_of(set, &entries, read);
+        let made = passes_of(set, &entries, &read);
         let longest = made.iter().map(|pass| pass.bytes.len()).max().unwrap_or(read.len());
         if longest + ending.len() > job.output - bytes.len() {
             return Outcome::refused(Refusal::new(11, line));
         }
-        bytes.extend_from_slice(made.last().map_or(read, |pass| &pass.bytes));
+        bytes.extend_from_slice(made.last().map_or(&read, |pass| &pass.bytes));
         bytes.extend_from_slice(ending);
         passes.push(made);
     }
@@ -204,7 +213,7 @@ pub fn support(passes: &[Vec<Pass>], counts: &[u32]) -> Option<u32> {
 }
 
 /// Numbers are sums over all passes, yield, quotient and remainder from the sums, support the smallest of all.
-fn report(written: usize, passes: &[Vec<Pass>], counts: &[u32]) -> Report {
+pub fn report(written: usize, passes: &[Vec<Pass>], counts: &[u32]) -> Report {
     let sum = |of: fn(&Pass) -> u64| passes.iter().flatten().map(of).sum();
     let (attempts, accepted): (u64, u64) = (sum(|pass| pass.attempts), sum(|pass| pass.accepted));
     let (lookups, bases): (u64, u64) = (sum(|pass| pass.lookups), sum(|pass| pass.w));

@@ -7,6 +7,7 @@ pub mod calls;
 pub mod ceilings;
 pub mod correctors;
 pub mod driver;
+pub mod fasta;
 pub mod index;
 pub mod letters;
 pub mod make;

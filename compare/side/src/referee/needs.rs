@@ -22,7 +22,7 @@ pub fn needs(opened: &Result<Set, Refusal>, job: &Job) -> Needed {
     match checked(opened, job) {
         Err(refusal) => Needed { answer: Err(refusal), passes: Vec::new() },
         Ok(set) => {
-            let passes: Vec<Vec<Pass>> = reads(job).into_iter().map(|read| passes_of(set, &entries(job), read)).collect();
+            let passes: Vec<Vec<Pass>> = reads(job).into_iter().map(|read| passes_of(set, &entries(job), &read)).collect();
             Needed { answer: Ok(sum(&passes)), passes }
         }
     }

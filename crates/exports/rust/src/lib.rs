@@ -1,5 +1,5 @@
 //! Corrects DNA reads against a set of k-mers that are known to be good: safe calls of the corrector's static library, whose every answer
-//! and every lent byte is proved to be what its rules say. The project's README.md has the formats of a set, a job and a batch.
+//! and every lent byte is proved to be what its rules say. The project's README.md has the formats of a set, a job, a batch and FASTA.
 //!
 //! A call keeps no state and allocates nothing, so any number of threads may call at once with buffers of their own. It keeps its tables
 //! on the stack: `CORRECTOR_STACK` of corrector.h says how much a thread needs, which is less than a thread of `std` has.
@@ -41,7 +41,7 @@ mod refusal;
 pub use job::{Entry, Job, Method};
 pub use refusal::Refusal;
 
-/// The longest read or batch, in bytes.
+/// The longest read, batch or FASTA file, in bytes.
 pub const MAX_INPUT: usize = 1_048_576;
 /// The most entries of a job.
 pub const MAX_ENTRIES: usize = 8;
@@ -51,6 +51,8 @@ pub const MAX_OUTPUT: usize = 1_048_576;
 pub const MAX_WORK: usize = 2_097_152;
 /// The most lines of a batch.
 pub const MAX_LINES: usize = 1_024;
+/// The most records of a FASTA file.
+pub const MAX_RECORDS: usize = 1_024;
 
 /// The most keys of a set.
 pub const MAX_KEYS: usize = 16_777_216;
@@ -130,7 +132,7 @@ pub struct Needs {
     pub lookups: u64,
 }
 
-/// The least work buffer for an output and a read or batch of these lengths.
+/// The least work buffer for an output and a read, batch or FASTA file of these lengths.
 pub fn work_length(output: usize, input: usize) -> usize {
     2 * output.max(input)
 }
@@ -178,6 +180,38 @@ pub fn correct_batch(
     work: &mut [u8],
 ) -> Result<Report, Refusal> {
     answer(raw::correct(raw::Call::Batch, lent(set, index, counts, job, batch, output, work)))
+}
+
+/// Corrects the reads of a FASTA file, each as [`correct_read`] does. A record is a name line, which starts with `>`, and its sequence lines, if any,
+/// joined without their ends; lines of no bytes are skipped. The output has each name line unchanged and the corrected read in lines of 80 letters, the
+/// last possibly shorter, none for an empty read. Read again, it has the same names and reads.
+///
+/// The file is empty or ends with byte 10. Bytes are taken as they are: byte 13 is a base of its line, so convert a file with CRLF ends first. A
+/// sequence line before the first name line, or one that holds `>`, is [`Refusal::Sequence`]. [`Refusal::NoRoom`] tells the first record whose text, or
+/// one of whose pass results, is longer than what is left of the output before its name line.
+///
+/// ```
+/// # let mut set = vec![0; corrector::set_length(5)];
+/// # corrector::make_set(b"ACT,9\nCCG,4\nCTC,7\nAAC,5\nTCC,8\n", 3, 1, &mut set, &mut [0; 5])?;
+/// use corrector::{Entry, Job, Method};
+/// let entries = [Entry::new(Method::Graph, 1).expect("confirm is not 0")];
+/// let file = b">first\nAACG\nCCG\n>second\n\n>third\nAA\n";
+/// let mut output = [0; 64];
+/// let mut work = vec![0; corrector::work_length(output.len(), file.len())];
+/// let report = corrector::correct_fasta(&set, None, None, Job::new(&entries), file, &mut output, &mut work)?;
+/// assert_eq!(output[..report.written], *b">first\nAACTCCG\n>second\n>third\nAA\n");
+/// # Ok::<(), corrector::Refusal>(())
+/// ```
+pub fn correct_fasta(
+    set: &[u8],
+    index: Option<&[u8]>,
+    counts: Option<&[u32]>,
+    job: Job<'_>,
+    file: &[u8],
+    output: &mut [u8],
+    work: &mut [u8],
+) -> Result<Report, Refusal> {
+    answer(raw::correct(raw::Call::Fasta, lent(set, index, counts, job, file, output, work)))
 }
 
 /// What a batch will need by a job of one entry: the exact bytes of its output, its turns and its lookups. No output is lent.

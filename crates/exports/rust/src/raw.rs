@@ -16,6 +16,11 @@ extern "C" {
         job: *const u8, job_length: usize, batch: *const u8, batch_length: usize,
         output: *mut u8, output_length: usize, work: *mut u8, work_length: usize, answer: *mut u64, answer_length: usize,
     ) -> u64;
+    fn corrector_fasta(
+        set: *const u8, set_length: usize, index: *const u8, index_length: usize, counts: *const u32, counts_length: usize,
+        job: *const u8, job_length: usize, file: *const u8, file_length: usize,
+        output: *mut u8, output_length: usize, work: *mut u8, work_length: usize, answer: *mut u64, answer_length: usize,
+    ) -> u64;
     fn corrector_needs(
         set: *const u8, set_length: usize, index: *const u8, index_length: usize, counts: *const u32, counts_length: usize,
         job: *const u8, job_length: usize, batch: *const u8, batch_length: usize, work: *mut u8, work_length: usize,
@@ -33,7 +38,7 @@ extern "C" {
     ) -> u64;
 }
 
-/// What a read or a batch call is lent, but for its answer. Needs is lent no output.
+/// What a read, a batch or a FASTA call is lent, but for its answer. Needs is lent no output.
 pub struct Lent<'a> {
     pub set: &'a [u8],
     /// Empty: not offered.
@@ -59,6 +64,7 @@ pub fn bytes_of(entries: &[Entry]) -> &[u8] {
 pub enum Call {
     Read,
     Batch,
+    Fasta,
 }
 
 /// Number, place, k, n.
@@ -74,6 +80,7 @@ pub fn correct(call: Call, lent: Lent<'_>) -> [u64; 13] {
     let entry = match call {
         Call::Read => corrector_read,
         Call::Batch => corrector_batch,
+        Call::Fasta => corrector_fasta,
     };
     let mut answer = [0; 13];
     // SAFETY: each pointer and length are a live slice's; `output`, `work` and `answer` are lent to this call alone, so that they overlap

@@ -2,11 +2,11 @@
 use std::error::Error;
 use std::fmt::{Display, Formatter, Result};
 
-/// Why a call is refused. Checked in this order, but for 11, which comes last, and 17, which comes between 4 and 5: the first that applies is
-/// told; [`make_set`](crate::make_set) has an order of its own. Places count from 0.
+/// Why a call is refused. Checked in this order, but for 11, which comes last, 17, which comes between 4 and 5, and 18, which comes between 6 and 7: the first that
+/// applies is told; [`make_set`](crate::make_set) has an order of its own. Places count from 0.
 #[derive(Clone, Copy, Debug, PartialEq, Eq)]
 pub enum Refusal {
-    /// 1: the read or batch is longer than [`MAX_INPUT`](crate::MAX_INPUT) bytes.
+    /// 1: the read, batch or FASTA file is longer than [`MAX_INPUT`](crate::MAX_INPUT) bytes.
     InputLength,
     /// 2: the job has more than [`MAX_ENTRIES`](crate::MAX_ENTRIES) entries.
     EntryCount,
@@ -23,7 +23,8 @@ pub enum Refusal {
     /// 5: output or work is too long, or work is shorter than [`work_length`](crate::work_length); of [`needs`](crate::needs): work is shorter than
     /// the batch.
     Buffers,
-    /// 6: the batch is not empty and lacks a final byte 10, or has more than [`MAX_LINES`](crate::MAX_LINES) lines.
+    /// 6: the batch or FASTA file is not empty and lacks a final byte 10, or has more than [`MAX_LINES`](crate::MAX_LINES) lines or, of a FASTA file,
+    /// [`MAX_RECORDS`](crate::MAX_RECORDS) records.
     Batch,
     /// 7: the set's length is 0 or no multiple of 512.
     SetLength,
@@ -41,7 +42,7 @@ pub enum Refusal {
     },
     /// 11: a result does not fit the output. Output and work are all zero.
     NoRoom {
-        /// The line of the batch; 0 for a single read.
+        /// The line of the batch, or the record of a FASTA file; 0 for a single read.
         line: usize,
     },
     /// 12: a line of k-mer counts breaks the form.
@@ -62,6 +63,11 @@ pub enum Refusal {
     Counts,
     /// 17: the job that [`needs`](crate::needs) is asked for has other than one entry.
     NotOneEntry,
+    /// 18: a sequence line of a FASTA file stands before the first name line, or holds `>`.
+    Sequence {
+        /// The first such line of the file, lines of no bytes counted.
+        line: usize,
+    },
 }
 
 impl Refusal {
@@ -86,11 +92,12 @@ impl Refusal {
             15 => Self::Index,
             16 => Self::Counts,
             17 => Self::NotOneEntry,
-            _ => unreachable!("the library refuses by 1 to 17"),
+            18 => Self::Sequence { line: place },
+            _ => unreachable!("the library refuses by 1 to 18"),
         }
     }
 
-    /// The number, 1 to 17.
+    /// The number, 1 to 18.
     pub fn number(self) -> u8 {
         match self {
             Self::InputLength => 1,
@@ -110,6 +117,7 @@ impl Refusal {
             Self::Index => 15,
             Self::Counts => 16,
             Self::NotOneEntry => 17,
+            Self::Sequence { .. } => 18,
         }
     }
 
@@ -118,7 +126,7 @@ impl Refusal {
         match self {
             Self::MethodUnknown { index: place } | Self::ConfirmZero { index: place } => place,
             Self::SetCheck { block: place } | Self::SetKey { word: place } => place,
-            Self::NoRoom { line: place } | Self::Line { line: place } | Self::NotRising { line: place } => place,
+            Self::NoRoom { line: place } | Self::Line { line: place } | Self::NotRising { line: place } | Self::Sequence { line: place } => place,
             _ => 0,
         }
     }
@@ -127,23 +135,24 @@ impl Refusal {
 impl Display for Refusal {
     fn fmt(&self, to: &mut Formatter<'_>) -> Result {
         match self {
-            Self::InputLength => write!(to, "the read or batch is too long"),
+            Self::InputLength => write!(to, "the read, batch or file is too long"),
             Self::EntryCount => write!(to, "the job has too many entries"),
             Self::MethodUnknown { index } => write!(to, "the method of entry {index} is unknown"),
             Self::ConfirmZero { index } => write!(to, "the confirm of entry {index} is 0"),
             Self::Buffers => write!(to, "the output or work buffer has a wrong length"),
-            Self::Batch => write!(to, "the batch lacks a final byte 10, or has too many lines"),
+            Self::Batch => write!(to, "the batch or file lacks a final byte 10, or has too many lines or records"),
             Self::SetLength => write!(to, "the set's length is 0 or no multiple of 512"),
             Self::SetCheck { block } => write!(to, "block {block} of the set is damaged"),
             Self::SetHeader => write!(to, "the set's header is wrong"),
             Self::SetKey { word } => write!(to, "word {word} of the set's keys is wrong"),
-            Self::NoRoom { line } => write!(to, "the result of line {line} does not fit the output"),
+            Self::NoRoom { line } => write!(to, "the result of line or record {line} does not fit the output"),
             Self::Line { line } => write!(to, "line {line} of the counts breaks the form"),
             Self::NotRising { line } => write!(to, "the code of line {line} of the counts does not rise"),
             Self::TooShort => write!(to, "the buffer is too short for the blocks, or the list for the counts"),
             Self::Index => write!(to, "the index is not that of the set"),
             Self::Counts => write!(to, "the counts are not as many as the set has keys"),
             Self::NotOneEntry => write!(to, "the job has other than one entry"),
+            Self::Sequence { line } => write!(to, "line {line} of the file is a sequence line without a name, or holds `>`"),
         }
     }
 }

@@ -328,5 +328,5 @@ fn refusals_are_told_in_words() {
     assert_eq!(Refusal::ConfirmZero { index: 3 }.to_string(), "the confirm of entry 3 is 0");
     assert_eq!(Refusal::SetCheck { block: 7 }.to_string(), "block 7 of the set is damaged");
     let error: Box<dyn std::error::Error> = Box::new(Refusal::NoRoom { line: 2 });
-    assert_eq!(error.to_string(), "the result of line 2 does not fit the output");
+    assert_eq!(error.to_string(), "the result of line or record 2 does not fit the output");
 }

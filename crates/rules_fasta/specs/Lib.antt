@@ -1,0 +1,3 @@
+pub mod Fasta
+pub mod Shares
+pub mod Promised
