@@ -64,6 +64,16 @@ struct corrector_entry {
 };
 
 /*
+ * An edit of corrector_check_edits: at this position of the read, counted from 0, so many bases are taken and so many letters given for them. An
+ * array of n of these is 3 * n numbers.
+ */
+struct corrector_edit {
+    uint64_t position;
+    uint64_t taken;
+    uint64_t given;
+};
+
+/*
  * Why a call is refused: what it returns, and number 0 of its answer. Checked upward, so that the least that applies is told, but for 11,
  * which comes last, 17, which comes between 4 and 5, and 18, which comes between 6 and 7; corrector_make_set has an order of its own.
  */
@@ -86,7 +96,8 @@ enum corrector_refusal {
     CORRECTOR_INDEX = 15,         /* an offered index isn't the set's; checked behind 10 and before 11 */
     CORRECTOR_COUNTS = 16,        /* an offered list of counts has not one for each key; checked behind 15 and before 11 */
     CORRECTOR_NOT_ONE_ENTRY = 17, /* of corrector_needs: the job has other than one entry; checked behind 4 and before 5 */
-    CORRECTOR_SEQUENCE = 18       /* of corrector_fasta: a sequence line before the first name line, or with `>` in it; place: the first such line */
+    CORRECTOR_SEQUENCE = 18,      /* of corrector_fasta: a sequence line before the first name line, or with `>` in it; place: the first such line */
+    CORRECTOR_EDIT = 19           /* of corrector_check_edits: the sheet isn't accepted; place: the edit, or the number of edits */
 };
 
 /*
@@ -122,7 +133,9 @@ enum {
     CORRECTOR_CALL_NUMBERS = 13, /* how many there are */
     /* corrector_needs; CORRECTOR_TURNS and CORRECTOR_LOOKUPS stand where they do above */
     CORRECTOR_BYTES = 2, /* that the output will be */
-    CORRECTOR_NEEDS_NUMBERS = 5 /* how many there are */
+    CORRECTOR_NEEDS_NUMBERS = 5, /* how many there are */
+    /* corrector_check_edits: number and place alone */
+    CORRECTOR_CHECK_NUMBERS = 2 /* how many there are */
 };
 
 /* The least work buffer for an output and an input of these lengths, if both are within the limits. */
@@ -265,6 +278,29 @@ uint64_t corrector_make_set(
 uint64_t corrector_make_index(
     const uint8_t *set, size_t set_length,
     uint8_t *blocks, size_t blocks_length,
+    uint64_t *answer, size_t answer_length);
+
+/*
+ * Whether another program's edits turn `read` into `mended`, with solid k-mers around them. `edits` are numbers, three for an edit: position, bases
+ * taken, letters given (struct corrector_edit; the length counts numbers). `letters` are those of all edits, one after the other. Neither list has a
+ * limit on its length.
+ *
+ * Returns 0, and the sheet is accepted; or refusal 1 for either read, 7 to 10 of the set, or 19. Three judgements are made, each over all edits before
+ * the next, and 19 tells as its place the first edit that offends in the first judgement that fails, counted from 0:
+ *
+ * - Form. An edit has three numbers, a position of at least k, and position + taken at most the read's length less 1; the letters given so far are
+ *   no more than there are; and it begins behind the position of the edit before it, and not before that one's end.
+ * - K-mers. In the read with all edits made, each k-mer is solid whose last base is the one before the edit's letters, one of them, or the one after.
+ * - Joining. The read with all edits made is `mended`, byte for byte, and no letter is left over. Where only this fails, the place is the number of edits.
+ *
+ * A sheet is accepted exactly when it has these properties, whoever made it. Corrections of corrector_read need not have them.
+ */
+uint64_t corrector_check_edits(
+    const uint8_t *set, size_t set_length,
+    const uint8_t *read, size_t read_length,
+    const uint8_t *mended, size_t mended_length,
+    const uint64_t *edits, size_t edits_length,
+    const uint8_t *letters, size_t letters_length,
     uint64_t *answer, size_t answer_length);
 
 #ifdef __cplusplus

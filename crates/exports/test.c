@@ -1,4 +1,4 @@
-/* The library through corrector.h: document 01's samples, yields, lookups for each base, jobs of several confirms, every refusal, answers of every length, indexes, counts, needs, FASTA, threads. */
+/* The library through corrector.h: document 01's samples, yields, lookups for each base, jobs of several confirms, every refusal, answers of every length, indexes, counts, needs, edits, FASTA, threads. */
 #include "corrector.h"
 
 #include <pthread.h>
@@ -889,6 +889,83 @@ static void test_needs_answers(const uint8_t *set)
     check("answers of needs", right);
 }
 
+/* ---- document 02, W12: other programs' edits */
+
+static const struct sheet {
+    const char *read, *mended;
+    uint64_t edits[6];
+    size_t numbers;
+    const char *letters;
+    int place; /* of 19; -1: accepted */
+} sheets[] = {
+    {"AACGCCG", "AACTCCG", {3, 1, 1}, 3, "T", -1},
+    {"AACGCCG", "AACGCCG", {0}, 0, "", -1},
+    {"", "", {0}, 0, "", -1},
+    {"AACGGCG", "AACTCCG", {3, 1, 1, 4, 1, 1}, 6, "TC", -1},
+    {"AACTCCG", "AACTCCG", {4, 0, 0}, 3, "", -1},
+    /* form */
+    {"AACGCCG", "AACTCCG", {3, 1, 1, 5}, 4, "T", 1},
+    {"AACGCCG", "AACTCCG", {3, 1, 1, 5, 0}, 5, "T", 1},
+    {"AACGCCG", "AACTCCG", {2, 2, 2}, 3, "CT", 0},
+    {"AACGCCG", "AACTCC", {3, 1, 1, 6, 1, 0}, 6, "T", 1},
+    {"AACGCCG", "AACTCCG", {3, UINT64_MAX, 1}, 3, "T", 0},
+    {"AACGCCG", "AACTCCG", {3, 1, 2}, 3, "T", 0},
+    {"AACTCCG", "AACTCCG", {4, 0, 0, 4, 0, 0}, 6, "", 1},
+    {"AACGGCG", "AACTCCG", {3, 2, 1, 4, 1, 1}, 6, "TC", 1},
+    /* k-mers */
+    {"AACGCCG", "AACACCG", {3, 1, 1}, 3, "A", 0},
+    {"AACGGCG", "AACTACG", {3, 1, 1, 4, 1, 1}, 6, "TA", 0},
+    {"AACGCGG", "AACTCAG", {3, 1, 1, 5, 1, 1}, 6, "TA", 1},
+    {"AACGCCG", "AACTCCG", {4, 1, 1, 5, 0}, 5, "C", 1},
+    /* joining */
+    {"AACGCCG", "AACTCC", {3, 1, 1}, 3, "T", 1},
+    {"AACGCCG", "AACTCCG", {3, 1, 1}, 3, "t", 1},
+    {"AACGCCG", "AACTCCG", {3, 1, 1}, 3, "TC", 1},
+    {"AACTCCG", "AACGCCG", {0}, 0, "", 0},
+};
+
+static uint64_t check_sheet(const uint8_t *set, size_t set_length, const struct sheet *sheet, uint64_t *answer, size_t answer_length)
+{
+    return corrector_check_edits(
+        set, set_length, (const uint8_t *)sheet->read, strlen(sheet->read), (const uint8_t *)sheet->mended, strlen(sheet->mended), sheet->edits,
+        sheet->numbers, (const uint8_t *)sheet->letters, strlen(sheet->letters), answer, answer_length);
+}
+
+static void test_edits(const uint8_t *set)
+{
+    for (size_t i = 0; i < sizeof sheets / sizeof *sheets; i++) {
+        uint64_t answer[] = {KEPT, KEPT, KEPT};
+        uint64_t number = sheets[i].place < 0 ? CORRECTOR_NOT_REFUSED : CORRECTOR_EDIT, place = sheets[i].place < 0 ? 0 : (uint64_t)sheets[i].place;
+        int told = check_sheet(set, SET, &sheets[i], answer, 3) == number;
+        check(sheets[i].letters, told && answer[CORRECTOR_NUMBER] == number && answer[CORRECTOR_PLACE] == place && answer[CORRECTOR_CHECK_NUMBERS] == KEPT);
+        /* Shorter answers. */
+        answer[0] = answer[1] = KEPT;
+        told = check_sheet(set, SET, &sheets[i], answer, 1) == number && answer[0] == number && answer[1] == KEPT;
+        answer[0] = KEPT;
+        check("a shorter answer", told && check_sheet(set, SET, &sheets[i], answer, 0) == number && answer[0] == KEPT);
+        /* The set comes before the sheet. */
+        check("the set's refusal", check_sheet(set, SET - 1, &sheets[i], answer, 2) == CORRECTOR_SET_LENGTH && answer[CORRECTOR_PLACE] == 0);
+    }
+    /* An array of edits is its numbers. */
+    struct corrector_edit edits[] = {{3, 1, 1}, {4, 1, 1}};
+    uint64_t answer[CORRECTOR_CHECK_NUMBERS];
+    check("an array of edits", corrector_check_edits(
+        set, SET, (const uint8_t *)"AACGGCG", 7, (const uint8_t *)"AACTCCG", 7, &edits[0].position, 3 * 2, (const uint8_t *)"TC", 2,
+        answer, CORRECTOR_CHECK_NUMBERS) == CORRECTOR_NOT_REFUSED);
+    /* 1 for either read, before the set's 7. */
+    uint8_t *reads = malloc(CORRECTOR_MAX_INPUT + 1);
+    if (reads == NULL)
+        abort();
+    memset(reads, 'A', CORRECTOR_MAX_INPUT + 1);
+    for (int mended = 0; mended < 2; mended++) {
+        size_t first = CORRECTOR_MAX_INPUT + !mended, second = CORRECTOR_MAX_INPUT + mended;
+        check("a read that is too long", corrector_check_edits(set, 0, reads, first, reads, second, sheets->edits, 1, reads, 0, answer, 0) == CORRECTOR_INPUT_LENGTH);
+    }
+    check("reads as long as may be", corrector_check_edits(
+        set, SET, reads, CORRECTOR_MAX_INPUT, reads, CORRECTOR_MAX_INPUT, sheets->edits, 0, reads, 0, answer, 0) == CORRECTOR_NOT_REFUSED);
+    free(reads);
+}
+
 /* ---- threads: the set is shared, the buffers are each thread's own, and its stack is what the header asks for */
 
 static struct done alone[SAMPLES];
@@ -959,6 +1036,7 @@ int main(void)
     test_needs_offered(set);
     test_needs_refused(set);
     test_needs_answers(set);
+    test_edits(set);
     test_threads(set);
     printf("%d passed, %d failed\n", passed, failed);
     return failed != 0;

@@ -1,6 +1,7 @@
 //! The corrector, through the wrapper of crates/exports.
 use crate::library::Library;
 use crate::referee::calls::{Answer, Call, Job, Report};
+use crate::referee::edits::Sheet;
 use crate::referee::needs::Needs;
 use crate::referee::set::Refusal;
 
@@ -41,6 +42,10 @@ impl Library for Linked {
 
     fn count_solid(&self, set: &[u8], read: &[u8]) -> Result<(u64, u64), Refusal> {
         corrector::count_solid(set, read).map(|count| (count.kmers, count.solid)).map_err(refusal)
+    }
+
+    fn check_edits(&self, set: &[u8], sheet: &Sheet) -> Result<(), Refusal> {
+        corrector::check_edits(set, &sheet.read, &sheet.mended, corrector::Edits::from_numbers(&sheet.numbers), &sheet.letters).map_err(refusal)
     }
 }
 

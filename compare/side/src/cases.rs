@@ -8,6 +8,7 @@ use crate::set_file;
 pub mod counts;
 pub mod damage;
 pub mod fasta;
+pub mod edits;
 pub mod index;
 pub mod make;
 pub mod needs;

@@ -17,6 +17,7 @@ pub mod bench;
 pub mod boundary;
 pub mod cases;
 pub mod check;
+pub mod edits;
 pub mod library;
 pub mod list;
 pub mod make;

@@ -1,5 +1,6 @@
 //! The corrector as the comparison sees it: the linked library, or the referee in its place.
 use crate::referee::calls::{call, count_solid, Answer, Call, Job};
+use crate::referee::edits::{check_edits, Sheet};
 use crate::referee::index::make_index;
 use crate::referee::make::{make_set, Room};
 use crate::referee::needs::{needs, Needs};
@@ -25,6 +26,9 @@ pub trait Library: Sync {
 
     /// The k-mers of a read and the solid ones among them, or refusal 1 or 7 to 10: the plain loop of the benchmark.
     fn count_solid(&self, set: &[u8], read: &[u8]) -> Result<(u64, u64), Refusal>;
+
+    /// Whether a sheet is accepted, or refusal 1, 7 to 10 or 19.
+    fn check_edits(&self, set: &[u8], sheet: &Sheet) -> Result<(), Refusal>;
 }
 
 /// The referee in the library's place.
@@ -72,6 +76,10 @@ impl Library for StandIn {
 
     fn count_solid(&self, set: &[u8], read: &[u8]) -> Result<(u64, u64), Refusal> {
         count_solid(&open(set), read)
+    }
+
+    fn check_edits(&self, set: &[u8], sheet: &Sheet) -> Result<(), Refusal> {
+        check_edits(&open(set), sheet).map_or(Ok(()), Err)
     }
 }
 

@@ -5,7 +5,7 @@ use mathlib.Core.Bool.{Bool, true, false}
 use mathlib.Core.Option.{Option, none, some}
 use mathlib.Core.List.{List, [], _∷_, _++_}
 use lib.ListN.{length, getD, take, drop}
-use Rattle.rules.specs.Refusal.{Refusal, Outcome, accepted, refused}
+use Rattle.rules.specs.Refusal.{Refusal, Outcome, accepted, refused, Check}
 use Rattle.rules.specs.Report.{Report}
 use Rattle.rules.specs.Set.{KmerSet, opened}
 use Rattle.rules.specs.Solid.{Solids}
@@ -57,6 +57,11 @@ madeNumbers (refused r) = r .number ∷ r .place ∷ 0 ∷ []
 unfoldable pub needsNumbers : Outcome Needs → List ℕ
 needsNumbers (accepted n) = 0 ∷ 0 ∷ n .bytes ∷ n .turns ∷ n .lookups ∷ []
 needsNumbers (refused r) = r .number ∷ r .place ∷ 0 ∷ 0 ∷ 0 ∷ []
+
+-- A call that only checks: the refusal's number (0: none), its place.
+unfoldable pub checkNumbers : Check → List ℕ
+checkNumbers none = 0 ∷ 0 ∷ []
+checkNumbers (some r) = r .number ∷ r .place ∷ []
 
 -- As many of the numbers as there is room for, from the start; the rest stays as it was.
 unfoldable pub laid : List ℕ → List ℕ → List ℕ

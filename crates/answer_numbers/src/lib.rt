@@ -1,4 +1,5 @@
 // A call's answer as numbers, and numbers told in a slice that the host lends.
+use input::Input;
 use lay::Made;
 use opening::Opened;
 use refusal::Refusal;
@@ -12,7 +13,8 @@ ghost use Rattle.report.specs.Answer.{answerOf};
 ghost use Rattle.solid.specs.Solid.{countOf};
 ghost use Rattle.lay.specs.Made.{outcomeOf};
 ghost use Rattle.needs.specs.Needs.{answerOf as needsTold};
-ghost use Rattle.answer_numbers.specs.Numbers.{supportNumber, numbersOf, refusedNumbers, OpenNumbers, solidNumbers, madeNumbers, needsNumbers, Told};
+ghost use Rattle.input.specs.Input.{checkOf};
+ghost use Rattle.answer_numbers.specs.Numbers.{supportNumber, numbersOf, refusedNumbers, OpenNumbers, solidNumbers, madeNumbers, needsNumbers, checkNumbers, Told};
 
 // The number of a support, 0 where there is none.
 fn support_number(supported: bool, support: u32) -> u64
@@ -114,6 +116,16 @@ pub fn needs_numbers(answer: needs::Answer) -> [u64; 5]
             0,
             0,
         ],
+    }
+}
+
+// The numbers of a call that only checks.
+pub fn check_numbers(checked: Input) -> [u64; 2]
+    ensures { λ r. ⌜ r ≡ checkNumbers (checkOf checked) ⌝ }
+{
+    match checked {
+        Input::Fine => [0, 0],
+        Input::Refused(reason) => [refusal::number_of(reason), refusal::place_of(reason)],
     }
 }
 

@@ -11,9 +11,10 @@ ghost use Rattle.rules_fasta.specs.Fasta.{records, readsOf, correctFasta};
 ghost use Rattle.rules.specs.Solid.{countSolid};
 ghost use Rattle.rules_make.specs.MakeSet.{makeSet};
 ghost use Rattle.rules.specs.Index.{makeIndex};
+ghost use Rattle.rules_edits.specs.Edits.{sheet, checkEdits};
 ghost use Rattle.report.specs.Answer.{given, answerOf};
 ghost use Rattle.needs.specs.Needs.{asked};
-ghost use Rattle.answer_numbers.specs.Numbers.{numbersOf, openNumbers, solidNumbers, Told};
+ghost use Rattle.answer_numbers.specs.Numbers.{numbersOf, openNumbers, solidNumbers, checkNumbers, Told};
 ghost use Rattle.exports.specs.Calls.{Exact, NeedsExact, Ceiling, MadeExact, SetMadeExact};
 
 // What a call that corrects tells.
@@ -160,5 +161,29 @@ pub extern "C" fn corrector_make_index(set: &[u8], blocks: &mut [u8], answer: &m
     ensures { λ r. ⌜ MadeExact (makeIndex (now (set .entry)) (now (blocks .entry))) (now (answer .entry)) r (now (blocks .exit)) (now (answer .exit)) ⌝ }
 {
     let numbers = answer_numbers::made_numbers(make_index::make_index(set, blocks));
+    answer_numbers::tell(&numbers, answer)
+}
+
+// Whether another program's edits turn a read into its corrected read, with solid k-mers around them. Refusals 1 for either read, 7 to 10, and 19.
+#[no_mangle]
+pub extern "C" fn corrector_check_edits(
+    set: &[u8],
+    read: &[u8],
+    mended: &[u8],
+    edits: &[u64],
+    letters: &[u8],
+    answer: &mut [u64],
+) -> u64
+    ensures { λ r. ⌜
+        Told (checkNumbers (checkEdits (now (set .entry)) (sheet (now (read .entry)) (now (mended .entry)) (now (edits .entry)) (now (letters .entry)))))
+        (now (answer .entry)) r (now (answer .exit)) ⌝ }
+{
+    let numbers = answer_numbers::check_numbers(edits::check_edits(
+        set,
+        read,
+        mended,
+        edits,
+        letters,
+    ));
     answer_numbers::tell(&numbers, answer)
 }

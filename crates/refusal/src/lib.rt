@@ -22,6 +22,7 @@ pub enum Refusal {
     Counts,
     NotOne,
     Sequence(usize),
+    Edit(usize),
 }
 
 pub fn number_of(refusal: Refusal) -> u64
@@ -46,6 +47,7 @@ pub fn number_of(refusal: Refusal) -> u64
         Refusal::Counts => 16,
         Refusal::NotOne => 17,
         Refusal::Sequence(_) => 18,
+        Refusal::Edit(_) => 19,
     }
 }
 
@@ -61,6 +63,7 @@ pub fn place_of(refusal: Refusal) -> u64
         Refusal::Line(line) => line as u64,
         Refusal::NotRising(line) => line as u64,
         Refusal::Sequence(line) => line as u64,
+        Refusal::Edit(edit) => edit as u64,
         Refusal::Long => 0,
         Refusal::Methods => 0,
         Refusal::Buffers => 0,

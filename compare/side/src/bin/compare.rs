@@ -1,6 +1,7 @@
 //! The differential run: `compare/run` (compare/README.md).
 use side::cases::{run, units, Kind, Unit};
 use side::check::{Buffers, Site, Tally};
+use side::edits::{self, Judged};
 use side::library::{library, Library};
 use side::list;
 use side::make::{self, Made};
@@ -124,8 +125,12 @@ fn compare(options: &Options, library: &dyn Library) -> bool {
     if asked("index") {
         make::run_indexes(library, options.seed, options.rounds, &mut made);
     }
+    let mut judged = Judged::default();
+    if asked("edits") {
+        edits::run(library, options.seed, options.rounds, &mut judged);
+    }
     let _ = std::panic::take_hook();
-    report(options, library, found.into_inner().expect("no thread panics"), made, begun.elapsed())
+    report(options, library, found.into_inner().expect("no thread panics"), made, judged, begun.elapsed())
 }
 
 /// Takes units until none is left.
@@ -159,16 +164,17 @@ fn work(options: &Options, library: &dyn Library, units: &[Unit], next: &AtomicU
 }
 
 /// What was seen, the smallest disagreement, and the last line.
-fn report(options: &Options, library: &dyn Library, found: Found, made: Made, took: Duration) -> bool {
+fn report(options: &Options, library: &dyn Library, found: Found, made: Made, judged: Judged, took: Duration) -> bool {
     let tally = &found.tally;
     println!("{:.0} s on {} threads", took.as_secs_f64(), options.threads);
     tally.print();
     made.print();
+    judged.print();
     if let Some((kind, number, failure)) = found.failure {
         println!("smallest disagreement found (seed {}, {kind:?} {number}):", options.seed);
         failure.shrink(library).print();
     }
-    let failed = found.failed + made.failed;
-    println!("{} passed, {failed} failed", tally.agreed() + made.agreed);
+    let failed = found.failed + made.failed + judged.failed;
+    println!("{} passed, {failed} failed", tally.agreed() + made.agreed + judged.agreed);
     failed == 0
 }

@@ -8,6 +8,7 @@ pub mod ceilings;
 pub mod correctors;
 pub mod driver;
 pub mod fasta;
+pub mod edits;
 pub mod index;
 pub mod letters;
 pub mod make;

@@ -34,10 +34,12 @@
 #![deny(missing_docs)]
 #![deny(unsafe_code)]
 
+mod edits;
 mod job;
 mod raw;
 mod refusal;
 
+pub use edits::{Edit, Edits};
 pub use job::{Entry, Job, Method};
 pub use refusal::Refusal;
 
@@ -314,6 +316,36 @@ pub fn index_length(k: usize) -> usize {
 /// ```
 pub fn make_index(set: &[u8], blocks: &mut [u8]) -> Result<usize, Refusal> {
     made(raw::make_index(set, blocks))
+}
+
+/// Whether another program's edits turn `read` into `mended`, with solid k-mers around them. `letters` are those of all edits, one after the other.
+///
+/// Three judgements are made, each over all edits before the next. *Form*: an edit has three numbers, a position of at least k, and position + taken at
+/// most the read's length less 1; the letters given so far are no more than there are; it begins behind the position of the edit before it, and not
+/// before that one's end. *K-mers*: in the read with all edits made, each k-mer is solid whose last base is the one before the edit's letters, one of
+/// them, or the one after. *Joining*: the read with all edits made is `mended`, byte for byte, and no letter is left over.
+///
+/// A sheet is accepted exactly when it has these properties, whoever made it; else [`Refusal::Edit`] tells the first edit that offends in the first
+/// judgement that fails, or the number of edits where only the joining differs. Before that either read may be [`Refusal::InputLength`], and the set
+/// be refused as by [`open`].
+///
+/// ```
+/// # let mut set = vec![0; corrector::set_length(5)];
+/// # corrector::make_set(b"ACT,9\nCCG,4\nCTC,7\nAAC,5\nTCC,8\n", 3, 1, &mut set, &mut [0; 5])?;
+/// use corrector::{Edit, Edits, Refusal};
+/// let edits = [Edit { position: 3, taken: 1, given: 1 }];
+/// assert_eq!(corrector::check_edits(&set, b"AACGCCG", b"AACTCCG", Edits::new(&edits), b"T"), Ok(()));
+/// // ACA is not solid.
+/// assert_eq!(corrector::check_edits(&set, b"AACGCCG", b"AACACCG", Edits::new(&edits), b"A"), Err(Refusal::Edit { edit: 0 }));
+/// // Only the joining differs.
+/// assert_eq!(corrector::check_edits(&set, b"AACGCCG", b"AACTCC", Edits::new(&edits), b"T"), Err(Refusal::Edit { edit: 1 }));
+/// # Ok::<(), Refusal>(())
+/// ```
+pub fn check_edits(set: &[u8], read: &[u8], mended: &[u8], edits: Edits<'_>, letters: &[u8]) -> Result<(), Refusal> {
+    match raw::check_edits(set, read, mended, edits.as_numbers(), letters) {
+        [0, _] => Ok(()),
+        [number, place] => Err(Refusal::from_numbers(number, place)),
+    }
 }
 
 // The length of the blocks that a maker answers.

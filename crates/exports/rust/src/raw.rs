@@ -1,6 +1,7 @@
 //! The calls of corrector.h, and the only unsafe code: each slice passes as pointer and length, and entries as the bytes that they are.
 #![allow(unsafe_code)]
 
+use crate::edits::Edit;
 use crate::job::Entry;
 
 #[rustfmt::skip]
@@ -36,6 +37,10 @@ extern "C" {
     fn corrector_make_index(
         set: *const u8, set_length: usize, blocks: *mut u8, blocks_length: usize, answer: *mut u64, answer_length: usize,
     ) -> u64;
+    fn corrector_check_edits(
+        set: *const u8, set_length: usize, read: *const u8, read_length: usize, mended: *const u8, mended_length: usize,
+        edits: *const u64, edits_length: usize, letters: *const u8, letters_length: usize, answer: *mut u64, answer_length: usize,
+    ) -> u64;
 }
 
 /// What a read, a batch or a FASTA call is lent, but for its answer. Needs is lent no output.
@@ -59,6 +64,16 @@ pub fn bytes_of(entries: &[Entry]) -> &[u8] {
     // SAFETY: an entry is laid out as in C, as two fields of a byte; so it is two bytes without any between or behind them, each initialised.
     // They live as long as the entries, which nobody can write to meanwhile.
     unsafe { std::slice::from_raw_parts(entries.as_ptr().cast(), std::mem::size_of_val(entries)) }
+}
+
+// Position, taken and given, a number each.
+const _: () = assert!(std::mem::size_of::<Edit>() == 24 && std::mem::align_of::<Edit>() == 8);
+
+/// Edits as numbers, three to each.
+pub fn numbers_of(edits: &[Edit]) -> &[u64] {
+    // SAFETY: an edit is laid out as in C, as three fields of a number each, without anything between or behind them, each initialised. They live
+    // as long as the edits, which nobody can write to meanwhile.
+    unsafe { std::slice::from_raw_parts(edits.as_ptr().cast(), 3 * edits.len()) }
 }
 
 pub enum Call {
@@ -167,5 +182,28 @@ pub fn make_index(set: &[u8], blocks: &mut [u8]) -> [u64; 3] {
     let mut answer = [0; 3];
     // SAFETY: each pointer and length are a live slice's; `blocks` and `answer` are lent to this call alone.
     unsafe { corrector_make_index(set.as_ptr(), set.len(), blocks.as_mut_ptr(), blocks.len(), answer.as_mut_ptr(), answer.len()) };
+    answer
+}
+
+/// Number, place.
+pub fn check_edits(set: &[u8], read: &[u8], mended: &[u8], edits: &[u64], letters: &[u8]) -> [u64; 2] {
+    let mut answer = [0; 2];
+    // SAFETY: each pointer and length are a live slice's, and `answer` is lent to this call alone.
+    unsafe {
+        corrector_check_edits(
+            set.as_ptr(),
+            set.len(),
+            read.as_ptr(),
+            read.len(),
+            mended.as_ptr(),
+            mended.len(),
+            edits.as_ptr(),
+            edits.len(),
+            letters.as_ptr(),
+            letters.len(),
+            answer.as_mut_ptr(),
+            answer.len(),
+        )
+    };
     answer
 }

@@ -68,6 +68,11 @@ pub enum Refusal {
         /// The first such line of the file, lines of no bytes counted.
         line: usize,
     },
+    /// 19: a sheet that [`check_edits`](crate::check_edits) was asked for isn't accepted.
+    Edit {
+        /// The first edit that offends in the first judgement that fails; the number of edits where only the joining differs.
+        edit: usize,
+    },
 }
 
 impl Refusal {
@@ -93,11 +98,12 @@ impl Refusal {
             16 => Self::Counts,
             17 => Self::NotOneEntry,
             18 => Self::Sequence { line: place },
-            _ => unreachable!("the library refuses by 1 to 18"),
+            19 => Self::Edit { edit: place },
+            _ => unreachable!("the library refuses by 1 to 19"),
         }
     }
 
-    /// The number, 1 to 18.
+    /// The number, 1 to 19.
     pub fn number(self) -> u8 {
         match self {
             Self::InputLength => 1,
@@ -118,15 +124,17 @@ impl Refusal {
             Self::Counts => 16,
             Self::NotOneEntry => 17,
             Self::Sequence { .. } => 18,
+            Self::Edit { .. } => 19,
         }
     }
 
-    /// The place: an entry, a block, a word or a line; 0 for a refusal that has none.
+    /// The place: an entry, a block, a word, a line or an edit; 0 for a refusal that has none.
     pub fn place(self) -> usize {
         match self {
             Self::MethodUnknown { index: place } | Self::ConfirmZero { index: place } => place,
             Self::SetCheck { block: place } | Self::SetKey { word: place } => place,
             Self::NoRoom { line: place } | Self::Line { line: place } | Self::NotRising { line: place } | Self::Sequence { line: place } => place,
+            Self::Edit { edit: place } => place,
             _ => 0,
         }
     }
@@ -153,6 +161,7 @@ impl Display for Refusal {
             Self::Counts => write!(to, "the counts are not as many as the set has keys"),
             Self::NotOneEntry => write!(to, "the job has other than one entry"),
             Self::Sequence { line } => write!(to, "line {line} of the file is a sequence line without a name, or holds `>`"),
+            Self::Edit { edit } => write!(to, "the sheet is not accepted: edit {edit} offends, or {edit} edits give another read"),
         }
     }
 }

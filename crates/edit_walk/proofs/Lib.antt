@@ -1,0 +1,4 @@
+pub mod Windows
+pub mod Steps
+pub mod Pieces
+pub mod Whole
