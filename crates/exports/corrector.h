@@ -39,7 +39,8 @@ enum {
     CORRECTOR_MAX_LINES = 1024,     /* lines of a batch */
     CORRECTOR_MAX_RECORDS = 1024,   /* records of a FASTA file */
     CORRECTOR_MAX_K = 31,
-    CORRECTOR_MAX_KEYS = 16777216   /* keys of a set */
+    CORRECTOR_MAX_KEYS = 16777216,  /* keys of a set */
+    CORRECTOR_MAX_MOVES = 16        /* moves of a bridge */
 };
 
 /* Bytes of stack. */
@@ -97,7 +98,8 @@ enum corrector_refusal {
     CORRECTOR_COUNTS = 16,        /* an offered list of counts has not one for each key; checked behind 15 and before 11 */
     CORRECTOR_NOT_ONE_ENTRY = 17, /* of corrector_needs: the job has other than one entry; checked behind 4 and before 5 */
     CORRECTOR_SEQUENCE = 18,      /* of corrector_fasta: a sequence line before the first name line, or with `>` in it; place: the first such line */
-    CORRECTOR_EDIT = 19           /* of corrector_check_edits: the sheet isn't accepted; place: the edit, or the number of edits */
+    CORRECTOR_EDIT = 19,          /* of corrector_check_edits: the sheet isn't accepted; place: the edit, or the number of edits */
+    CORRECTOR_NOT_SOLID = 20      /* of corrector_bridge: an end is not solid; place: 0 for the first, else 1; checked behind 10 */
 };
 
 /*
@@ -135,7 +137,13 @@ enum {
     CORRECTOR_BYTES = 2, /* that the output will be */
     CORRECTOR_NEEDS_NUMBERS = 5, /* how many there are */
     /* corrector_check_edits: number and place alone */
-    CORRECTOR_CHECK_NUMBERS = 2 /* how many there are */
+    CORRECTOR_CHECK_NUMBERS = 2, /* how many there are */
+    /* corrector_bridge */
+    CORRECTOR_MOVES = 2, /* of the chain, 0 if none was found */
+    CORRECTOR_BRIDGE_LOOKUPS = 3,
+    CORRECTOR_FLOOR = 4, /* no chain has fewer moves; 17: none of up to 16 moves exists */
+    CORRECTOR_LETTERS = 5, /* the first of 16: the byte of each move's letter, 0 behind the last */
+    CORRECTOR_BRIDGE_NUMBERS = 21 /* how many there are */
 };
 
 /* The least work buffer for an output and an input of these lengths, if both are within the limits. */
@@ -154,6 +162,24 @@ static inline size_t corrector_set_length(size_t n)
 static inline size_t corrector_index_length(size_t k)
 {
     return 512 * ((((size_t)1 << (k < 6 ? 2 * k : 12)) + 63) / 63);
+}
+
+/*
+ * The code of a k-mer by its letters, for corrector_bridge: A, C, T, G are 0, 1, 2, 3, the first letter counts most. UINT64_MAX, which is the code of
+ * none, where k is over CORRECTOR_MAX_K or a byte is not A, C, G, T, U or their lower case.
+ */
+static inline uint64_t corrector_code(const uint8_t *letters, size_t k)
+{
+    uint64_t code = 0;
+    for (size_t i = 0; i < k; i++)
+        switch (letters[i]) {
+        case 'A': case 'C': case 'G': case 'T': case 'U': case 'a': case 'c': case 'g': case 't': case 'u':
+            code = 4 * code + letters[i] / 2 % 4;
+            break;
+        default:
+            return UINT64_MAX;
+        }
+    return k <= CORRECTOR_MAX_K ? code : UINT64_MAX;
 }
 
 /* Whether a set is right, with its k and its number of keys n. Returns 0, or refusal 7 to 10. */
@@ -301,6 +327,22 @@ uint64_t corrector_check_edits(
     const uint8_t *mended, size_t mended_length,
     const uint64_t *edits, size_t edits_length,
     const uint8_t *letters, size_t letters_length,
+    uint64_t *answer, size_t answer_length);
+
+/*
+ * The shortest bridge from one solid k-mer to another, as far as a budget of lookups lasts: a chain of 1 to CORRECTOR_MAX_MOVES moves, each of which
+ * drops the k-mer's first letter and adds one at its end, to any solid k-mer; k-mers may repeat. Both ends are codes (corrector_code). Returns 0, or
+ * refusal 7 to 10, then 20: an end is not solid, place 0 or 1, the first if both; a code of 4^k or more never is.
+ *
+ * Accepted, CORRECTOR_MOVES and CORRECTOR_LETTERS tell the shortest chain that was found, or none; CORRECTOR_BRIDGE_LOOKUPS, never more than the
+ * budget, the lookups made, those of the two ends not counted; and CORRECTOR_FLOOR f that no chain of fewer than f moves exists. So a found chain is at
+ * most its moves less f from the shortest there is, and where both are equal it is the shortest. f = 17: there is no chain of up to 16 moves. Otherwise
+ * the budget ran out, and a larger one may tell more: no chain and f = 1, or a chain and a smaller f. Each k-mer from which the search goes on takes 4
+ * lookups; the time is that of the lookups, and of opening the set.
+ */
+uint64_t corrector_bridge(
+    const uint8_t *set, size_t set_length,
+    uint64_t from, uint64_t to, uint64_t budget,
     uint64_t *answer, size_t answer_length);
 
 #ifdef __cplusplus

@@ -966,6 +966,68 @@ static void test_edits(const uint8_t *set)
     free(reads);
 }
 
+/* ---- bridges */
+
+static uint64_t code_of(const char *letters)
+{
+    return corrector_code((const uint8_t *)letters, strlen(letters));
+}
+
+/* The chain's letters, "" for none, with the lookups and the floor; behind the letters are zeros. */
+static int bridges(const uint8_t *set, size_t length, const char *from, const char *to, uint64_t budget, const char *letters, uint64_t lookups, uint64_t floor)
+{
+    uint64_t answer[CORRECTOR_BRIDGE_NUMBERS];
+    uint64_t number = corrector_bridge(set, length, code_of(from), code_of(to), budget, answer, CORRECTOR_BRIDGE_NUMBERS);
+    size_t moves = strlen(letters);
+    int right = number == 0 && answer[CORRECTOR_NUMBER] == 0 && answer[CORRECTOR_PLACE] == 0 && answer[CORRECTOR_MOVES] == moves
+        && answer[CORRECTOR_BRIDGE_LOOKUPS] == lookups && answer[CORRECTOR_FLOOR] == floor;
+    for (size_t i = 0; i < CORRECTOR_MAX_MOVES; i++)
+        right = right && answer[CORRECTOR_LETTERS + i] == (i < moves ? (uint64_t)letters[i] : 0);
+    return right;
+}
+
+static int no_bridge(const uint8_t *set, size_t length, uint64_t from, uint64_t to, uint64_t refusal, uint64_t place)
+{
+    uint64_t answer[CORRECTOR_BRIDGE_NUMBERS];
+    uint64_t number = corrector_bridge(set, length, from, to, 1000, answer, CORRECTOR_BRIDGE_NUMBERS);
+    int right = number == refusal && answer[CORRECTOR_NUMBER] == refusal && answer[CORRECTOR_PLACE] == place;
+    for (size_t i = CORRECTOR_MOVES; i < CORRECTOR_BRIDGE_NUMBERS; i++)
+        right = right && answer[i] == 0;
+    return right;
+}
+
+static void test_bridge(const uint8_t *set)
+{
+    uint8_t wrong[SET];
+    memcpy(wrong, set, SET);
+    wrong[SET - 1]++;
+    check("codes", code_of("AAC") == 1 && code_of("aac") == 1 && code_of("CUG") == 27 && code_of("AAN") == UINT64_MAX && code_of("") == 0
+        && code_of("AAAAAAAAAAAAAAAAAAAAAAAAAAAAAAAA") == UINT64_MAX);
+    check("a bridge", bridges(set, SET, "AAC", "CCG", UINT64_MAX, "TCCG", 40, 4) && bridges(set, SET, "AAC", "CCG", 40, "TCCG", 40, 4)
+        && bridges(set, SET, "AAC", "ACT", 4, "T", 4, 1));
+    check("a bridge, stopped", bridges(set, SET, "AAC", "CCG", 39, "TCCG", 36, 3) && bridges(set, SET, "AAC", "CCG", 16, "TCCG", 16, 1)
+        && bridges(set, SET, "AAC", "CCG", 15, "", 12, 1) && bridges(set, SET, "AAC", "CCG", 3, "", 0, 1) && bridges(set, SET, "AAC", "CCG", 0, "", 0, 1));
+    check("no bridge", bridges(set, SET, "CCG", "AAC", 24, "", 24, 17) && bridges(set, SET, "CCG", "AAC", 23, "", 20, 1)
+        && bridges(set, SET, "AAC", "AAC", 1000, "", 40, 17));
+    check("20", no_bridge(set, SET, 0, 23, CORRECTOR_NOT_SOLID, 0) && no_bridge(set, SET, 1, 0, CORRECTOR_NOT_SOLID, 1)
+        && no_bridge(set, SET, 65, 0, CORRECTOR_NOT_SOLID, 0) && no_bridge(set, SET, 1, UINT64_MAX, CORRECTOR_NOT_SOLID, 1));
+    check("7 and 8 before 20", no_bridge(set, 0, 0, 0, CORRECTOR_SET_LENGTH, 0) && no_bridge(wrong, SET, 0, 0, CORRECTOR_SET_CHECK, 1));
+}
+
+static void test_bridge_answers(const uint8_t *set)
+{
+    uint64_t whole[CORRECTOR_BRIDGE_NUMBERS];
+    int right = corrector_bridge(set, SET, code_of("AAC"), code_of("CCG"), 40, whole, CORRECTOR_BRIDGE_NUMBERS) == 0;
+    for (size_t length = 0; length <= CORRECTOR_BRIDGE_NUMBERS + 1; length++) {
+        uint64_t answer[CORRECTOR_BRIDGE_NUMBERS + 2];
+        for (size_t i = 0; i < CORRECTOR_BRIDGE_NUMBERS + 2; i++)
+            answer[i] = KEPT;
+        right = right && corrector_bridge(set, SET, code_of("AAC"), code_of("CCG"), 40, answer, length) == 0
+            && starts_alike(answer, length, whole, CORRECTOR_BRIDGE_NUMBERS, CORRECTOR_BRIDGE_NUMBERS + 2);
+    }
+    check("answers of bridge", right);
+}
+
 /* ---- threads: the set is shared, the buffers are each thread's own, and its stack is what the header asks for */
 
 static struct done alone[SAMPLES];
@@ -1037,6 +1099,8 @@ int main(void)
     test_needs_refused(set);
     test_needs_answers(set);
     test_edits(set);
+    test_bridge(set);
+    test_bridge_answers(set);
     test_threads(set);
     printf("%d passed, %d failed\n", passed, failed);
     return failed != 0;

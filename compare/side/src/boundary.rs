@@ -1,5 +1,6 @@
 //! The corrector, through the wrapper of crates/exports.
 use crate::library::Library;
+use crate::referee::bridge::Bridge;
 use crate::referee::calls::{Answer, Call, Job, Report};
 use crate::referee::edits::Sheet;
 use crate::referee::needs::Needs;
@@ -46,6 +47,11 @@ impl Library for Linked {
 
     fn check_edits(&self, set: &[u8], sheet: &Sheet) -> Result<(), Refusal> {
         corrector::check_edits(set, &sheet.read, &sheet.mended, corrector::Edits::from_numbers(&sheet.numbers), &sheet.letters).map_err(refusal)
+    }
+
+    fn bridge(&self, set: &[u8], from: u64, to: u64, budget: u64) -> Result<Bridge, Refusal> {
+        let bridge = corrector::bridge(set, from, to, budget).map_err(refusal)?;
+        Ok(Bridge { chain: bridge.chain().map(<[u8]>::to_vec), lookups: bridge.lookups, floor: bridge.floor })
     }
 }
 

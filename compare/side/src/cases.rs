@@ -5,6 +5,7 @@ use crate::referee::correctors::METHODS;
 use crate::rng::Rng;
 use crate::set_file;
 
+pub mod bridge;
 pub mod counts;
 pub mod damage;
 pub mod fasta;

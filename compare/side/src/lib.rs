@@ -15,6 +15,7 @@
 pub mod bench;
 #[cfg(feature = "linked")]
 pub mod boundary;
+pub mod bridge;
 pub mod cases;
 pub mod check;
 pub mod edits;

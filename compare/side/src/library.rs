@@ -1,4 +1,5 @@
 //! The corrector as the comparison sees it: the linked library, or the referee in its place.
+use crate::referee::bridge::{bridge, Bridge};
 use crate::referee::calls::{call, count_solid, Answer, Call, Job};
 use crate::referee::edits::{check_edits, Sheet};
 use crate::referee::index::make_index;
@@ -29,6 +30,8 @@ pub trait Library: Sync {
 
     /// Whether a sheet is accepted, or refusal 1, 7 to 10 or 19.
     fn check_edits(&self, set: &[u8], sheet: &Sheet) -> Result<(), Refusal>;
+    /// The shortest bridge between two k-mers that a budget of lookups lets find, or refusal 7 to 10 or 20.
+    fn bridge(&self, set: &[u8], from: u64, to: u64, budget: u64) -> Result<Bridge, Refusal>;
 }
 
 /// The referee in the library's place.
@@ -80,6 +83,10 @@ impl Library for StandIn {
 
     fn check_edits(&self, set: &[u8], sheet: &Sheet) -> Result<(), Refusal> {
         check_edits(&open(set), sheet).map_or(Ok(()), Err)
+    }
+
+    fn bridge(&self, set: &[u8], from: u64, to: u64, budget: u64) -> Result<Bridge, Refusal> {
+        bridge(&open(set), from, to, budget)
     }
 }
 

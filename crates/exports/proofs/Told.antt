@@ -72,6 +72,7 @@ number-pos Refusals.Counts = omega arith
 number-pos Refusals.NotOne = omega arith
 number-pos (Refusals.Sequence line) = omega arith
 number-pos (Refusals.Edit edit) = omega arith
+number-pos (Refusals.NotSolid i) = omega arith
 
 module _ (set : KmerSet) (es : List Entry) (reads : List (List ℕ)) {old new : List ℕ} {r : ℕ} where
   pub told-ceiling : (a : Answer) → Told (numbersOf (answerOf a)) old r new → Report.Ceiling set es reads a → Ceiling set es reads r new

@@ -15,6 +15,8 @@ ghost use Rattle.rules_edits.specs.Edits.{sheet, checkEdits};
 ghost use Rattle.report.specs.Answer.{given, answerOf};
 ghost use Rattle.needs.specs.Needs.{asked};
 ghost use Rattle.answer_numbers.specs.Numbers.{numbersOf, openNumbers, solidNumbers, checkNumbers, Told};
+ghost use Rattle.rules_bridge.specs.Bridge.{findBridge, toldOf};
+ghost use Rattle.bridge_numbers.specs.Numbers.{bridgeNumbers};
 ghost use Rattle.exports.specs.Calls.{Exact, NeedsExact, Ceiling, MadeExact, SetMadeExact};
 
 // What a call that corrects tells.
@@ -185,5 +187,20 @@ pub extern "C" fn corrector_check_edits(
         edits,
         letters,
     ));
+    answer_numbers::tell(&numbers, answer)
+}
+
+// The shortest bridge between two solid k-mers, as far as lookups last. Refusals 7 to 10 and 20.
+#[no_mangle]
+pub extern "C" fn corrector_bridge(
+    set: &[u8],
+    from: u64,
+    to: u64,
+    budget: u64,
+    answer: &mut [u64],
+) -> u64
+    ensures { λ r. ⌜ Told (bridgeNumbers (toldOf (findBridge (now (set .entry)) from to budget))) (now (answer .entry)) r (now (answer .exit)) ⌝ }
+{
+    let numbers = bridge_numbers::numbers_of(bridge::find_bridge(set, from, to, budget));
     answer_numbers::tell(&numbers, answer)
 }

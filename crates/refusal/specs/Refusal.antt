@@ -2,7 +2,7 @@
 use Prim.Native.Nat.{ℕ}
 use Rattle.rules.specs.Refusal as Rules
 use Rattle.refusal.specs.declared.Refusal.{Refusal}
-use Rattle.refusal.specs.declared.Refusal.the-variants.{Long, Methods, Method, Confirm, Buffers, Batch, Length, Check, Header, Key, NoRoom, Line, NotRising, TooShort, Index, Counts, NotOne, Sequence, Edit}
+use Rattle.refusal.specs.declared.Refusal.the-variants.{Long, Methods, Method, Confirm, Buffers, Batch, Length, Check, Header, Key, NoRoom, Line, NotRising, TooShort, Index, Counts, NotOne, Sequence, Edit, NotSolid}
 
 abbrev numbered : ℕ → ℕ → Rules.Refusal
 numbered number place = record { number = number; place = place }
@@ -27,3 +27,4 @@ refusalOf Counts = numbered 16 0
 refusalOf NotOne = numbered 17 0
 refusalOf (Sequence line) = numbered 18 line
 refusalOf (Edit edit) = numbered 19 edit
+refusalOf (NotSolid end) = numbered 20 end

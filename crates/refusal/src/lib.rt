@@ -23,6 +23,7 @@ pub enum Refusal {
     NotOne,
     Sequence(usize),
     Edit(usize),
+    NotSolid(usize),
 }
 
 pub fn number_of(refusal: Refusal) -> u64
@@ -48,6 +49,7 @@ pub fn number_of(refusal: Refusal) -> u64
         Refusal::NotOne => 17,
         Refusal::Sequence(_) => 18,
         Refusal::Edit(_) => 19,
+        Refusal::NotSolid(_) => 20,
     }
 }
 
@@ -64,6 +66,7 @@ pub fn place_of(refusal: Refusal) -> u64
         Refusal::NotRising(line) => line as u64,
         Refusal::Sequence(line) => line as u64,
         Refusal::Edit(edit) => edit as u64,
+        Refusal::NotSolid(end) => end as u64,
         Refusal::Long => 0,
         Refusal::Methods => 0,
         Refusal::Buffers => 0,

@@ -1,4 +1,5 @@
 //! The differential run: `compare/run` (compare/README.md).
+use side::bridge::{self, Bridges};
 use side::cases::{run, units, Kind, Unit};
 use side::check::{Buffers, Site, Tally};
 use side::edits::{self, Judged};
@@ -129,8 +130,12 @@ fn compare(options: &Options, library: &dyn Library) -> bool {
     if asked("edits") {
         edits::run(library, options.seed, options.rounds, &mut judged);
     }
+    let mut bridges = Bridges::default();
+    if asked("bridge") {
+        bridge::run(library, options.seed, options.rounds, &mut bridges);
+    }
     let _ = std::panic::take_hook();
-    report(options, library, found.into_inner().expect("no thread panics"), made, judged, begun.elapsed())
+    report(options, library, found.into_inner().expect("no thread panics"), made, judged, bridges, begun.elapsed())
 }
 
 /// Takes units until none is left.
@@ -164,17 +169,26 @@ fn work(options: &Options, library: &dyn Library, units: &[Unit], next: &AtomicU
 }
 
 /// What was seen, the smallest disagreement, and the last line.
-fn report(options: &Options, library: &dyn Library, found: Found, made: Made, judged: Judged, took: Duration) -> bool {
+fn report(
+    options: &Options,
+    library: &dyn Library,
+    found: Found,
+    made: Made,
+    judged: Judged,
+    bridges: Bridges,
+    took: Duration,
+) -> bool {
     let tally = &found.tally;
     println!("{:.0} s on {} threads", took.as_secs_f64(), options.threads);
     tally.print();
     made.print();
     judged.print();
+    bridges.print();
     if let Some((kind, number, failure)) = found.failure {
         println!("smallest disagreement found (seed {}, {kind:?} {number}):", options.seed);
         failure.shrink(library).print();
     }
-    let failed = found.failed + made.failed + judged.failed;
-    println!("{} passed, {failed} failed", tally.agreed() + made.agreed + judged.agreed);
+    let failed = found.failed + made.failed + judged.failed + bridges.failed;
+    println!("{} passed, {failed} failed", tally.agreed() + made.agreed + judged.agreed + bridges.agreed);
     failed == 0
 }

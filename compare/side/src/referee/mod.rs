@@ -3,6 +3,7 @@
 //! One thing stands here that is in neither: `Pass::again`, the lookups that natir/br makes beyond the documents', so that its own count
 //! can be held against this one. The places where it asks again carry a comment that begins "The Rust".
 
+pub mod bridge;
 pub mod calls;
 pub mod ceilings;
 pub mod correctors;

@@ -34,12 +34,14 @@
 #![deny(missing_docs)]
 #![deny(unsafe_code)]
 
+mod bridge;
 mod edits;
 mod job;
 mod raw;
 mod refusal;
 
 pub use edits::{Edit, Edits};
+pub use bridge::{bridge, code, Bridge, MAX_MOVES};
 pub use job::{Entry, Job, Method};
 pub use refusal::Refusal;
 

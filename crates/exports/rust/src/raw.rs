@@ -41,6 +41,9 @@ extern "C" {
         set: *const u8, set_length: usize, read: *const u8, read_length: usize, mended: *const u8, mended_length: usize,
         edits: *const u64, edits_length: usize, letters: *const u8, letters_length: usize, answer: *mut u64, answer_length: usize,
     ) -> u64;
+    fn corrector_bridge(
+        set: *const u8, set_length: usize, from: u64, to: u64, budget: u64, answer: *mut u64, answer_length: usize,
+    ) -> u64;
 }
 
 /// What a read, a batch or a FASTA call is lent, but for its answer. Needs is lent no output.
@@ -205,5 +208,13 @@ pub fn check_edits(set: &[u8], read: &[u8], mended: &[u8], edits: &[u64], letter
             answer.len(),
         )
     };
+    answer
+}
+
+/// Number, place, moves, lookups, floor, and 16 letters.
+pub fn bridge(set: &[u8], from: u64, to: u64, budget: u64) -> [u64; 21] {
+    let mut answer = [0; 21];
+    // SAFETY: each pointer and length are a live slice's, and `answer` is lent to this call alone.
+    unsafe { corrector_bridge(set.as_ptr(), set.len(), from, to, budget, answer.as_mut_ptr(), answer.len()) };
     answer
 }

@@ -73,6 +73,11 @@ pub enum Refusal {
         /// The first edit that offends in the first judgement that fails; the number of edits where only the joining differs.
         edit: usize,
     },
+    /// 20: an end of a [`bridge`](crate::bridge) is not solid. Checked behind 10.
+    NotSolid {
+        /// 0 for the first end, else 1.
+        end: usize,
+    },
 }
 
 impl Refusal {
@@ -99,11 +104,12 @@ impl Refusal {
             17 => Self::NotOneEntry,
             18 => Self::Sequence { line: place },
             19 => Self::Edit { edit: place },
-            _ => unreachable!("the library refuses by 1 to 19"),
+            20 => Self::NotSolid { end: place },
+            _ => unreachable!("the library refuses by 1 to 20"),
         }
     }
 
-    /// The number, 1 to 19.
+    /// The number, 1 to 20.
     pub fn number(self) -> u8 {
         match self {
             Self::InputLength => 1,
@@ -125,16 +131,18 @@ impl Refusal {
             Self::NotOneEntry => 17,
             Self::Sequence { .. } => 18,
             Self::Edit { .. } => 19,
+            Self::NotSolid { .. } => 20,
         }
     }
 
-    /// The place: an entry, a block, a word, a line or an edit; 0 for a refusal that has none.
+    /// The place: an entry, a block, a word, a line, an edit or an end; 0 for a refusal that has none.
     pub fn place(self) -> usize {
         match self {
             Self::MethodUnknown { index: place } | Self::ConfirmZero { index: place } => place,
             Self::SetCheck { block: place } | Self::SetKey { word: place } => place,
             Self::NoRoom { line: place } | Self::Line { line: place } | Self::NotRising { line: place } | Self::Sequence { line: place } => place,
             Self::Edit { edit: place } => place,
+            Self::NotSolid { end: place } => place,
             _ => 0,
         }
     }
@@ -162,6 +170,7 @@ impl Display for Refusal {
             Self::NotOneEntry => write!(to, "the job has other than one entry"),
             Self::Sequence { line } => write!(to, "line {line} of the file is a sequence line without a name, or holds `>`"),
             Self::Edit { edit } => write!(to, "the sheet is not accepted: edit {edit} offends, or {edit} edits give another read"),
+            Self::NotSolid { end } => write!(to, "the {} k-mer of the bridge is not solid", if *end == 0 { "first" } else { "second" }),
         }
     }
 }

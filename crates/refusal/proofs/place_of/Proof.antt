@@ -29,6 +29,9 @@ enum-known-refusal-8 c = search needs
 enum-known-refusal-9 : tie.Need-enum-known-refusal-9
 enum-known-refusal-9 c = search needs
 
+enum-known-refusal-10 : tie.Need-enum-known-refusal-10
+enum-known-refusal-10 c = search needs
+
 enum-told : tie.Need-enum-told
 enum-told c = search needs
 
@@ -87,34 +90,37 @@ returns-9 : tie.Need-returns-9
 returns-9 c = rw (c .before .refusal9 .given .1)
 
 returns-10 : tie.Need-returns-10
-returns-10 c = rw (c .enum-told .given .1)
+returns-10 c = rw (c .before .refusal10 .given .1)
 
 returns-11 : tie.Need-returns-11
-returns-11 c = rw (c .enum-told2 .given .1)
+returns-11 c = rw (c .enum-told .given .1)
 
 returns-12 : tie.Need-returns-12
-returns-12 c = rw (c .enum-told3 .given .1)
+returns-12 c = rw (c .enum-told2 .given .1)
 
 returns-13 : tie.Need-returns-13
-returns-13 c = rw (c .enum-told4 .given .1)
+returns-13 c = rw (c .enum-told3 .given .1)
 
 returns-14 : tie.Need-returns-14
-returns-14 c = rw (c .enum-told5 .given .1)
+returns-14 c = rw (c .enum-told4 .given .1)
 
 returns-15 : tie.Need-returns-15
-returns-15 c = rw (c .enum-told6 .given .1)
+returns-15 c = rw (c .enum-told5 .given .1)
 
 returns-16 : tie.Need-returns-16
-returns-16 c = rw (c .enum-told7 .given .1)
+returns-16 c = rw (c .enum-told6 .given .1)
 
 returns-17 : tie.Need-returns-17
-returns-17 c = rw (c .enum-told8 .given .1)
+returns-17 c = rw (c .enum-told7 .given .1)
 
 returns-18 : tie.Need-returns-18
-returns-18 c = rw (c .enum-told9 .given .1)
+returns-18 c = rw (c .enum-told8 .given .1)
 
 returns-19 : tie.Need-returns-19
-returns-19 c = rw (c .enum-told10 .given .1)
+returns-19 c = rw (c .enum-told9 .given .1)
+
+returns-20 : tie.Need-returns-20
+returns-20 c = rw (c .enum-told10 .given .1)
 
 pub place-of-spec : {M : Type 1} → statement M
 place-of-spec =
@@ -129,6 +135,7 @@ place-of-spec =
     enum-known-refusal-7
     enum-known-refusal-8
     enum-known-refusal-9
+    enum-known-refusal-10
     enum-told
     enum-told-2
     enum-told-3
@@ -157,4 +164,5 @@ place-of-spec =
     returns-16
     returns-17
     returns-18
-    returns-19)
+    returns-19
+    returns-20)

@@ -1,0 +1,5 @@
+pub mod BridgeSamples
+pub mod Codes
+pub mod Search
+pub mod Promised
+pub mod Suffice
