@@ -28,4 +28,5 @@ pub mod rng;
 pub mod samples;
 pub mod set_file;
 pub mod shrink;
+pub mod split;
 pub mod support;

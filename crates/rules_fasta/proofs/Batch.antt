@@ -20,7 +20,7 @@ use Rattle.rules_fasta.specs.Shares.{givenSet}
 use Rattle.rules_fasta.proofs.Shares.{Opens}
 
 -- 5 passed: the input is not too long for 1.
-input-short : (i o w : ℕ) → buffersRight i o w ≡ true → i ≤ maxRead
+pub input-short : (i o w : ℕ) → buffersRight i o w ≡ true → i ≤ maxRead
 unfolding buffersRight
 input-short i o w h =
     let a = both (leb o maxOutput && leb w maxWork) (leb (2 * max o i) w) h in

@@ -1,4 +1,4 @@
--- Document 02, W11: a report is put together from the shares of its reads, and what is offered changes no share but for its support.
+-- Document 02, W11 and W14: a report is put together from the shares of its reads, and what is offered changes no share but for its support.
 use Prim.Native.Nat.{ℕ, _+_}
 use mathlib.Core.Path.{_≡_, refl, sym, ap, ap₂, _∙_, subst}
 use mathlib.Core.Option.{Option, none}

@@ -1,4 +1,4 @@
--- Document 02, W11: what a read gives by itself, and a report's numbers as sums.
+-- Document 02, W11 and W14: what a read gives by itself, and a report's numbers as sums.
 use Prim.Native.Nat.{ℕ, _+_}
 use mathlib.Core.Path.{_≡_}
 use mathlib.Core.Option.{Option, none}

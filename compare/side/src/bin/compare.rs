@@ -9,6 +9,7 @@ use side::make::{self, Made};
 use side::referee::calls::Job;
 use side::samples;
 use side::shrink::{check, Failure};
+use side::split::{self, Splits};
 use std::process::ExitCode;
 use std::sync::atomic::{AtomicUsize, Ordering::Relaxed};
 use std::sync::Mutex;
@@ -134,8 +135,12 @@ fn compare(options: &Options, library: &dyn Library) -> bool {
     if asked("bridge") {
         bridge::run(library, options.seed, options.rounds, &mut bridges);
     }
+    let mut splits = Splits::default();
+    if asked("split") {
+        split::run(library, options.seed, options.rounds, &mut splits);
+    }
     let _ = std::panic::take_hook();
-    report(options, library, found.into_inner().expect("no thread panics"), made, judged, bridges, begun.elapsed())
+    report(options, library, found.into_inner().expect("no thread panics"), made, judged, bridges, splits, begun.elapsed())
 }
 
 /// Takes units until none is left.
@@ -176,6 +181,7 @@ fn report(
     made: Made,
     judged: Judged,
     bridges: Bridges,
+    splits: Splits,
     took: Duration,
 ) -> bool {
     let tally = &found.tally;
@@ -184,11 +190,12 @@ fn report(
     made.print();
     judged.print();
     bridges.print();
+    splits.print();
     if let Some((kind, number, failure)) = found.failure {
         println!("smallest disagreement found (seed {}, {kind:?} {number}):", options.seed);
         failure.shrink(library).print();
     }
-    let failed = found.failed + made.failed + judged.failed + bridges.failed;
-    println!("{} passed, {failed} failed", tally.agreed() + made.agreed + judged.agreed + bridges.agreed);
+    let failed = found.failed + made.failed + judged.failed + bridges.failed + splits.failed;
+    println!("{} passed, {failed} failed", tally.agreed() + made.agreed + judged.agreed + bridges.agreed + splits.agreed);
     failed == 0
 }

@@ -190,7 +190,7 @@ pub fn passes_of(set: &Set, entries: &[Entry], read: &[u8]) -> Vec<Pass> {
 }
 
 /// Rounded to the nearest whole, an exact half to the even neighbour; 0 without attempts (document 02, W4).
-fn nearest(parts: u64, whole: u64) -> u64 {
+pub fn nearest(parts: u64, whole: u64) -> u64 {
     if whole == 0 {
         return 0;
     }
