@@ -84,11 +84,19 @@ fn by_digits(value: u128, most: u128) -> f64 {
     ratio((value as f64 + 1.0).log10(), (most as f64 + 1.0).log10())
 }
 
+/// A report's name in a chart: its input, and its job where there are several.
+fn name(report: &Report, reports: &[Report]) -> String {
+    match reports.iter().all(|other| other.job == report.job) {
+        true => report.title(),
+        false => format!("{}, {}", report.title(), report.job),
+    }
+}
+
 fn yields(reports: &[Report]) -> String {
     let bar = |report: &Report| {
         let t = &report.totals;
         let label = format!("{} of 1000: {} of {} attempts", t.yield_(), number(t.accepted), number(t.attempts));
-        (report.title(), vec![Bar { class: "a", length: t.yield_() as f64 / 1000.0, label }])
+        (name(report, reports), vec![Bar { class: "a", length: t.yield_() as f64 / 1000.0, label }])
     };
     chart(&reports.iter().map(bar).collect::<Vec<_>>())
 }
@@ -99,7 +107,7 @@ fn lookups_a_base(reports: &[Report]) -> String {
     let bar = |report: &Report| {
         let (each, left) = report.totals.lookups_a_base();
         let label = format!("{:.3} ({each}, and {} left of {})", exact(report), number(left), number(report.totals.sum_of_w));
-        (report.title(), vec![Bar { class: "a", length: ratio(exact(report), most), label }])
+        (name(report, reports), vec![Bar { class: "a", length: ratio(exact(report), most), label }])
     };
     chart(&reports.iter().map(bar).collect::<Vec<_>>())
 }
@@ -114,7 +122,7 @@ fn beside_ceilings(reports: &[Report], of: impl Fn(&Report) -> Three) -> String 
         let bar = |class, value: u128, what: &str| Bar { class, length: by_digits(value, most), label: format!("{what} {}", number(value)) };
         let mut bars = vec![bar("b", ceiling, "ceiling"), bar("a", value.into(), "report")];
         bars.extend(need.map(|need| bar("c", need.into(), "need")));
-        (report.title(), bars)
+        (name(report, reports), bars)
     };
     chart(&reports.iter().map(bars).collect::<Vec<_>>())
 }
@@ -124,7 +132,7 @@ fn table(reports: &[Report]) -> String {
     for report in reports {
         let t = &report.totals;
         let (each, left) = t.lookups_a_base();
-        let _ = write!(page, "<tr><td>{}</td>", escaped(&report.title()));
+        let _ = write!(page, "<tr><td>{}</td>", escaped(&name(report, reports)));
         for value in [t.reads, t.kept, t.bases, t.turns, t.lookups, t.attempts, t.accepted, t.yield_()] {
             let _ = write!(page, "<td>{}</td>", number(value));
         }

@@ -51,7 +51,11 @@ impl Display for Entries {
     fn fmt(&self, to: &mut fmt::Formatter<'_>) -> fmt::Result {
         for (i, entry) in self.0.iter().enumerate() {
             let comma = if i == 0 { "" } else { "," };
-            write!(to, "{comma}{}:{}", name(entry.method), entry.confirm)?;
+            write!(to, "{comma}{}", name(entry.method))?;
+            // Graph confirms nothing.
+            if entry.method != Method::Graph || entry.confirm.get() != 1 {
+                write!(to, ":{}", entry.confirm)?;
+            }
         }
         Ok(())
     }
@@ -81,7 +85,7 @@ mod tests {
     #[test]
     fn jobs() {
         assert_eq!("two:7,one:3".parse::<Entries>().unwrap().to_string(), "two:7,one:3");
-        assert_eq!("Graph,GAP_SIZE:255".parse::<Entries>().unwrap().to_string(), "graph:1,gapsize:255");
+        assert_eq!("Graph,GAP_SIZE:255".parse::<Entries>().unwrap().to_string(), "graph,gapsize:255");
         for wrong in [
             "",
             "one",
