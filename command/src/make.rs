@@ -25,7 +25,7 @@ pub fn run(args: &MakeSet) -> Result<()> {
     let distinct = all.len() as u64;
     let fits = all.iter().filter(|(_, count)| *count >= args.least).count() <= MAX_KEYS;
     if !fits {
-        return too_many(&all, args);
+        return too_many(&all, args, &source.name);
     }
     all.retain(|(_, count)| *count >= args.least);
     let text = counts::text(&all, args.k);
@@ -82,7 +82,7 @@ fn smallest_least(counts: &[Counted], most: usize) -> Option<u64> {
     sorted.get(most).map(|count| count + 1)
 }
 
-fn too_many(all: &[Counted], args: &MakeSet) -> Result<()> {
+fn too_many(all: &[Counted], args: &MakeSet, name: &str) -> Result<()> {
     let mut rows = vec![0_u64; ROWS as usize + 1];
     for (_, count) in all {
         rows[(*count).min(ROWS) as usize] += 1;
@@ -102,8 +102,7 @@ fn too_many(all: &[Counted], args: &MakeSet) -> Result<()> {
         _ => "no --least fits".into(),
     };
     failed(format!(
-        "{}: {} k-mers have a count of at least {}; a set holds {} keys: {hint}",
-        args.input.display(),
+        "{name}: {} k-mers have a count of at least {}; a set holds {} keys: {hint}",
         number(kept),
         args.least,
         number(MAX_KEYS as u64)
