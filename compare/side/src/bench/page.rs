@@ -150,24 +150,30 @@ pub fn beside_head<'a>(mut rounds: impl Iterator<Item = &'a Rounds>) -> (String,
     names.map(|(name, _, _)| (format!(" | {name}"), "--:|".to_string())).unzip()
 }
 
-/// Of each of those columns the slowest cell: the lowest median, and where it is.
+/// Of each of those columns the slowest cell, by the medians and by the fastest rounds, and where it is.
 pub fn slowest(cells: &[Cell]) -> String {
     let mut lines = String::new();
     for (name, part, by) in BESIDE {
         let median = |cell: &Cell| cell.rounds.by_median(part, by).map(|spread| spread.median);
-        let all = cells.iter().filter_map(|cell| median(cell).map(|median| (median, cell)));
-        if let Some((lowest, cell)) = all.min_by(|(one, _), (other, _)| one.total_cmp(other)) {
-            let _ = writeln!(
-                lines,
-                "{name}: lowest {lowest:.3}, of {:?} at {} keys, k = {}, {} % errors",
-                cell.method,
-                short(cell.keys),
-                cell.k,
-                cell.errors
-            );
-        }
+        let fastest = |cell: &Cell| cell.rounds.by_fastest(part, by);
+        lines += &lowest(&format!("{name}, medians"), cells, median);
+        lines += &lowest(&format!("{name}, fastest rounds"), cells, fastest);
     }
     lines
+}
+
+fn lowest(name: &str, cells: &[Cell], of: impl Fn(&Cell) -> Option<f64>) -> String {
+    let mut all: Vec<(f64, &Cell)> = cells.iter().filter_map(|cell| of(cell).map(|ratio| (ratio, cell))).collect();
+    all.sort_by(|(one, _), (other, _)| one.total_cmp(other));
+    let Some((ratio, cell)) = all.first() else { return String::new() };
+    let middle = all[all.len() / 2].0;
+    format!(
+        "{name}: lowest {ratio:.3}, of {:?} at {} keys, k = {}, {} % errors; median cell {middle:.3}\n",
+        cell.method,
+        short(cell.keys),
+        cell.k,
+        cell.errors
+    )
 }
 
 /// Reads and rounds; then speeds and ratios.

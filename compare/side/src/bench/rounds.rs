@@ -2,6 +2,7 @@
 use super::system::now;
 use std::fmt::{Display, Formatter, Result};
 use std::hint::black_box;
+use std::sync::atomic::{AtomicUsize, Ordering::Relaxed};
 
 /// Seconds that the rounds of a cell may take together.
 const BUDGET: f64 = 3.0;
@@ -10,6 +11,14 @@ const LONG: f64 = 2.0;
 const FEWEST: usize = 3;
 const FEW: usize = 5;
 const MOST: usize = 9;
+
+/// Rounds of each cell if they were asked for, else 0.
+static ASKED: AtomicUsize = AtomicUsize::new(0);
+
+/// So many rounds in each cell, whatever they take: for a machine whose speed comes and goes.
+pub fn ask_rounds(count: usize) {
+    ASKED.store(count.max(1), Relaxed);
+}
 
 /// What a round times.
 #[derive(Clone, Copy, PartialEq, Eq)]
@@ -142,6 +151,12 @@ impl Rounds {
         medians.iter().all(|median| *median > 0.0).then(|| Spread { median: medians[0] / medians[1], ..rounds })
     }
 
+    /// The fastest time of a part by the fastest of another, which what else the machine does moves least; none where either is not run.
+    pub fn by_fastest(&self, part: Part, by: Part) -> Option<f64> {
+        let fastest = [part, by].map(|part| self.of(|round| round.of(part)).lowest);
+        fastest.iter().all(|seconds| *seconds > 0.0).then(|| fastest[0] / fastest[1])
+    }
+
     fn of(&self, value: impl Fn(&Round) -> f64) -> Spread {
         spread(self.0.iter().map(value).collect())
     }
@@ -149,6 +164,10 @@ impl Rounds {
 
 /// As many as the budget has room for, an odd number.
 fn how_many(first: f64) -> usize {
+    let asked = ASKED.load(Relaxed);
+    if asked > 0 {
+        return asked / 2 * 2 + 1;
+    }
     let fewest = if first > LONG { FEWEST } else { FEW };
     let count = (BUDGET / first) as usize;
     count.clamp(fewest, MOST) / 2 * 2 + 1

@@ -3,6 +3,7 @@ use side::bench::against::{Against, Offers};
 use side::bench::inputs::World;
 use side::bench::measure::{cell, gap, loops, opening, placing, Beside, Cell};
 use side::bench::page::{Peak, Results};
+use side::bench::rounds::ask_rounds;
 use side::bench::split::{split, Split};
 use side::bench::system::{count_running_time, Allocator};
 use side::bench::{aligned, chart, index, make, memory, page};
@@ -17,7 +18,7 @@ use std::process::ExitCode;
 static ALLOCATOR: Allocator = Allocator;
 
 const USAGE: &str =
-    "compare/bench [--make] [--aligned] [--index] [--quick] [--stand-in] [--against LIBRARY [--against-offers nothing|index|counts]] [--counts] [--needs] [--fasta] [--out FOLDER] [--keys N,..] [--k K,..] [--method NAME,..] [--errors N,..] [--huge] [--split] [--running-time]";
+    "compare/bench [--make] [--aligned] [--index] [--quick] [--stand-in] [--against LIBRARY [--against-offers nothing|index|counts]] [--counts] [--needs] [--fasta] [--out FOLDER] [--keys N,..] [--k K,..] [--method NAME,..] [--errors N,..] [--huge] [--split] [--running-time] [--rounds N]";
 const KEYS: [usize; 4] = [1_000, 100_000, 4_000_000, 16_000_000];
 /// How many of these --quick takes.
 const QUICK: usize = 2;
@@ -129,6 +130,7 @@ fn options(arguments: &[String]) -> Result<Options, String> {
             "--needs" => options.needs = true,
             "--fasta" => options.fasta = true,
             "--running-time" => count_running_time(),
+            "--rounds" => ask_rounds(number(value()?)?),
             "--out" => options.folder = Some(value()?.clone()),
             // Chosen when this was built.
             "--stand-in" => {}
@@ -263,7 +265,10 @@ fn cells(library: &dyn Library, beside: Beside, options: &Options, world: &World
 
 fn say(cell: &Cell) {
     let rounds = &cell.rounds;
-    let told = page::BESIDE.iter().filter_map(|(name, part, by)| rounds.by_median(*part, *by).map(|spread| format!(", {name} {spread}")));
+    let told = page::BESIDE.iter().filter_map(|(name, part, by)| {
+        let (spread, fastest) = (rounds.by_median(*part, *by)?, rounds.by_fastest(*part, *by)?);
+        Some(format!(", {name} {spread}, by the fastest {fastest:.3}"))
+    });
     let beside: String = told.collect();
     eprintln!(
         "  {:?}, {} %: {:.1} ns a base ({:.1} less opening), the Rust {:.1}, ratio {}{beside}; {:.2} lookups a base, {} reads, {} rounds",
