@@ -10,9 +10,9 @@
  *
  * Stack. A call keeps its tables on the stack: a thread that calls needs CORRECTOR_STACK bytes of it.
  *
- * Large sets. Each call opens the set and fills a table of where its keys start: 6 ms at 4 million keys, 22 at 16 million. So send batches as
+ * Large sets. Each call opens the set and fills a table of where its keys start: 10 ms at 4 million keys, 44 at 16 million. So send batches as
  * long as may be. Lend a set of a million keys or more from memory that starts at a multiple of 2 MB and was advised by
- * `madvise(.., MADV_HUGEPAGE)` before the set was read into it: a batch by One took 12 and 6 % less time
+ * `madvise(.., MADV_HUGEPAGE)` before the set was read into it: a batch by One took 17 and 9 % less time
  * with 4 and 16 million keys (docs/BENCHMARK.md).
  *
  * Slices. A slice is a pointer and a count of elements. As for Rust's slices, the pointer must not be null and must be aligned for its

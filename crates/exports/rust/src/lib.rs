@@ -4,9 +4,9 @@
 //! A call keeps no state and allocates nothing, so any number of threads may call at once with buffers of their own. It keeps its tables
 //! on the stack: `CORRECTOR_STACK` of corrector.h says how much a thread needs, which is less than a thread of `std` has.
 //!
-//! Each call opens the set and fills a table of where its keys start, 6 ms at 4 million keys and 22 at 16 million, so send batches as long as may
+//! Each call opens the set and fills a table of where its keys start, 10 ms at 4 million keys and 44 at 16 million, so send batches as long as may
 //! be. Lend a large set from memory that starts at a multiple of 2 MB, with `madvise(.., MADV_HUGEPAGE)` before the set is read into it: a batch
-//! took 12 and 6 % less time with 4 and 16 million keys. Where calls are short, offer the set's index, which saves filling the table.
+//! took 17 and 9 % less time with 4 and 16 million keys. Where calls are short, offer the set's index, which saves filling the table.
 //!
 //! ```
 //! # fn set_of(k: u64, keys: &[u64]) -> Vec<u8> {
