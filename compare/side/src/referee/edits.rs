@@ -53,9 +53,14 @@ pub fn check_edits(opened: &Result<Set, Refusal>, sheet: &Sheet) -> Option<Refus
 /// The first judgement that fails, and its first offending edit, or the number of edits if only the joining differs.
 pub fn judge(set: &Set, sheet: &Sheet) -> Option<(Judgement, usize)> {
     let mut edits: Vec<Edit> = Vec::new();
+    // Letters given by all edits so far.
+    let mut given = 0;
     for (place, numbers) in sheet.numbers.chunks(3).enumerate() {
-        match Edit::of(numbers).filter(|edit| formed(set.k, sheet, &edits, edit)) {
-            Some(edit) => edits.push(edit),
+        match Edit::of(numbers).filter(|edit| formed(set.k, sheet, edits.last(), given, edit)) {
+            Some(edit) => {
+                given += edit.given;
+                edits.push(edit);
+            }
             None => return Some((Judgement::Form, place)),
         }
     }
@@ -65,19 +70,17 @@ pub fn judge(set: &Set, sheet: &Sheet) -> Option<(Judgement, usize)> {
     if let Some(place) = (0..edits.len()).find(|place| !asked(*place).all(|last| solid(set, &made[..=last]))) {
         return Some((Judgement::Kmers, place));
     }
-    let given: u128 = edits.iter().map(|edit| edit.given).sum();
     let joined = made == sheet.mended && given == sheet.letters.len() as u128;
     (!joined).then_some((Judgement::Joining, edits.len()))
 }
 
 /// Not accepted: position below k, position plus bases taken above the read's length less 1, letters past the list's end, not strictly rising, or
 /// begun before the end of the edit before.
-fn formed(k: usize, sheet: &Sheet, before: &[Edit], edit: &Edit) -> bool {
-    let given: u128 = before.iter().map(|edit| edit.given).sum();
+fn formed(k: usize, sheet: &Sheet, before: Option<&Edit>, given: u128, edit: &Edit) -> bool {
     edit.position >= k as u128
         && edit.end() + 1 <= sheet.read.len() as u128
         && given + edit.given <= sheet.letters.len() as u128
-        && before.last().is_none_or(|last| last.position < edit.position && last.end() <= edit.position)
+        && before.is_none_or(|last| last.position < edit.position && last.end() <= edit.position)
 }
 
 /// The read with all edits made, and where in it each edit's letters begin.
