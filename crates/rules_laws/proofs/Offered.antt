@@ -200,7 +200,7 @@ call-or-15 ending reads none g = go (opened g.set) refl
         at : (c : Check) → index_check set g.index ≡ c → Or15 (call ending reads none g) (call ending reads none (without_index g))
         at none f =
             inr (same-call ending reads none g
-            (λ s h. subst (λ (x : KmerSet). index_check x g.index ≡ none) (let q : accepted set ≡ accepted s = sym e ∙ h in cc) f))
+            (λ s h. subst (λ (x : KmerSet). index_check x g.index ≡ none) {x = set} {y = s} (let q : accepted set ≡ accepted s = sym e ∙ h in cc) f))
         at (some r) f =
             let whole : call ending reads none g ≡ unchanged g r = rw (e, call_by, offer_check, f) in
             inl (ap (λ (a : After). a.answer) whole ∙ ap refused (index-refused set g.index r f))

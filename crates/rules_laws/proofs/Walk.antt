@@ -42,6 +42,9 @@ module _ (k : ℕ) (sol : ℕ → Bool) where
   one_way (more o m) (first_more n f) (move o') g = absurd (n (one-successor o o'))
   one_way (more {t = t} o m) (first_more n f) (more {zs = zs'} o' m') (first_more n' g) =
       ap suc (one_way m f (subst (λ (w : Kmer). Moves k sol w zs' t) (one-successor o' o) m') g)
+  one_way (move {y = y} {t = t} o) f (more o' m) first_one = elim m [ ]
+  one_way {vs = vs} (more {y = y} {z = z} o m) first_one _ g = elim m [ ]
+  one_way (more {y = y} {z = z} {t = t} {zs = zs} o m) (first_more n f) (more o' m') first_one = elim m' [ ]
 
   record Suffix (z t : Kmer) (l : ℕ) : Type 0 where
     rest : List Kmer
@@ -61,6 +64,7 @@ module _ (k : ℕ) (sol : ℕ → Bool) where
       go : (met z zs ≡ true → Suffix z t (length zs)) → (b : Bool) → same z z' ≡ b → b || met z zs ≡ true → Suffix z t (suc (length zs))
       go i true e h = record { rest = zs; moves = subst (λ (w : Kmer). Moves k sol w zs t) (sym (same_true z z' e)) m; first = f; shorter = omega arith }
       go i false e h = let w = i h in record { rest = w.rest; moves = w.moves; first = w.first; shorter = omega (arith, w.shorter) }
+  suffix (more {y = y} {z = z'} o m) first_one z a n = elim m [ ]
 
   -- the way to the first t meets nothing twice
   distinct-first : {y t : Kmer} {zs : List Kmer} → (y ≡ t → ⊥) → Moves k sol y zs t → First t zs → Distinct (y ∷ zs)
@@ -73,6 +77,7 @@ module _ (k : ℕ) (sol : ℕ → Bool) where
           let w = suffix (more o m) (first_more n' f) y a n in
           absurd (omega (arith, w.shorter, one_way (more o m) (first_more n' f) w.moves w.first))
       go d false a = also-distinct a d
+  distinct-first n (more {y = y} {z = z} o m) first_one = elim m [ ]
 
   last-met : {y t : Kmer} {zs : List Kmer} → Moves k sol y zs t → met t zs ≡ true
   unfolding met
@@ -161,6 +166,8 @@ module _ (k : ℕ) (sol : ℕ → Bool) where
       let i = complete f t v z zs refl m d behind (omega arith) in
       rw (walk-goes k sol f t w z (rw e (sole-found k sol y z o)) (same-ne z t nt) (same-ne z w.mark nm))
       (i ∙ ap {B = Option (List Kmer)} some (append_assoc w.seen (z ∷ []) zs))
+  complete zero t w y [] e m d a h = elim m [ ]
+  complete (suc f) t w y [] e m d a h = elim m [ ]
 
   -- what is accepted is the way to the first t
   record Found (t : Kmer) (w : Walk) (ls : List Kmer) : Type 0 where
