@@ -21,7 +21,7 @@ use set::STARTS;
 const MOVES: usize = 16;
 
 // The chain's moves (0: none), the lookups made, the floor, and the chain's letters, 0 behind the last.
-#[derive(Drop)]
+#[derive(Clone, Copy)]
 struct Bridge {
     moves: usize,
     lookups: u64,
@@ -30,14 +30,14 @@ struct Bridge {
 }
 
 // What the call answers beside the letters: moves, lookups and floor, or why it is refused.
-#[derive(Drop)]
+#[derive(Clone, Copy)]
 pub enum Outcome {
     Bridge(usize, u64, u64),
     Refused(Refusal),
 }
 
 // The chain's letters, 0 behind the last; an enum can't hold an array.
-#[derive(Drop)]
+#[derive(Clone, Copy)]
 pub struct Answer {
     pub letters: [u8; 16],
     pub outcome: Outcome,

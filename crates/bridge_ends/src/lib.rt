@@ -25,7 +25,7 @@ fn kmer_of(code: u64, head: Header) -> Kmer
 }
 
 // An end of a bridge, if it is solid.
-#[derive(Drop)]
+#[derive(Clone, Copy)]
 pub enum Solid {
     Kmer(Kmer),
     Not,

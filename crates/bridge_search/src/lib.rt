@@ -10,7 +10,7 @@ ghost use Rattle.bridge_search.specs.Search.{ChainIs, SearchIs};
 use kmer::{Header, Kmer};
 
 // How a search ends: with a chain of so many moves from the start on, with all tried, or because it stops.
-#[derive(Drop)]
+#[derive(Clone, Copy)]
 pub enum End {
     Found(usize),
     Tried,
@@ -18,7 +18,7 @@ pub enum End {
 }
 
 // A search's end and the lookups made; of a chain that it found the letters, each at the number of moves before it.
-#[derive(Drop)]
+#[derive(Clone, Copy)]
 pub struct Search {
     pub letters: [u8; 16],
     pub end: End,

@@ -12,7 +12,7 @@ use kmer::{Header, Kmer};
 use turn::{Place, Turned};
 
 // What was written and counted, the smallest count behind the accepted corrections, if there are any, and the bases beyond the first k (W).
-#[derive(Drop)]
+#[derive(Clone, Copy)]
 pub struct Counts {
     pub written: usize,
     pub turns: u64,
@@ -24,7 +24,7 @@ pub struct Counts {
 }
 
 // Full: the result is longer than the output.
-#[derive(Drop)]
+#[derive(Clone, Copy)]
 pub enum Pass {
     Done(Counts),
     Full,

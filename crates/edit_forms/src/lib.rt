@@ -4,7 +4,7 @@ ghost use Rattle.rules_edits.specs.Edits as rules;
 ghost use Rattle.edit_forms.specs.Formed.{FormedIs, IsOffending};
 
 // How many edits there are and how many letters they give, where each is formed; else the first that offends.
-#[derive(Drop)]
+#[derive(Clone, Copy)]
 pub enum Formed {
     All(usize, usize),
     Offends(usize),

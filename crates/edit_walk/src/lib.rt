@@ -13,7 +13,7 @@ use kmer::{Header, Kmer};
 
 // Where a walk stands: its k-mer, the first edit that asks the next base's k-mer to be solid (the number of edits: none does), how many
 // bases equal the partner's, and whether all of them do.
-#[derive(Drop)]
+#[derive(Clone, Copy)]
 pub struct Walk {
     pub kmer: Kmer,
     pub asks: usize,
@@ -21,7 +21,7 @@ pub struct Walk {
     pub same: bool,
 }
 
-#[derive(Drop)]
+#[derive(Clone, Copy)]
 pub enum Step {
     On(Walk),
     Offends(usize),

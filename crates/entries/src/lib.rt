@@ -1,4 +1,6 @@
 // The entries of a job, each a method and its own confirm: document 02, W1.
+#![tactic(auto)]
+
 ghost use Rattle.std.specs.Prelude.{◌≡◌, ◌<◌};
 ghost use Rattle.rules.specs.Job.{method_byte, confirm_byte, entry_count};
 

@@ -21,13 +21,13 @@ use successors::Alt;
 use trials::Scenarii;
 
 // The mend to use.
-#[derive(Drop)]
+#[derive(Clone, Copy)]
 enum Pick {
     Mend(Mend),
     Refused,
 }
 
-#[derive(Drop)]
+#[derive(Clone, Copy)]
 struct Choice {
     pick: Pick,
     lookups: u64,

@@ -5,7 +5,7 @@ ghost use Rattle.few_keys.specs.Find;
 ghost use Rattle.few_keys.specs.Find.{key_in, Sorted, Bracket, Answers};
 
 // A key's index among the keys, or that it is none of them.
-#[derive(Drop)]
+#[derive(Clone, Copy)]
 pub enum Found {
     At(usize),
     Nothing,

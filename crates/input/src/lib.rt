@@ -19,7 +19,7 @@ const MAX_WORK: usize = 2097152;
 const MAX_LINES: usize = 1024;
 
 // What a check says of the input.
-#[derive(Drop)]
+#[derive(Clone, Copy)]
 pub enum Input {
     Fine,
     Refused(Refusal),

@@ -7,7 +7,7 @@ use kmer::Header;
 use refusal::Refusal;
 
 // How many lines are kept, or the first refusal of a line.
-#[derive(Drop)]
+#[derive(Clone, Copy)]
 pub enum Judged {
     Kept(usize),
     Refused(Refusal),

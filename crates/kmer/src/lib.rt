@@ -1,11 +1,13 @@
 // Document 01, "Letters", and document 02, W5: codes of bases, and k-mers as numbers in base four. Ports `mask` and `add_nuc_to_end` of src/correct/mod.rs, and
 // `nuc2bit`, `bit2nuc`, `seq2bit` and `canonical` of the crate cocktail.
+#![tactic(auto)]
+
 ghost use Rattle.std.specs.Prelude.{◌≡◌, [], ℕ, ◌-◌, ◌<◌, ◌≤◌, ◌^◌, length, take};
 ghost use Rattle.rules.specs.Letters;
 ghost use Rattle.kmer.specs.Kmer.{Shifts, kmer_of, IsKmer, HasLetters};
 
 // What a set's header says, k and n, with what lookups and shifts need beside it.
-#[derive(Drop)]
+#[derive(Clone, Copy)]
 pub struct Header {
     pub k: usize,
     pub n: usize,
@@ -16,7 +18,7 @@ pub struct Header {
 
 // A k-mer's code, and beside it the code of its reverse complement, so that a lookup never has to turn the letters round; and its unknown
 // letters, a bit for each.
-#[derive(Drop)]
+#[derive(Clone, Copy)]
 pub struct Kmer {
     pub code: u64,
     pub rev: u64,

@@ -5,7 +5,7 @@ ghost use Rattle.lay.specs.Lay.{flat_put, Put, Sealed};
 use refusal::Refusal;
 
 // The length of the blocks in bytes, or why none are made.
-#[derive(Drop)]
+#[derive(Clone, Copy)]
 pub enum Made {
     Blocks(usize),
     Refused(Refusal),

@@ -16,14 +16,14 @@ use refusal::Refusal;
 use set::STARTS;
 
 // The bytes that the batch's output will be, its turns and its lookups.
-#[derive(Drop)]
+#[derive(Clone, Copy)]
 pub struct Need {
     pub bytes: usize,
     pub turns: u64,
     pub lookups: u64,
 }
 
-#[derive(Drop)]
+#[derive(Clone, Copy)]
 pub enum Answer {
     Need(Need),
     Refused(Refusal),

@@ -1,4 +1,5 @@
 // The set of a call and what is offered with it: checks 7 to 10, 15 and 16 of documents 01 and 02, and lookups made ready.
+#![tactic(auto)]
 ghost use Rattle.std.specs.Prelude.{◌≡◌, length};
 ghost use Rattle.set.specs.Ready.{table_length};
 ghost use Rattle.offered.specs.Offered.{OfferedIs, IsRefused};
@@ -7,7 +8,7 @@ use kmer::Header;
 use opening::Opened;
 use refusal::Refusal;
 
-#[derive(Drop)]
+#[derive(Clone, Copy)]
 pub enum Offered {
     Ready(Header),
     Refused(Refusal),

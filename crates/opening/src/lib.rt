@@ -8,7 +8,7 @@ use refusal::Refusal;
 use set_checks::Look;
 
 // A set's k and n, or why it is refused.
-#[derive(Drop)]
+#[derive(Clone, Copy)]
 pub enum Opened {
     Set(usize, usize),
     Refused(Refusal),

@@ -46,7 +46,7 @@ pub fn begin(head: Header, x: Kmer, filter: &mut [u64]) -> bool
 }
 
 // Of the next k-mer: whether it is one of those passed, and whether the filter said maybe of its last k − 1 letters.
-#[derive(Drop)]
+#[derive(Clone, Copy)]
 pub struct Met {
     pub repeats: bool,
     pub maybe: bool,

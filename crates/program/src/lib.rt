@@ -24,7 +24,7 @@ const MAX_JOB: usize = 64;
 const MAX_BATCH: usize = 16384;
 
 // Which files were read to their end.
-#[derive(Drop)]
+#[derive(Clone, Copy)]
 pub struct Whole {
     pub set: bool,
     pub job: bool,

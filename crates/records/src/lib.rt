@@ -50,7 +50,7 @@ fn line_right(named: bool, line: &[u8]) -> bool
 }
 
 // What is seen of a file's first lines: their records, whether 18 lets them pass, and their number up to the first that it does not.
-#[derive(Drop)]
+#[derive(Clone, Copy)]
 struct Seen {
     records: usize,
     right: bool,
@@ -125,7 +125,7 @@ pub fn check_file(file: &[u8]) -> Input
 }
 
 // How long a joined read is, and where the next name line is, or the file's end.
-#[derive(Drop)]
+#[derive(Clone, Copy)]
 pub struct Joined {
     pub read: usize,
     pub next: usize,

@@ -1,9 +1,11 @@
 // Why a call is refused: the refusals of documents 01 and 02, with their numbers and places.
+#![tactic(auto)]
+
 ghost use Rattle.std.specs.Prelude.{◌≡◌};
 ghost use Rattle.refusal.specs.Refusal.{refusal_of};
 
 // In the order of their numbers, with the place of those that have one.
-#[derive(Drop)]
+#[derive(Clone, Copy)]
 pub enum Refusal {
     Long,
     Methods,

@@ -38,7 +38,7 @@ const NEEDS: u64 = 7;
 
 const FASTA: u64 = 8;
 
-#[derive(Drop)]
+#[derive(Clone, Copy)]
 enum Case {
     Agrees,
     Differs,
@@ -46,7 +46,7 @@ enum Case {
 }
 
 // The lengths of the set, the index and the counts of the next case, in bytes; whole if its record and they were there.
-#[derive(Drop)]
+#[derive(Clone, Copy)]
 struct Next {
     set: usize,
     index: usize,

@@ -7,7 +7,7 @@ use correct::Counts;
 use refusal::Refusal;
 
 // Document 01, "Report", and document 02, W8 and W10.
-#[derive(Drop)]
+#[derive(Clone, Copy)]
 pub struct Report {
     pub written: usize,
     pub turns: u64,
@@ -24,7 +24,7 @@ pub struct Report {
     pub bases: u64,
 }
 
-#[derive(Drop)]
+#[derive(Clone, Copy)]
 pub enum Answer {
     Report(Report),
     Refused(Refusal),
@@ -67,7 +67,7 @@ fn yield_of(accepted: u64, attempts: u64) -> u64
     whole + whole % 2
 }
 
-#[derive(Drop)]
+#[derive(Clone, Copy)]
 struct Divided {
     quotient: u64,
     remainder: u64,

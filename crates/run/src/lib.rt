@@ -5,7 +5,7 @@ use libc::STDOUT_FILENO;
 use program::{PAGE, Whole};
 
 // How many bytes were read, and whether the file ends there.
-#[derive(Drop)]
+#[derive(Clone, Copy)]
 struct Got {
     length: usize,
     whole: bool,

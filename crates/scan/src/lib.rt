@@ -11,7 +11,7 @@ ghost use Rattle.scan.specs.Scan.{scan_of};
 use kmer::{Header, Kmer};
 
 // Where a scan ends: the index reached, the last k-mer T, and the lookups made.
-#[derive(Drop)]
+#[derive(Clone, Copy)]
 pub struct Scan {
     pub index: usize,
     pub end: Kmer,
@@ -21,7 +21,7 @@ pub struct Scan {
 // An attempt at a bad base: the number of its letters, which stand at the start of the lent output if that has room for all of them, the
 // resume, the lookups, the smallest count behind it, and the bad k-mer with the letters in place of its last one; or the lookups of a
 // refused one; or no room for letters that have to be looked at again. This is the source's Option<(Vec<u8>, usize)>.
-#[derive(Drop)]
+#[derive(Clone, Copy)]
 pub enum Attempt {
     Mend(usize, usize, u64, u32, Kmer),
     Refused(u64),

@@ -14,18 +14,18 @@ use kmer::{Header, Kmer};
 use successors::Next;
 
 // A scenario's least length of s, check start o and resume r.
-#[derive(Drop)]
+#[derive(Clone, Copy)]
 pub struct Row(pub usize, pub usize, pub usize);
 
 // A trial's result, made once and kept: the tried k-mer or a refusal, and the lookups made.
-#[derive(Drop)]
+#[derive(Clone, Copy)]
 pub struct Trial {
     pub tried: Next,
     pub lookups: u64,
 }
 
 // What a scenario gives: the last letters of a k-mer, the resume, and the code of its tried k-mer with its key's index.
-#[derive(Drop)]
+#[derive(Clone, Copy)]
 pub struct Mend {
     pub code: u64,
     pub letters: usize,

@@ -43,7 +43,7 @@ fn index_or(found: Found, n: usize) -> usize
 }
 
 // A key, and the numbers of the keys between which it can stand.
-#[derive(Drop)]
+#[derive(Clone, Copy)]
 struct Range {
     key: u64,
     from: usize,
@@ -66,7 +66,7 @@ fn range_of(set: &[u8], starts: &[u32], shift: u32, finer: u32, kmer: Kmer) -> R
 
 // The keys that a lookup may look at: with an index those numbered from entry v up to entry v + 1, v being the code of the key's first letters;
 // without one all keys.
-#[derive(Drop)]
+#[derive(Clone, Copy)]
 struct Span {
     first: usize,
     last: usize,
@@ -162,7 +162,7 @@ pub fn get(set: &[u8], starts: &[u32], head: Header, kmer: Kmer) -> Found
 }
 
 // A k-mer asked: whether it is solid, and the lookups made.
-#[derive(Drop)]
+#[derive(Clone, Copy)]
 pub struct Asked {
     pub solid: bool,
     pub lookups: u64,

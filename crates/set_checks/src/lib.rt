@@ -42,7 +42,7 @@ pub fn header_right(set: &[u8], k: usize, n: usize) -> bool
 }
 
 // Of a block's keys: all are right, with the least that the next key may be; or the first that is wrong.
-#[derive(Drop)]
+#[derive(Clone, Copy)]
 pub enum Look {
     Right(u64),
     Wrong(usize),

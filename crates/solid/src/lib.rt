@@ -12,7 +12,7 @@ use refusal::Refusal;
 use set::STARTS;
 
 // The k-mers of a read and the solid ones among them, or why the call is refused.
-#[derive(Drop)]
+#[derive(Clone, Copy)]
 pub enum Count {
     Solid(u64, u64),
     Refused(Refusal),

@@ -10,21 +10,21 @@ ghost use Rattle.successors.specs.Successors.{nuc_of, NextIs, AltIs, places_of};
 use kmer::{Header, Kmer};
 
 // The sole solid successor letter.
-#[derive(Drop)]
+#[derive(Clone, Copy)]
 pub enum Sole {
     Nuc(u64),
     Refused,
 }
 
 // The sole solid successor.
-#[derive(Drop)]
+#[derive(Clone, Copy)]
 pub enum Next {
     Kmer(Kmer),
     Refused,
 }
 
 // The sole solid alternative, and its key's index.
-#[derive(Drop)]
+#[derive(Clone, Copy)]
 pub enum Alt {
     Kmer(Kmer, usize),
     Refused,

@@ -1,5 +1,7 @@
 // Document 02, W8: the counts behind corrections. A support is the smallest count behind the accepted corrections; there is none where
 // nothing was accepted, and the number beside it then says nothing.
+#![tactic(auto)]
+
 ghost use Rattle.std.specs.Prelude.{◌≡◌, ◌+◌, min, length, get_or};
 ghost use Rattle.rules.specs.Refusal.{unless};
 ghost use Rattle.rules.specs.Set.{KmerSet};

@@ -14,7 +14,7 @@ use scenario::Mend;
 use successors::Next;
 
 // The scenarios kept, the first `count` of the group, and the lookups of all scenarios.
-#[derive(Drop)]
+#[derive(Clone, Copy)]
 pub struct Scenarii {
     pub kept: [Mend; 13],
     pub count: usize,
@@ -22,14 +22,14 @@ pub struct Scenarii {
 }
 
 // A solid tried k-mer and its key's index.
-#[derive(Drop)]
+#[derive(Clone, Copy)]
 enum Tried {
     Kmer(Kmer, usize),
     Refused,
 }
 
 // A trial as far as its first confirm base, and the lookups made.
-#[derive(Drop)]
+#[derive(Clone, Copy)]
 struct Candidate {
     tried: Tried,
     lookups: u64,

@@ -1,5 +1,6 @@
 // One turn of the driver, `Corrector::correct` of src/correct/mod.rs: a base is taken, its k-mer looked up and, where that is not solid
 // while the previous was, an attempt made. Document 01, "Driver", and document 02, W5 and W8.
+#![tactic(auto)]
 ghost use Rattle.std.specs.Prelude.{◌≡◌, ◌+◌, ◌≤◌, ◌<◌, ◌^◌, length, set as put};
 ghost use Rattle.rules.specs.Set.{set_of, solid, count_of};
 ghost use Rattle.rules.specs.Scan.{error_len};
@@ -14,7 +15,7 @@ use scan::Attempt;
 
 // Where a pass stands: the k-mer, whether the previous one counts as solid, the index of the next base, and what is done: the bytes put out
 // are counted here, and written where there is room; support is the smallest count behind the accepted corrections, if there are any.
-#[derive(Drop)]
+#[derive(Clone, Copy)]
 pub struct Place {
     pub kmer: Kmer,
     pub previous: bool,
@@ -28,7 +29,7 @@ pub struct Place {
 }
 
 // Full: GapSize has no room to look back at its letters.
-#[derive(Drop)]
+#[derive(Clone, Copy)]
 pub enum Turned {
     To(Place),
     Full,

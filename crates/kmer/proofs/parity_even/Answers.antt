@@ -4,12 +4,8 @@ use lib.Dec.{eqb}
 use borrow.Author.Rules.{rules}
 use Rattle.rules.specs.Letters.{even_ones}
 use Rattle.rules_laws.proofs.Kmer.{ones-in}
-use Rattle.kmer.proofs.parity_even.Statement.{statement}
-use Rattle.kmer.proofs.parity_even.Tie as tie
+use Rattle.kmer.proofs.parity_even.Goals as goal
 
-returns : tie.Need-returns
+pub returns : goal.returns
 unfolding even_ones
 returns c = ap (λ (n : ℕ). eqb (n % 2) 0) (sym (ones-in 64 c.args.code (search rules)))
-
-pub parity-even-spec : {M : Type 1} → statement M
-parity-even-spec = tie.close (tie.spec returns)

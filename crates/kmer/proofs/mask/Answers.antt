@@ -6,8 +6,7 @@ use mathlib.Core.List.{List, [], ◌∷◌}
 use lib.ListN.{get_or}
 use borrow.Author.Rules.{rules}
 use Rattle.rules.specs.Letters.{mask}
-use Rattle.kmer.proofs.mask.Statement.{statement}
-use Rattle.kmer.proofs.mask.Tie as tie
+use Rattle.kmer.proofs.mask.Goals as goal
 
 -- the masks of m lengths from i on
 masks : ℕ → ℕ → List ℕ
@@ -21,16 +20,7 @@ masks-at i zero k h = absurd (omega arith)
 masks-at i (suc m) zero h = ap mask (omega arith)
 masks-at i (suc m) (suc k) h = masks-at (suc i) m k (omega arith) ∙ ap mask (omega arith)
 
-mul-result : tie.Need-overflow-mul-result
-mul-result c = search rules
-
-array-read-result : tie.Need-array-read-result
-array-read-result c = search rules
-
 -- the table is computed to be the masks of 0 to 31
-returns : tie.Need-returns
+pub returns : goal.returns
 unfolding masks
 returns c = masks-at 0 32 c.args.k (search rules) ∙ ap mask (zero-add _)
-
-pub mask-spec : {M : Type 1} → statement M
-mask-spec = tie.close (tie.spec mul-result array-read-result returns)
