@@ -1,4 +1,6 @@
 // Document 01, "Set": blocks of little-endian words with check words.
+#![tactic(auto)]
+
 ghost use Rattle.std.specs.Prelude.{◌≡◌, ◌+◌, ◌-◌, ◌*◌, ◌<◌, ◌≤◌, length, drop};
 ghost use Rattle.rules.specs.Set as Rules;
 ghost use Rattle.blocks.specs.Flat.{flat};

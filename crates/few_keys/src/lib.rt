@@ -1,4 +1,6 @@
 // A key compared with a few of a set's keys, which rise strictly. Only a part of the set's bytes is read, from byte `skip` of the set on.
+#![tactic(auto)]
+
 ghost use Rattle.std.specs.Prelude.{◌≡◌, ◌+◌, ◌/◌, ◌≤◌, ◌<◌, length};
 ghost use Rattle.rules.specs.Set.{max_keys};
 ghost use Rattle.few_keys.specs.Find;

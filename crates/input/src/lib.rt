@@ -1,4 +1,6 @@
 // What a call is given, looked at before any set: checks 1 to 6 of documents 01 and 02, the lines of a batch, and clearing a lent buffer.
+#![tactic(auto)]
+
 ghost use Rattle.std.specs.Prelude.{◌≡◌, ◌++◌, ◌-◌, ◌≤◌, ◌<◌, length, get_or, take, replicate, leb, ltb};
 ghost use Rattle.rules.specs.Refusal.{unless, at_place, first_failing};
 ghost use Rattle.rules.specs.Job.{known, method_byte, confirm_byte, entry_count, lines};

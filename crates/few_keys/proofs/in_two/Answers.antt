@@ -10,8 +10,7 @@ use Rattle.few_keys.specs.declared.Found.TheVariants.{At, Nothing}
 use Rattle.few_keys.specs.Find.{key_in, Answers}
 use Rattle.few_keys.proofs.Part.{key-room}
 use borrow.Author.Rules.{rules}
-use Rattle.few_keys.proofs.in_two.Statement.{statement}
-use Rattle.few_keys.proofs.in_two.Tie as tie
+use Rattle.few_keys.proofs.in_two.Goals as goal
 
 module _ (skip : ℕ) (part : List ℕ) (x from end : ℕ) (some : from < end) (two : end ≤ from + 2) where
   abbrev is : ℕ → Bool
@@ -34,37 +33,21 @@ module _ (skip : ℕ) (part : List ℕ) (x from end : ℕ) (some : from < end) (
       go (yes a) = not (end - 1) e (omega arith)
       go (no a) = not from d (omega arith)
 
-sub-last : tie.Need-overflow-sub-last
-sub-last c = search rules
+pub key_at-requires : goal.key_at-requires
+key_at-requires c = key-room c.requires.0 _ (search rules) (search rules)
 
-key-at-requires : tie.Need-key-at-requires
-key-at-requires c κs = let s = c.before in key-room s.requires.0 _ (search rules) (search rules)
+pub key_at-requires-2 : goal.key_at-requires-2
+key_at-requires-2 c = key-room c.requires.0 _ (search rules) (search rules)
 
-key-at-requires-2 : tie.Need-key-at-requires-2
-key-at-requires-2 c κs = let s = c.before.before in key-room s.requires.0 _ (search rules) (search rules)
+pub returns-then-is_first-is_last : goal.returns-then-is_first-is_last
+returns-then-is_first-is_last c =
+    let a = c.args in
+    rw (c.pick.ensures, c.key_at.ensures)
+    (two_at a.skip a.part.now a.key a.from a.end c.requires.1 c.requires.2 _ _ refl refl
+    (rw (c.key_at.ensures, c.key_at-2.ensures) at c.if-is_first-is_last.true))
 
-pick-requires : tie.Need-pick-requires
-pick-requires c κs = search rules
-
-returns : tie.Need-returns
+pub returns : goal.returns
 returns c =
-    let t = c.before in
-    let k2 = t.before in
-    let k1 = k2.before in
-    let s = k1.before.before in
-    let a = s.args in
-    rw (c.pick.ensures, k1.key-at.ensures)
-    (two_at a.skip a.part.now a.key a.from a.end s.requires.1 s.requires.2 _ _ refl refl
-    (rw (k1.key-at.ensures, k2.key-at2.ensures) at t.if1.true))
-
-returns-2 : tie.Need-returns-2
-returns-2 c =
-    let k2 = c.before in
-    let k1 = k2.before in
-    let s = k1.before.before in
-    let a = s.args in
-    two_none a.skip a.part.now a.key a.from a.end s.requires.1 s.requires.2 _ _ refl refl
-    (rw (k1.key-at.ensures, k2.key-at2.ensures) at c.if1.false)
-
-pub in-two-spec : {M : Type 1} → statement M
-in-two-spec = tie.close (tie.spec sub-last key-at-requires key-at-requires-2 pick-requires returns returns-2)
+    let a = c.args in
+    two_none a.skip a.part.now a.key a.from a.end c.requires.1 c.requires.2 _ _ refl refl
+    (rw (c.key_at.ensures, c.key_at-2.ensures) at c.if-is_first-is_last.false)

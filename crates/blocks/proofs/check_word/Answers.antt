@@ -1,0 +1,19 @@
+use Rattle.std.proofs.Common.{◌≡◌, ◌-◌, refl, rules}
+use Rattle.rules.specs.Set.{sum_words}
+use Rattle.blocks.proofs.Words.{sum_more, sum-end}
+use Rattle.blocks.proofs.check_word.Goals as goal
+
+pub loop-i-init : goal.loop-i-init
+unfolding sum_words
+loop-i-init c = (search rules, refl)
+
+pub loop-i-preserved : goal.loop-i-preserved
+loop-i-preserved c =
+    let l = c.loop-i in
+    (search rules, rw (c.wrapping_add_u64-sum.ensures.value, c.block_word.ensures) (sum_more _ _ l.i l.sum l.invariant.1))
+
+pub returns : goal.returns
+returns c =
+    let l = c.loop-i in
+    let e : l.i ≡ 63 = search rules in
+    rw (c.wrapping_add_u64-2.ensures.value, c.wrapping_add_u64.ensures.value) (sum-end _ _ l.sum (rw e at l.invariant.1))
