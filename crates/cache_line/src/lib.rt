@@ -1,5 +1,7 @@
 // Keys lie in lines of 64 bytes, each one access to memory: 8 words, of which the last in each block is its check word. A key is sought in one
 // line, or in three that follow one another.
+#![tactic(auto)]
+
 ghost use Rattle.std.specs.Prelude.{◌≡◌, ◌&&◌, ◌+◌, ◌≤◌, ◌<◌, min, leb};
 ghost use Rattle.rules.specs.Set.{max_keys};
 ghost use Rattle.few_keys.specs.Find.{key_in, Sorted, Bracket, Answers};

@@ -1,5 +1,7 @@
 // Where a key stands among a set's keys, which rise strictly. Only a part of the set's bytes is searched, from byte `skip` of the set on:
 // it holds the keys from `first` on and before `last`, and no other key is read.
+#![tactic(auto)]
+
 ghost use Rattle.std.specs.Prelude.{◌≡◌, false, ◌&&◌, ◌+◌, ◌≤◌, ◌<◌, leb};
 ghost use Rattle.rules.specs.Set.{max_keys};
 ghost use Rattle.few_keys.specs.Find.{key_in, Sorted, Bracket, Answers};

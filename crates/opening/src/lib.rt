@@ -1,4 +1,6 @@
 // Document 01, "Set": opening a set, with refusals 7 to 10.
+#![tactic(auto)]
+
 ghost use Rattle.std.specs.Prelude.{◌≡◌, true, ◌*◌, ◌-◌, ◌≤◌, length};
 ghost use Rattle.rules.specs.Set as Rules;
 ghost use Rattle.set_checks.specs.Checks.{wrong_key};

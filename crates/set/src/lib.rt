@@ -1,5 +1,7 @@
 // The lookup, port of src/set.rs: the index of a k-mer's key, or that there is none (document 02, W8). A table says where the keys of each
 // prefix start; a search among those decides.
+#![tactic(auto)]
+
 ghost use Rattle.std.specs.Prelude.{◌≡◌, ℕ, ◌+◌, ◌-◌, ◌*◌, ◌/◌, ◌^◌, ◌≤◌, ◌<◌, max, length, get_or};
 ghost use Rattle.std.proofs.Math.Option.{none};
 ghost use Rattle.rules.specs.Set.{max_k, max_keys, header_k, header_n, key_word, set_check, set_of, first_letters, entry_in, lookup, solid};

@@ -1,4 +1,6 @@
 // Document 01, "Set": the checks of a set's header, of its blocks' check words, and of the keys of a block.
+#![tactic(auto)]
+
 ghost use Rattle.std.specs.Prelude.{◌≡◌, true, ◌&&◌, eqb, leb, ◌*◌, ◌-◌, ◌<◌, ◌≤◌, min, length};
 ghost use Rattle.rules.specs.Set as Rules;
 ghost use Rattle.rules.specs.Refusal.{first_failing};

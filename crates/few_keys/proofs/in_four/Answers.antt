@@ -23,11 +23,26 @@ key_at-requires-3 c = key-room c.requires.0 _ (omega arith) (omega arith)
 pub key_at-requires-4 : goal.key_at-requires-4
 key_at-requires-4 c = key-room c.requires.0 _ (omega arith) (omega arith)
 
+-- One of four tests holds, or none.
+chosen : (P : ℕ → Type 0) (p q r s : Bool) (a b c d : ℕ) → (p ≡ true → P a) → (q ≡ true → P b) → (r ≡ true → P c) → (s ≡ true → P d)
+    → (((p || q) || r) || s) ≡ true → P (cond p a (cond q b (cond r c d)))
+chosen P true q r s a b c d f g h i e = f refl
+chosen P false true r s a b c d f g h i e = g refl
+chosen P false false true s a b c d f g h i e = h refl
+chosen P false false false true a b c d f g h i e = i refl
+chosen P false false false false a b c d f g h i e = absurd (false≢true e)
+
+nowhere : (p q r s : Bool) → (((p || q) || r) || s) ≡ false → (p ≡ false) × (q ≡ false) × (r ≡ false) × (s ≡ false)
+nowhere true q r s e = absurd (false≢true (sym e))
+nowhere false true r s e = absurd (false≢true (sym e))
+nowhere false false true s e = absurd (false≢true (sym e))
+nowhere false false false true e = absurd (false≢true (sym e))
+nowhere false false false false e = (refl, refl, refl, refl)
+
 module _ (skip : ℕ) (part : List ℕ) (x from end second third last : ℕ) (some : from < end) (four : end ≤ from + 4)
     (second_is : second ≡ min (from + 1) last) (third-is : third ≡ min (from + 2) last) (last-is : last ≡ end - 1) where
   abbrev is : ℕ → Bool
   is i = eqb x (key_in skip part i)
-
   few-at : (((is from || is second) || is third) || is last) ≡ true
       → Answers skip part x from end (At (cond (is from) from (cond (is second) second (cond (is third) third last))))
   few-at e =
@@ -37,16 +52,13 @@ module _ (skip : ℕ) (part : List ℕ) (x from end second third last : ℕ) (so
       (λ d. (omega arith, omega arith, sym (eqb-true x _ d)))
       (λ d. (omega arith, omega arith, sym (eqb-true x _ d)))
       e
-
   few-none : (((is from || is second) || is third) || is last) ≡ false → Answers skip part x from end Nothing
   few-none e i l h same = go (dec_lt i (from + 1)) (dec_lt i (from + 2)) (dec_lt i last)
     where
       not : (j : ℕ) → is j ≡ false → i ≡ j → ⊥
       not j d k = false≢true (sym d ∙ eq-eqb x (key_in skip part j) (sym same ∙ ap (key_in skip part) k))
-
       tests : (is from ≡ false) × (is second ≡ false) × (is third ≡ false) × (is last ≡ false)
       tests = nowhere (is from) (is second) (is third) (is last) e
-
       go : Dec (i < from + 1) → Dec (i < from + 2) → Dec (i < last) → ⊥
       go (yes a) b c = not from tests.0 (omega arith)
       go (no a) (yes b) c = not second tests.1 (omega arith)
