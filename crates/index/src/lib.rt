@@ -1,4 +1,6 @@
 // Document 02, W7: the index by first letters, its sizes and its entries.
+#![tactic(auto)]
+
 ghost use Rattle.std.specs.Prelude.{◌≡◌, ◌+◌, ◌*◌, ◌/◌, ◌≤◌, ◌<◌, ltb, length};
 ghost use Rattle.std.proofs.Math.Option.{none};
 ghost use Rattle.rules.specs.Set.{first_letters, entry_in, header_k, header_n, set_check, set_of};

@@ -16,7 +16,7 @@ returns-then-set-n c = elim c.if-n-le16777216.branch [
           let g = u.if-n-le16777216.true in
           let count = sym u.value-is ∙ c.if-set-n.true in
           c.rest_zero.ensures
-          ∙ sym (rw (eq-eqb _ _ g.0, le-leb _ _ g.1, le-leb _ _ g.2, count) at (header-test c.args.set.now _ _ c.requires.1 c.requires.2))
+          ∙ (rw (eq-eqb _ _ g.0, le-leb _ _ g.1, le-leb _ _ g.2, count) at (header-test c.args.set.now _ _ c.requires.1 c.requires.2))
       | else-n-le16777216 u ↦ absurd (elim c.if-k-le31.branch [
         | then-k-le31 v ↦ let e = sym v.t-6-is ∙ sym u.value-is ∙ c.if-set-n.true in grind (arith, nat_tests, u.if-n-le16777216.either)
         | else-k-le31 v ↦ elim c.if-k-eq1.branch [
@@ -29,9 +29,10 @@ returns-then-set-n c = elim c.if-n-le16777216.branch [
 pub returns-else-set-n : goal.returns-else-set-n
 returns-else-set-n c = elim c.if-n-le16777216.branch [
       | then-n-le16777216 u ↦
+          let g = u.if-n-le16777216.true in
           let count = sym u.value-is ∙ c.if-set-n.false in
-          let all : Bool = sizes c.args.k c.args.n in
-          c.if-set-n.false ∙ ?
+          c.if-set-n.false
+          ∙ (rw (eq-eqb _ _ g.0, le-leb _ _ g.1, le-leb _ _ g.2, count) at (header-test c.args.set.now _ _ c.requires.1 c.requires.2))
       | else-n-le16777216 u ↦
           let b = u.if-n-le16777216.either in
           let short : sizes c.args.k c.args.n ≡ false = grind (arith, nat_tests, u.if-n-le16777216.either) in
