@@ -1,4 +1,6 @@
 // Document 02, W7: an offered index checked against the set, word by word, refusal 15.
+#![tactic(auto)]
+
 ghost use Rattle.std.specs.Prelude.{◌≡◌, ◌*◌, ◌≤◌, eqb, length, get_or};
 ghost use Rattle.rules.specs.Refusal.{first_failing, unless};
 ghost use Rattle.rules.specs.Set.{is_none, check_right, set_of};

@@ -1,4 +1,6 @@
 // A set made ready for lookups: its table of starts, and the header that goes with it.
+#![tactic(auto)]
+
 ghost use Rattle.std.specs.Prelude.{◌≡◌, ◌+◌, ◌-◌, ◌*◌, ◌≤◌, length};
 ghost use Rattle.std.proofs.Math.Option.{none};
 ghost use Rattle.rules.specs.Set.{max_k, max_keys, header_k, header_n, set_check, set_of, first_letters};

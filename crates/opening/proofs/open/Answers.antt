@@ -28,7 +28,7 @@ first-right c = sym c.check_right.ensures ∙ not-false _ c.if-not-check_right.f
 
 pub returns-then-set-eq0 : goal.returns-then-set-eq0
 returns-then-set-eq0 c =
-    refused-by _ _ (at_7 _ (⊎_elim (λ w. length-zero _ w.taken) (λ w. length-odd _ (eqb-false _ _ (not-true _ w.1.taken))) c.if-set-eq0.branch))
+    refused-by _ _ (at_7 _ (⊎_elim (λ w. length-zero _ w) (λ w. length-odd _ w.1) c.then-set-eq0.either))
 
 pub check_right-requires : goal.check_right-requires
 check_right-requires c = long c

@@ -1,0 +1,46 @@
+use Prim.Native.Nat.{◌+◌, ◌*◌, ◌-◌, ◌%◌, ◌^◌}
+use native.Mathlib.Omega.{arith}
+use mathlib.Core.Path.{◌≡◌, ap, ◌∙◌}
+use lib.ListN.{length}
+use Rattle.rules.specs.Set.{header_k, first_letters}
+use Rattle.rules.specs.Index.{index_entries}
+use Rattle.index.proofs.Laws.{shifted, count-few}
+use Rattle.set.proofs.Opened.{opened-k-low, opened-k-high}
+use Rattle.prepare.proofs.Indexed.{entry-small, index-length, index-table}
+use Rattle.prepare.proofs.by_index.Goals.{After-letters-bits}
+use Rattle.prepare.proofs.by_index.Goals as goal
+
+-- As many entries as an index has.
+count : (c : After-letters-bits) → let a = c.args in
+    1 * 2 ^ (2 * c.letters-bits.result) % 2 ^ 64 + 1 ≡ index_entries a.k
+count c = shifted _ c.letters-bits.result c.letters-bits.ensures
+
+pub overflow_add-bits : goal.overflow_add-bits
+overflow_add-bits c = let a = c.args in omega (arith, count c, count-few a.k)
+
+pub copy_entries-requires : goal.copy_entries-requires
+copy_entries-requires c =
+    let e = count (goal.at.copy_entries-requires c).After-letters-bits ∙ ap index_entries c.requires.1 in
+    let long = ap length c.requires.4 ∙ index-length _ c.requires.0 in
+    ((omega (arith, count (goal.at.copy_entries-requires c).After-letters-bits, count-few c.args.k, c.requires.3), rw (e, long) (omega arith)), rw (e, c.requires.4) (entry-small _ c.requires.0))
+
+pub header-requires : goal.header-requires
+header-requires c =
+    omega (arith, c.letters-bits.ensures, c.requires.1, opened-k-low _ c.requires.0, opened-k-high _ c.requires.0)
+
+pub returns : goal.returns
+returns c =
+    let h = c.header.ensures in
+    let k_is = h.1 ∙ c.requires.1 in
+    let e = count (goal.at.returns c).After-letters-bits ∙ ap index_entries c.requires.1 in
+    let same = rw (e, c.requires.4) at c.copy_entries.ensures in
+    let shift_is : c.header.result.shift ≡ 2 * (c.args.k - first_letters c.args.k) = omega (arith, h.3, c.letters-bits.ensures) in (
+      record {
+        k_is = k_is;
+        n_is = h.2 ∙ c.requires.2;
+        shifts = h.0;
+        table = rw h.4 (index-table _ c.requires.0 _ c.header.result.shift (rw c.requires.1 at shift_is) (omega (arith, c.requires.3, count-few (header_k c.args.set.now))) same);
+      },
+      h.1,
+      omega (arith, shift_is, h.4),
+    )
