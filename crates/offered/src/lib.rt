@@ -1,5 +1,6 @@
 // The set of a call and what is offered with it: checks 7 to 10, 15 and 16 of documents 01 and 02, and lookups made ready.
 #![tactic(auto)]
+
 ghost use Rattle.std.specs.Prelude.{◌≡◌, length};
 ghost use Rattle.set.specs.Ready.{table_length};
 ghost use Rattle.offered.specs.Offered.{OfferedIs, IsRefused};

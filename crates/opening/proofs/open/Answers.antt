@@ -11,7 +11,7 @@ use Rattle.rules.specs.Set as Rules
 use Rattle.refusal.specs.declared.Refusal.TheVariants.{Header}
 use Rattle.blocks.proofs.First.{passed, failed}
 use Rattle.opening.proofs.Opening.{length-right, length-zero, length-odd, refused-by, at_7, at_8, at_9, after-8}
-use Rattle.opening.proofs.open.Goals.{Else-not-check_right, Else-set-ne0}
+use Rattle.opening.proofs.open.Goals.{Else-not-check_right, Else-set-ne0, then-set-eq0-via-then-set-eq0, then-set-eq0-via-else-set-eq0+then-set-ne0}
 use Rattle.opening.proofs.open.Goals as goal
 
 whole : (c : Else-set-ne0) → length c.args.set.now % 512 ≡ 0
@@ -28,7 +28,10 @@ first-right c = sym c.check_right.ensures ∙ not-false _ c.if-not-check_right.f
 
 pub returns-then-set-eq0 : goal.returns-then-set-eq0
 returns-then-set-eq0 c =
-    refused-by _ _ (at_7 _ (⊎_elim (λ w. length-zero _ w) (λ w. length-odd _ w.1) c.then-set-eq0.either))
+    refused-by _ _ (at_7 _ (elim c.then-set-eq0.branch [
+      | then-set-eq0-via-then-set-eq0 w ↦ length-zero _ w.if-set-eq0.true
+      | then-set-eq0-via-else-set-eq0+then-set-ne0 w ↦ length-odd _ w.if-set-ne0.true
+    ]))
 
 pub check_right-requires : goal.check_right-requires
 check_right-requires c = long c

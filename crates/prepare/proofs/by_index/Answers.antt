@@ -22,7 +22,10 @@ pub copy_entries-requires : goal.copy_entries-requires
 copy_entries-requires c =
     let e = count (goal.at.copy_entries-requires c).After-letters-bits ∙ ap index_entries c.requires.1 in
     let long = ap length c.requires.4 ∙ index-length _ c.requires.0 in
-    ((omega (arith, count (goal.at.copy_entries-requires c).After-letters-bits, count-few c.args.k, c.requires.3), rw (e, long) (omega arith)), rw (e, c.requires.4) (entry-small _ c.requires.0))
+    record {
+      entries_in_bounds = (omega (arith, count (goal.at.copy_entries-requires c).After-letters-bits, count-few c.args.k, c.requires.3), rw (e, long) (omega arith));
+      by_index = rw (e, c.requires.4) (entry-small _ c.requires.0);
+    }
 
 pub header-requires : goal.header-requires
 header-requires c =
