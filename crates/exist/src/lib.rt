@@ -1,4 +1,6 @@
 // Document 01, "Correctors", One and Two: ports src/correct/exist/mod.rs. The choice among the scenarios that trials keep.
+#![tactic(auto)]
+
 ghost use Rattle.std.specs.Prelude.{◌≡◌, ◌≤◌, ◌<◌, ◌^◌, length, take};
 ghost use Rattle.rules.specs.Letters.{in_place};
 ghost use Rattle.rules.specs.Set.{solid, set_of, count_of};

@@ -1,5 +1,7 @@
 // Document 01, "GapSize": the moves of src/correct/gap_size.rs where the index is above k. Document 02, W8: the smallest count of the k-mers
 // from x on.
+#![tactic(auto)]
+
 ghost use Rattle.std.specs.Prelude.{◌<◌, length};
 ghost use Rattle.gap.specs.Gap.{Fillable, GapIs};
 

@@ -1,4 +1,6 @@
 // The k-mers that a gap passed, found again from its letters: whether the next one is among them, with a filter that saves comparing.
+#![tactic(auto)]
+
 mod filter;
 
 ghost use Rattle.std.specs.Prelude.{◌≡◌, ◌<◌, length};

@@ -1,5 +1,7 @@
 // Document 01, "Successors and scan", and document 02, W5: ports `error_len` of src/correct/mod.rs, and declares what every
 // corrector's `correct_error` answers.
+#![tactic(auto)]
+
 ghost use Rattle.std.specs.Prelude.{◌≡◌, ◌≤◌, length};
 ghost use Rattle.rules.specs.Letters.{add_base, add_all};
 ghost use Rattle.rules.specs.Set.{solid, set_of};

@@ -1,5 +1,7 @@
 // Document 01, "Correctors", the scenarios of One and Two: ports the trait `Scenario` of src/correct/exist/mod.rs. A scenario is its number
 // in the source's order.
+#![tactic(auto)]
+
 mod one;
 mod two;
 

@@ -1,4 +1,6 @@
 // Document 01, "Successors and scan", and document 02, W5: ports `next_nucs` and `alt_nucs` of src/correct/mod.rs.
+#![tactic(auto)]
+
 ghost use Rattle.std.specs.Prelude.{◌≡◌, Bool, ℕ};
 ghost use Rattle.rules.specs.Letters.{add, drop_last};
 ghost use Rattle.rules.specs.Set.{solid, set_of};

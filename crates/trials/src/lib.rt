@@ -1,5 +1,7 @@
 // Document 01, "Correctors", One and Two: the trials of src/correct/exist/mod.rs. A scenario is its number in the source's order. A k-mer that
 // holds an unknown letter isn't solid, and no lookup is made or counted for it (document 02, W5).
+#![tactic(auto)]
+
 ghost use Rattle.std.specs.Prelude.{◌≤◌, ◌<◌};
 ghost use Rattle.rules.specs.Set.{solid, set_of};
 ghost use Rattle.rules.specs.Exist as rules;

@@ -1,5 +1,7 @@
 // Document 01, "Graph": the walk of src/correct/graph.rs. The mark takes the place of the source's hash set. Document 02, W6: the source's
 // question whether the current k-mer is solid is not put; W8: the smallest count of the walk's k-mers.
+#![tactic(auto)]
+
 ghost use Rattle.std.specs.Prelude.{◌≡◌, [], ◌∷◌, ◌+◌, ◌^◌, ◌<◌, set as put};
 ghost use Rattle.rules.specs.Letters as letters;
 ghost use Rattle.rules.specs.Letters.{last_letter, in_place};

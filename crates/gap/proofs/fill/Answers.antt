@@ -1,0 +1,178 @@
+use Prim.Native.Nat.{◌-◌, ◌*◌, ◌≤◌, ◌<◌, min}
+use native.Mathlib.Omega.{arith}
+use mathlib.Core.Path.{◌≡◌, refl, sym, ap, ◌∙◌}
+use mathlib.Core.Option.{some}
+use lib.ListN.{length}
+use Rattle.rules.specs.Set.{max_keys, solid, set_of, count_of}
+use Rattle.rules.specs.Scan.{sole}
+use Rattle.rules_laws.proofs.Scan.{ask-known}
+use Rattle.kmer.specs.declared.Kmer.{Kmer}
+use Rattle.kmer.specs.Kmer.{kmer_of, IsKmer}
+use Rattle.set.specs.Counted.{set_with}
+use Rattle.successors.proofs.Laws.{no-next, next-kmer, nuc-lt, sole-known, known-asked}
+use Rattle.walk.proofs.Laws.{move-count}
+use Rattle.passed.proofs.Bits.{move-begins}
+use Rattle.gap.proofs.Laws.{passed_none, filling-start, gap-dead, gap-repeats, passed-more, gap-goes, gap-bound, gap-room, gap-refused, gap-mends}
+use Rattle.gap.proofs.fill.Goals.{After-add_nuc_to_end-next, After-lower-weakest, After-meet-met, At-loop-i, In-Nuc}
+use Rattle.gap.proofs.fill.Goals as goal
+
+room : (c : At-loop-i) → length c.loop-i.out ≡ length c.args.out.now
+room c = c.loop-i.invariant.4 ∙ c.write_last.auto.0
+
+words : (c : At-loop-i) → length c.loop-i.filter ≡ length c.args.filter.now
+words c = c.loop-i.invariant.3 ∙ c.begin-before.ensures.same
+
+few_lookups : (c : At-loop-i) → 4 * c.loop-i.i ≤ 8 * max_keys
+unfolding kmer_of
+few_lookups c = (let f = c.requires.0 in gap-room c.loop-i.invariant.7 (gap-bound f.ready _ _ f.kmer.small f.lit))
+
+low : (c : At-loop-i) → 1 ≤ c.args.head.k
+low c = c.requires.0.ready.shifts.k_low
+
+-- the move: to the sole solid successor
+abbrev next : After-add_nuc_to_end-next → Kmer
+next c = c.add_nuc_to_end-next.result
+
+told : (c : After-add_nuc_to_end-next)
+    → let b = entry (goal.at.After-add_nuc_to_end-next c).At-loop-i in
+    ((sole b.args.head.k (solid (set_of b.args.set.now)) (kmer_of c.loop-i.at)).answer ≡ some (kmer_of (next c))) × IsKmer b.args.head.k (next c)
+told c =
+    next-kmer _ _ _ c.sole_nuc.result c.next_nucs.ensures.0 c.sole_nuc.ensures _ c.in-Nuc.is c.add_nuc_to_end-next.ensures
+
+small : (c : In-Nuc) → c.in-Nuc.nuc < 4
+small c =
+    nuc-lt _ _ _ c.sole_nuc.result c.next_nucs.ensures.0 c.sole_nuc.ensures _ c.in-Nuc.is
+
+-- its count weighed
+weighed : (c : After-lower-weakest)
+    → let b = entry (goal.at.After-lower-weakest c).After-struct_known-3-1 in
+    c.lower-weakest.result ≡ min c.loop-i.weakest (count_of (set_with b.args.set.now b.args.counts.now) (kmer_of (next (goal.at.After-lower-weakest c).In-Nuc)))
+weighed c =
+    c.lower-weakest.ensures
+    ∙ ap (min _)
+    (move-count _ _ _ _ c.sole_nuc.result c.next_nucs.ensures.0 c.sole_nuc.ensures _ (next (goal.at.After-lower-weakest c).In-Nuc) c.in-Nuc.is
+    c.add_nuc_to_end-next.ensures c.next_nucs.ensures.1 c.count_at.ensures)
+
+words-after : (c : After-meet-met)
+    → length c.meet-met.new.1.1.1.1.1.1.0 ≡ length (entry (goal.at.After-meet-met c).After-struct_known-3-1).args.filter.now
+words-after c = c.meet-met.ensures.same ∙ words (goal.at.After-meet-met c).After-struct_known-3-1
+
+pub overflow_add-lookups : goal.overflow_add-lookups
+overflow_add-lookups c = omega (arith, c.requires)
+
+pub begin-before-requires : goal.begin-before-requires
+begin-before-requires c = (c.requires.0.ready.shifts, c.requires.1)
+
+pub overflow_sub-moves : goal.overflow_sub-moves
+overflow_sub-moves c = let f = c.requires.0 in omega (arith, f.above, f.ready.shifts.k_low)
+
+pub loop-i-init : goal.loop-i-init
+loop-i-init c =
+    let w = c.write_last in (
+      omega arith,
+      rw w.auto.0 c.requires.0.room,
+      omega arith,
+      refl,
+      refl,
+      c.requires.0.kmer,
+      ask-known _ _ c.requires.0.lit,
+      rw (w.ensures, c.requires.0.weighs) (filling-start _ _ _ _ _ c.args.out.now (omega (arith, c.requires.0.room))),
+      rw passed_none c.begin-before.ensures.covers,
+    )
+
+pub overflow_add-lookups-in-loop-i : goal.overflow_add-lookups-in-loop-i
+overflow_add-lookups-in-loop-i c = omega (arith, few_lookups (goal.at.overflow_add-lookups-in-loop-i c).At-loop-i, c.loop-i.invariant.2, c.requires.0)
+
+pub next_nucs-requires : goal.next_nucs-requires
+next_nucs-requires c = (c.requires.0.ready, c.loop-i.invariant.5, known-asked _ _ (low (goal.at.next_nucs-requires c).At-loop-i) c.loop-i.invariant.6)
+
+pub shape_of-filter-in_default : goal.shape_of-filter-in_default
+shape_of-filter-in_default c = words (goal.at.shape_of-filter-in_default c).At-loop-i
+
+pub shape_of-out-in_default : goal.shape_of-out-in_default
+shape_of-out-in_default c = room (goal.at.shape_of-out-in_default c).At-loop-i
+
+pub returns-in_default : goal.returns-in_default
+returns-in_default c =
+    λ y h. record {
+      is = gap-refused _ _ _ _ _ _ _
+          (gap-dead (low (goal.at.returns-in_default c).At-loop-i) c.loop-i.invariant.6 c.loop-i.invariant.7 c.loop-i-test.true
+          (no-next _ _ _ c.sole_nuc.result c.next_nucs.ensures.0 c.sole_nuc.ensures c.in_default.is))
+          (omega (arith, c.loop-i.invariant.2));
+      room = room (goal.at.returns-in_default c).At-loop-i;
+    }
+
+pub add_nuc_to_end-next-requires : goal.add_nuc_to_end-next-requires
+add_nuc_to_end-next-requires c =
+    (c.requires.0.ready.shifts, c.loop-i.invariant.5, omega (arith, small c))
+
+pub meet-met-requires : goal.meet-met-requires
+meet-met-requires c =
+    let f = c.requires.0 in
+    let lt = c.loop-i-test.true in
+    ((f.ready.shifts, f.kmer, omega (arith, c.loop-i.inv.1, lt), rw (words (goal.at.meet-met-requires c).After-struct_known-3-1) c.requires.1), rw (move-begins _ _ _ _ f.ready.shifts.k_low (told (goal.at.meet-met-requires c).In-Nuc).0) c.loop-i.inv.8)
+
+pub shape_of-filter-then-met : goal.shape_of-filter-then-met
+shape_of-filter-then-met c = words-after (goal.at.shape_of-filter-then-met c).After-meet-met
+
+pub shape_of-out-then-met : goal.shape_of-out-then-met
+shape_of-out-then-met c = room (goal.at.shape_of-out-then-met c).After-struct_known-3-1
+
+pub returns-then-met : goal.returns-then-met
+returns-then-met c =
+    λ y h. record {
+      is = gap-refused _ _ _ _ _ _ _
+          (gap-repeats (low (goal.at.returns-then-met c).After-struct_known-3-1) c.loop-i.inv.6 c.loop-i.inv.7 c.loop-i-test.true _ (told (goal.at.returns-then-met c).In-Nuc).0
+          (sym c.meet-met.ensures.is ∙ c.if-met.true))
+          (omega (arith, c.loop-i.inv.2));
+      room = room (goal.at.returns-then-met c).After-struct_known-3-1;
+    }
+
+pub offset_bounds-places-nuc : goal.offset_bounds-places-nuc
+offset_bounds-places-nuc c = omega (arith, small (goal.at.offset_bounds-places-nuc c).In-Nuc-2)
+
+pub bounds-places-nuc : goal.bounds-places-nuc
+bounds-places-nuc c = omega (arith, small (goal.at.bounds-places-nuc c).In-Nuc-2)
+
+pub overflow_add-i : goal.overflow_add-i
+overflow_add-i c = omega (arith, few_lookups (goal.at.overflow_add-i c).After-struct_known-3-1)
+
+pub overflow_add-i : goal.overflow_add-i
+overflow_add-i c = omega (arith, few_lookups (goal.at.overflow_add-i c).After-filter-1)
+
+pub loop-i-smaller : goal.loop-i-smaller
+loop-i-smaller c = omega (arith, c.loop-i-test.taken)
+
+pub loop-i-preserved : goal.loop-i-preserved
+loop-i-preserved c =
+    let w = c.write_last-in-loop-i in
+    let q = c.meet-met.ensures in
+    let i = c.loop-i.inv in
+    let lt = c.loop-i-test.true in
+    let new = sym q.is ∙ c.if-met.false in (
+      omega arith,
+      rw w.auto.0 i.1,
+      omega (arith, i.2),
+      q.same ∙ i.3,
+      w.auto.0 ∙ i.4,
+      (told (goal.at.loop-i-preserved c).In-Nuc).1,
+      sole-known _ _ _ _ (told (goal.at.loop-i-preserved c).In-Nuc).0,
+      rw (w.ensures, weighed (goal.at.loop-i-preserved c).After-lower-weakest) (gap-goes (low (goal.at.loop-i-preserved c).After-struct_known-3-1) i.6 i.7 lt _ (told (goal.at.loop-i-preserved c).In-Nuc).0 (omega (arith, i.1)) new),
+      rw (w.ensures, passed-more (low (goal.at.loop-i-preserved c).After-struct_known-3-1) i.6 i.7 lt _ (told (goal.at.loop-i-preserved c).In-Nuc).0 (omega (arith, i.1))) q.covers,
+    )
+
+pub overflow_add-letters : goal.overflow_add-letters
+overflow_add-letters c = omega (arith, c.loop-i.invariant.1, room (goal.at.overflow_add-letters c).At-loop-i, c.well_formed.1.1.1.1.1.1.1.1.0)
+
+pub shape_of-filter : goal.shape_of-filter
+shape_of-filter c = words (goal.at.shape_of-filter c).At-loop-i
+
+pub shape_of-out : goal.shape_of-out
+shape_of-out c = room (goal.at.shape_of-out c).At-loop-i
+
+pub returns : goal.returns
+returns c =
+    λ y h. record {
+      is = gap-mends _ _ _ _ _ c.loop-i.invariant.7 c.loop-i.invariant.5 c.loop-i-test.false c.loop-i.invariant.0 _ (omega (arith, c.loop-i.invariant.2)) y h;
+      room = room (goal.at.returns c).At-loop-i;
+    }

@@ -1,0 +1,20 @@
+use mathlib.Core.Path.{sym, ◌∙◌}
+use mathlib.Core.Logic.{inl, inr, ⊎_elim}
+use Rattle.kmer.specs.Kmer.{kmer_of}
+use Rattle.passed.specs.Filter.{suffix, Noted}
+use Rattle.passed.proofs.Bits.{asked, not-passed}
+use Rattle.passed.proofs.meet.Goals.{After-note-maybe}
+use Rattle.passed.proofs.meet.Goals as goal
+
+-- the next k-mer's last letters are noted
+told : (c : After-note-maybe) → Noted c.args.filter.now c.note-maybe.new.0 (suffix c.args.head.k (kmer_of c.args.next)) c.note-maybe.result
+told c = rw c.suffix_of.ensures at c.note-maybe.ensures
+
+pub returns-then-maybe : goal.returns-then-maybe
+returns-then-maybe c =
+    asked _ _ c.requires.covers (told (goal.at.returns-then-maybe c).After-note-maybe) c.seen-repeats.ensures
+
+pub returns-else-maybe : goal.returns-else-maybe
+returns-else-maybe c =
+    let h = c.requires.covers in
+    asked _ _ h (told (goal.at.returns-else-maybe c).After-note-maybe) (c.if-maybe.false-raw ∙ not-passed _ _ h (told (goal.at.returns-else-maybe c).After-note-maybe) (⊎_elim (λ w. inr (sym w.1 ∙ c.if-maybe.false-raw)) (λ w. inl w.0.left) c.if-before.branch))
