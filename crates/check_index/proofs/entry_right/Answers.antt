@@ -8,7 +8,7 @@ use Rattle.rules.specs.Set.{set_of}
 use Rattle.rules.specs.Index.{index_entry}
 use Rattle.index.proofs.Laws.{entry-le}
 use Rattle.check_index.proofs.Laws.{not_behind}
-use Rattle.check_index.proofs.entry_right.Goals.{Joined-entry-gt0, Start}
+use Rattle.check_index.proofs.entry_right.Goals.{Joined-entry-gt0, Start, then-entry-gt0+else-not-is_below, else-entry-gt0}
 use Rattle.check_index.proofs.entry_right.Goals as goal
 
 -- The right entry.
@@ -30,10 +30,14 @@ returns-then-not-is_below c =
 -- The key before it has first letters below v, if there is one: the right entry is no less.
 no_less : (c : Joined-entry-gt0) → c.args.entry ≤ right (goal.at.Joined-entry-gt0 c).Start
 no_less c =
-    ⊎_elim
-    (λ w. omega (arith, w.0.taken, ltb-true (c.args.entry - 1) (right (goal.at.Joined-entry-gt0 c).Start) (sym w.1.ensures ∙ not-false _ w.2.left)))
-    (λ w. omega (arith, w.left))
-    c.if-entry-gt0.branch
+    elim c.if-entry-gt0.branch [
+      | then-entry-gt0+else-not-is_below w ↦ omega (
+        arith,
+        w.if-entry-gt0.true,
+        ltb-true (c.args.entry - 1) (right (goal.at.Joined-entry-gt0 c).Start) (sym w.is_below.ensures ∙ w.if-not-is_below.false),
+      )
+      | else-entry-gt0 w ↦ omega (arith, w.if-entry-gt0.false)
+    ]
 
 pub returns-then-entry-n : goal.returns-then-entry-n
 returns-then-entry-n c =

@@ -23,7 +23,7 @@ returns-in_default c = inl (set-refused _ _ _ c.refused.ensures c.open-opened.en
 opens : (c : In-Set) → (let a = c.args in opened a.set.now ≡ accepted (set_of a.set.now))
 opens c = set-opened _ _ _ _ c.in-Set.is c.open-opened.ensures
 
-checked : (c : In-Set) → (let o = c.opened-1.given.0 in Opens c.args.set.now o.0 o.1.0)
+checked : (c : In-Set) → Opens c.args.set.now c.in-Set.k c.in-Set.n
 checked c =
     let t = set-checked _ _ _ _ c.in-Set.is c.open-opened.ensures in
     record { right = t.0; k_is = t.1; n_is = t.2 }
