@@ -1,4 +1,6 @@
 // Document 01, "GapSize": ports src/correct/gap_size.rs.
+#![tactic(auto)]
+
 ghost use Rattle.std.specs.Prelude.{◌-◌, ◌^◌, ◌≤◌, ◌<◌, length};
 ghost use Rattle.rules.specs.Set.{solid, set_of, count_of};
 ghost use Rattle.rules.specs.Counted.{after};
