@@ -16,7 +16,7 @@ use Rattle.set.proofs.Opened.{opened-n-le}
 use Rattle.scan.specs.Scan.{scan_of}
 use Rattle.successors.proofs.Laws.{no-next, next-kmer, nuc-lt, sole-known, known-asked}
 use Rattle.walk.proofs.Laws.{move-count, Arrived, going_start, walk-dead, walk-arrives, walk_meets, walk-marks, walk-goes, walk-stays, walk-over, walk_refused, walk-mends}
-use Rattle.walk.proofs.walk.Goals.{After-add_nuc_to_end-next, After-lower-weakest, After-write_last-in-loop-moves, At-loop-moves, In-Nuc, Start, Then-same-2}
+use Rattle.walk.proofs.walk.Goals.{After-add_nuc_to_end-next, After-lower-weakest, After-write_last-in-loop-moves, At-loop-moves, In-Nuc, Start, Then-same-2, then-moves-marks_at, else-moves-marks_at}
 use Rattle.walk.proofs.walk.Goals as goal
 
 abbrev sol : At-loop-moves → ℕ → Bool
@@ -26,7 +26,7 @@ abbrev count : At-loop-moves → rules.Kmer → ℕ
 count c = count_of (set_with c.args.set.now c.args.counts.now)
 
 room : (c : At-loop-moves) → length c.loop-moves.out ≡ length c.args.out.now
-room c = c.loop-moves.invariant.4 ∙ c.write_last.auto.0
+room c = c.loop-moves.invariant.4 ∙ c.write_last.auto.out
 
 low : (c : At-loop-moves) → 1 ≤ c.args.head.k
 low c = c.requires.0.shifts.k_low
@@ -36,8 +36,7 @@ abbrev next : After-add_nuc_to_end-next → Kmer
 next c = c.add_nuc_to_end-next.result
 
 told : (c : After-add_nuc_to_end-next)
-    → let b = entry (goal.at.After-add_nuc_to_end-next c).At-loop-moves in
-    ((sole b.args.head.k (sol (goal.at.After-add_nuc_to_end-next c).At-loop-moves) (kmer_of c.loop-moves.at)).answer ≡ some (kmer_of (next c))) × IsKmer b.args.head.k (next c)
+    → ((sole c.args.head.k (sol (goal.at.After-add_nuc_to_end-next c).At-loop-moves) (kmer_of c.loop-moves.at)).answer ≡ some (kmer_of (next c))) × IsKmer c.args.head.k (next c)
 told c =
     next-kmer _ _ _ c.sole_nuc.result c.next_nucs.ensures.0 c.sole_nuc.ensures _ c.in-Nuc.is c.add_nuc_to_end-next.ensures
 
@@ -54,15 +53,15 @@ weighed c =
     (move-count _ _ _ _ c.sole_nuc.result c.next_nucs.ensures.0 c.sole_nuc.ensures _ (next (goal.at.After-lower-weakest c).After-add_nuc_to_end-next) c.in-Nuc.is
     c.add_nuc_to_end-next.ensures c.next_nucs.ensures.1 c.count_at.ensures)
 
-room_after : (c : After-write_last-in-loop-moves) → length c.write_last-in-loop-moves.new.0 ≡ length (entry (goal.at.After-write_last-in-loop-moves c).At-loop-moves).args.out.now
-room_after c = c.write_last-in-loop-moves.auto.0 ∙ room (goal.at.After-write_last-in-loop-moves c).At-loop-moves
+room_after : (c : After-write_last-in-loop-moves) → length c.write_last-in-loop-moves.new.out ≡ length c.args.out.now
+room_after c = c.write_last-in-loop-moves.auto.out ∙ room (goal.at.After-write_last-in-loop-moves c).At-loop-moves
 
 came : (c : Then-same-2)
     → Arrived c.args.head.k c.args.head.n (sol (goal.at.Then-same-2 c).At-loop-moves) (count (goal.at.Then-same-2 c).At-loop-moves) (kmer_of c.args.scan.end) (kmer_of c.args.x) (kmer_of (next (goal.at.Then-same-2 c).After-add_nuc_to_end-next)) (4 * c.loop-moves.moves + 4) (c.loop-moves.moves + 2)
-    c.lower-weakest.result c.write_last-in-loop-moves.new.0
+    c.lower-weakest.result c.write_last-in-loop-moves.new.out
 came c =
     rw (c.write_last-in-loop-moves.ensures, weighed (goal.at.Then-same-2 c).After-lower-weakest)
-    (walk-arrives (low (goal.at.Then-same-2 c).At-loop-moves) c.loop-moves.inv.6 c.loop-moves.inv.7 c.loop-moves-test.true _ (told (goal.at.Then-same-2 c).After-add_nuc_to_end-next).0
+    (walk-arrives (low (goal.at.Then-same-2 c).At-loop-moves) c.loop-moves.invariant.6 c.loop-moves.invariant.7 c.loop-moves-test.true _ (told (goal.at.Then-same-2 c).After-add_nuc_to_end-next).0
     (sym c.same-in-loop-moves.ensures ∙ c.if-same-2.true))
 
 -- n is bounded
@@ -87,18 +86,19 @@ overflow_mul-fuel c = omega (arith, keys (goal.at.overflow_mul-fuel c).Start)
 
 pub loop-moves-init : goal.loop-moves-init
 unfolding kmer_of
-loop-moves-init c = (
-  omega arith,
-  omega (arith, keys (goal.at.loop-moves-init c).Start),
-  omega arith,
-  omega arith,
-  refl,
-  c.requires.1,
-  c.requires.2,
-  rw (c.write_last.ensures, c.requires.5)
-      (going_start _ _ _ _ (kmer_of c.args.scan.end) (kmer_of c.args.x) c.args.out.now
-      (sym c.same.ensures ∙ c.if-same.false)),
-)
+loop-moves-init c =
+    (
+      omega arith,
+      omega (arith, keys (goal.at.loop-moves-init c).Start),
+      omega arith,
+      omega arith,
+      refl,
+      c.requires.1,
+      c.requires.2,
+      rw (c.write_last.ensures, c.requires.5)
+          (going_start _ _ _ _ (kmer_of c.args.scan.end) (kmer_of c.args.x) c.args.out.now
+          (sym c.same.ensures ∙ c.if-same.false)),
+    )
 
 pub overflow_add-lookups-in-loop-moves : goal.overflow_add-lookups-in-loop-moves
 overflow_add-lookups-in-loop-moves c = omega (arith, c.loop-moves.invariant, c.requires)
@@ -131,10 +131,10 @@ pub bounds-places-nuc : goal.bounds-places-nuc
 bounds-places-nuc c = omega (arith, small (goal.at.bounds-places-nuc c).In-Nuc)
 
 pub overflow_add-moves : goal.overflow_add-moves
-overflow_add-moves c = omega (arith, c.loop-moves.inv)
+overflow_add-moves c = omega (arith, c.loop-moves.invariant)
 
 pub overflow_add-letters : goal.overflow_add-letters
-overflow_add-letters c = omega (arith, c.loop-moves.inv)
+overflow_add-letters c = omega (arith, c.loop-moves.invariant)
 
 pub shape_of-out-then-same-2 : goal.shape_of-out-then-same-2
 shape_of-out-then-same-2 c = room_after (goal.at.shape_of-out-then-same-2 c).After-write_last-in-loop-moves
@@ -142,7 +142,7 @@ shape_of-out-then-same-2 c = room_after (goal.at.shape_of-out-then-same-2 c).Aft
 pub returns-then-same-2 : goal.returns-then-same-2
 returns-then-same-2 c =
     λ y h. record {
-      is = walk-mends _ _ _ (scan_of c.args.scan) _ _ (came c) (told (goal.at.returns-then-same-2 c).After-add_nuc_to_end-next).1 _ (omega (arith, c.loop-moves.inv.3)) y h;
+      is = walk-mends _ _ _ (scan_of c.args.scan) _ _ (came c) (told (goal.at.returns-then-same-2 c).After-add_nuc_to_end-next).1 _ (omega (arith, c.loop-moves.invariant.3)) y h;
       room = room_after (goal.at.returns-then-same-2 c).After-write_last-in-loop-moves;
     }
 
@@ -153,55 +153,52 @@ pub returns-then-same-3 : goal.returns-then-same-3
 returns-then-same-3 c =
     λ y h. record {
       is = walk_refused _ _ _ (scan_of c.args.scan) _ _ _ _
-          (walk_meets (low (goal.at.returns-then-same-3 c).At-loop-moves) c.loop-moves.inv.6 c.loop-moves.inv.7 c.loop-moves-test.taken _ (told (goal.at.returns-then-same-3 c).After-add_nuc_to_end-next).0
+          (walk_meets (low (goal.at.returns-then-same-3 c).At-loop-moves) c.loop-moves.invariant.6 c.loop-moves.invariant.7 c.loop-moves-test.true _ (told (goal.at.returns-then-same-3 c).After-add_nuc_to_end-next).0
           (sym c.same-in-loop-moves.ensures ∙ c.if-same-2.false)
           (sym c.same-in-loop-moves-2.ensures ∙ c.if-same-3.true))
-          (omega (arith, c.loop-moves.inv.3));
+          (omega (arith, c.loop-moves.invariant.3));
       room = room_after (goal.at.returns-then-same-3 c).After-write_last-in-loop-moves;
     }
 
 pub overflow_add-moves-in-loop-moves : goal.overflow_add-moves-in-loop-moves
-overflow_add-moves-in-loop-moves c = omega (arith, c.loop-moves.inv)
+overflow_add-moves-in-loop-moves c = omega (arith, c.loop-moves.invariant)
 
 pub overflow_mul-marks_at : goal.overflow_mul-marks_at
-overflow_mul-marks_at c = omega (arith, c.loop-moves.inv)
-
-pub overflow_add-moves : goal.overflow_add-moves
-overflow_add-moves c = omega (arith, c.loop-moves.inv)
+overflow_mul-marks_at c = omega (arith, c.loop-moves.invariant)
 
 pub loop-moves-smaller : goal.loop-moves-smaller
-loop-moves-smaller c = omega (arith, c.loop-moves-test.taken)
+loop-moves-smaller c = omega (arith, c.loop-moves-test.true)
 
 pub loop-moves-preserved : goal.loop-moves-preserved
 loop-moves-preserved c =
-    let i = c.loop-moves.inv in
-    let lt = c.loop-moves-test.taken in
-    let same = c.write_last-in-loop-moves.auto.0 ∙ i.4 in
+    let i = c.loop-moves.invariant in
+    let lt = c.loop-moves-test.true in
+    let same = c.write_last-in-loop-moves.auto.out ∙ i.4 in
     let known = sole-known _ _ _ _ (told (goal.at.loop-moves-preserved c).After-add_nuc_to_end-next).0 in
     let ne = sym c.same-in-loop-moves.ensures ∙ c.if-same-2.false in
     let new = sym c.same-in-loop-moves-2.ensures ∙ c.if-same-3.false in
-    ⊎_elim
-    (λ v. (
+    elim c.if-moves-marks_at.branch [
+      | then-moves-marks_at v ↦ (
       omega arith,
       i.1,
-      omega (arith, v.0.taken, v.2, i.2),
+      omega (arith, v.if-moves-marks_at.true, v.marks_at-is, i.2),
       omega (arith, i.3),
       same,
       (told (goal.at.loop-moves-preserved c).After-add_nuc_to_end-next).1,
       known,
-      rw (v.1, v.2, c.write_last-in-loop-moves.ensures, weighed (goal.at.loop-moves-preserved c).After-lower-weakest) (walk-marks (low (goal.at.loop-moves-preserved c).At-loop-moves) i.6 i.7 lt _ (told (goal.at.loop-moves-preserved c).After-add_nuc_to_end-next).0 ne new v.0.taken),
-    ))
-    (λ v. (
+      rw (v.mark-is, v.marks_at-is, c.write_last-in-loop-moves.ensures, weighed (goal.at.loop-moves-preserved c).After-lower-weakest) (walk-marks (low (goal.at.loop-moves-preserved c).At-loop-moves) i.6 i.7 lt _ (told (goal.at.loop-moves-preserved c).After-add_nuc_to_end-next).0 ne new v.if-moves-marks_at.true),
+      )
+      | else-moves-marks_at v ↦ (
       omega arith,
       i.1,
-      omega (arith, v.2, i.2),
+      omega (arith, v.marks_at-is, i.2),
       omega (arith, i.3),
       same,
       (told (goal.at.loop-moves-preserved c).After-add_nuc_to_end-next).1,
       known,
-      rw (v.1, v.2, c.write_last-in-loop-moves.ensures, weighed (goal.at.loop-moves-preserved c).After-lower-weakest) (walk-goes (low (goal.at.loop-moves-preserved c).At-loop-moves) i.6 i.7 lt _ (told (goal.at.loop-moves-preserved c).After-add_nuc_to_end-next).0 ne new v.0.left),
-    ))
-    c.if-moves-marks_at.branch
+      rw (v.mark-is, v.marks_at-is, c.write_last-in-loop-moves.ensures, weighed (goal.at.loop-moves-preserved c).After-lower-weakest) (walk-goes (low (goal.at.loop-moves-preserved c).At-loop-moves) i.6 i.7 lt _ (told (goal.at.loop-moves-preserved c).After-add_nuc_to_end-next).0 ne new v.if-moves-marks_at.false),
+      )
+    ]
 
 pub shape_of-out : goal.shape_of-out
 shape_of-out c = room (goal.at.shape_of-out c).At-loop-moves
