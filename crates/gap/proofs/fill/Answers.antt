@@ -17,7 +17,7 @@ use Rattle.gap.proofs.fill.Goals.{After-add_nuc_to_end-next, After-lower-weakest
 use Rattle.gap.proofs.fill.Goals as goal
 
 room : (c : At-loop-i) → length c.loop-i.out ≡ length c.args.out.now
-room c = c.loop-i.invariant.4 ∙ c.write_last.auto.0
+room c = c.loop-i.invariant.4 ∙ c.write_last.auto.out
 
 words : (c : At-loop-i) → length c.loop-i.filter ≡ length c.args.filter.now
 words c = c.loop-i.invariant.3 ∙ c.begin-before.ensures.same
@@ -34,8 +34,7 @@ abbrev next : After-add_nuc_to_end-next → Kmer
 next c = c.add_nuc_to_end-next.result
 
 told : (c : After-add_nuc_to_end-next)
-    → let b = entry (goal.at.After-add_nuc_to_end-next c).At-loop-i in
-    ((sole b.args.head.k (solid (set_of b.args.set.now)) (kmer_of c.loop-i.at)).answer ≡ some (kmer_of (next c))) × IsKmer b.args.head.k (next c)
+    → ((sole c.args.head.k (solid (set_of c.args.set.now)) (kmer_of c.loop-i.at)).answer ≡ some (kmer_of (next c))) × IsKmer c.args.head.k (next c)
 told c =
     next-kmer _ _ _ c.sole_nuc.result c.next_nucs.ensures.0 c.sole_nuc.ensures _ c.in-Nuc.is c.add_nuc_to_end-next.ensures
 
@@ -45,7 +44,7 @@ small c =
 
 -- its count weighed
 weighed : (c : After-lower-weakest)
-    → let b = entry (goal.at.After-lower-weakest c).After-struct_known-3-1 in
+    → let b = m.before.before.before.before.before.before.before.before.before.before.before.before.before.before.before.before.before.before.before.before.before.before.before.before.before in
     c.lower-weakest.result ≡ min c.loop-i.weakest (count_of (set_with b.args.set.now b.args.counts.now) (kmer_of (next (goal.at.After-lower-weakest c).In-Nuc)))
 weighed c =
     c.lower-weakest.ensures
@@ -54,7 +53,7 @@ weighed c =
     c.add_nuc_to_end-next.ensures c.next_nucs.ensures.1 c.count_at.ensures)
 
 words-after : (c : After-meet-met)
-    → length c.meet-met.new.1.1.1.1.1.1.0 ≡ length (entry (goal.at.After-meet-met c).After-struct_known-3-1).args.filter.now
+    → length c.meet-met.new.x.1.1.1.1.1.0 ≡ length c.args.filter.now
 words-after c = c.meet-met.ensures.same ∙ words (goal.at.After-meet-met c).After-struct_known-3-1
 
 pub overflow_add-lookups : goal.overflow_add-lookups
@@ -110,7 +109,7 @@ pub meet-met-requires : goal.meet-met-requires
 meet-met-requires c =
     let f = c.requires.0 in
     let lt = c.loop-i-test.true in
-    ((f.ready.shifts, f.kmer, omega (arith, c.loop-i.inv.1, lt), rw (words (goal.at.meet-met-requires c).After-struct_known-3-1) c.requires.1), rw (move-begins _ _ _ _ f.ready.shifts.k_low (told (goal.at.meet-met-requires c).In-Nuc).0) c.loop-i.inv.8)
+    ((f.ready.shifts, f.kmer, omega (arith, c.loop-i.invariant.1, lt), rw (words (goal.at.meet-met-requires c).After-struct_known-3-1) c.requires.1), rw (move-begins _ _ _ _ f.ready.shifts.k_low (told (goal.at.meet-met-requires c).In-Nuc).0) c.loop-i.invariant.8)
 
 pub shape_of-filter-then-met : goal.shape_of-filter-then-met
 shape_of-filter-then-met c = words-after (goal.at.shape_of-filter-then-met c).After-meet-met
@@ -122,9 +121,9 @@ pub returns-then-met : goal.returns-then-met
 returns-then-met c =
     λ y h. record {
       is = gap-refused _ _ _ _ _ _ _
-          (gap-repeats (low (goal.at.returns-then-met c).After-struct_known-3-1) c.loop-i.inv.6 c.loop-i.inv.7 c.loop-i-test.true _ (told (goal.at.returns-then-met c).In-Nuc).0
+          (gap-repeats (low (goal.at.returns-then-met c).After-struct_known-3-1) c.loop-i.invariant.6 c.loop-i.invariant.7 c.loop-i-test.true _ (told (goal.at.returns-then-met c).In-Nuc).0
           (sym c.meet-met.ensures.is ∙ c.if-met.true))
-          (omega (arith, c.loop-i.inv.2));
+          (omega (arith, c.loop-i.invariant.2));
       room = room (goal.at.returns-then-met c).After-struct_known-3-1;
     }
 
@@ -137,17 +136,14 @@ bounds-places-nuc c = omega (arith, small (goal.at.bounds-places-nuc c).In-Nuc-2
 pub overflow_add-i : goal.overflow_add-i
 overflow_add-i c = omega (arith, few_lookups (goal.at.overflow_add-i c).After-struct_known-3-1)
 
-pub overflow_add-i : goal.overflow_add-i
-overflow_add-i c = omega (arith, few_lookups (goal.at.overflow_add-i c).After-filter-1)
-
 pub loop-i-smaller : goal.loop-i-smaller
-loop-i-smaller c = omega (arith, c.loop-i-test.taken)
+loop-i-smaller c = omega (arith, c.loop-i-test.true)
 
 pub loop-i-preserved : goal.loop-i-preserved
 loop-i-preserved c =
     let w = c.write_last-in-loop-i in
     let q = c.meet-met.ensures in
-    let i = c.loop-i.inv in
+    let i = c.loop-i.invariant in
     let lt = c.loop-i-test.true in
     let new = sym q.is ∙ c.if-met.false in (
       omega arith,

@@ -7,7 +7,7 @@ use Rattle.passed.proofs.meet.Goals.{After-note-maybe}
 use Rattle.passed.proofs.meet.Goals as goal
 
 -- the next k-mer's last letters are noted
-told : (c : After-note-maybe) → Noted c.args.filter.now c.note-maybe.new.0 (suffix c.args.head.k (kmer_of c.args.next)) c.note-maybe.result
+told : (c : After-note-maybe) → Noted c.args.filter.now c.note-maybe.new.filter (suffix c.args.head.k (kmer_of c.args.next)) c.note-maybe.result
 told c = rw c.suffix_of.ensures at c.note-maybe.ensures
 
 pub returns-then-maybe : goal.returns-then-maybe

@@ -20,7 +20,7 @@ sc c =
     nth (scenarios a.two a.head.k (solid (set_of a.set.now)) (kmer_of a.x) a.s.now) a.number
 
 -- the trial gave a k-mer
-given : (c : In-Kmer-2) → (let a = (start (goal.at.In-Kmer-2 c).After-apply-trial).args in
+given : (c : In-Kmer-2) → (let a = c.args in
     (trial_of a.s.now (sc (goal.at.In-Kmer-2 c).After-apply-trial) ≡ record { answer = some (kmer_of c.in-Kmer.kmer); lookups = c.apply-trial.result.lookups })
     × IsKmer a.head.k c.in-Kmer.kmer)
 given c = trial-given _ _ c.apply-trial.result _ c.apply-trial.ensures c.in-Kmer.is
@@ -29,7 +29,7 @@ given c = trial-given _ _ c.apply-trial.result _ c.apply-trial.ensures c.in-Kmer
 known : (c : After-get) → c.in-Kmer.kmer.unknown ≡ 0
 known c = omega arith
 
-asked : (c : After-get) → ask (solid (set_of (start (at (goal.at.After-get c).In-Kmer-2)).args.set.now)) (kmer_of c.in-Kmer.kmer) ≡ record { answer = is_key c.get.result; lookups = 1 }
+asked : (c : After-get) → ask (solid (set_of c.args.set.now)) (kmer_of c.in-Kmer.kmer) ≡ record { answer = is_key c.get.result; lookups = 1 }
 unfolding kmer_of
 asked c = looked-up _ _ (known c) c.get.result c.get.ensures
 
@@ -48,35 +48,35 @@ pub returns-then-kmer-ne0 : goal.returns-then-kmer-ne0
 unfolding kmer_of
 returns-then-kmer-ne0 c =
     record {
-      is = eligible-unknown _ _ _ _ (start (goal.at.returns-then-kmer-ne0 c).After-apply-trial).requires.3 (sc (goal.at.returns-then-kmer-ne0 c).After-apply-trial) (given (goal.at.returns-then-kmer-ne0 c).In-Kmer-2).0 (λ e. omega arith);
+      is = eligible-unknown _ _ _ _ c.requires.3 (sc (goal.at.returns-then-kmer-ne0 c).After-apply-trial) (given (goal.at.returns-then-kmer-ne0 c).In-Kmer-2).0 (λ e. omega arith);
       few = omega (arith, few (goal.at.returns-then-kmer-ne0 c).In-Kmer-2);
     }
 
 pub get-requires : goal.get-requires
-get-requires c = (((start (goal.at.get-requires c).After-apply-trial).requires.0, (given (goal.at.get-requires c).In-Kmer-2).1, omega arith))
+get-requires c = ((c.requires.0, (given (goal.at.get-requires c).In-Kmer-2).1, omega arith))
 
 pub returns-in_default-get : goal.returns-in_default-get
 returns-in_default-get c =
     record {
-      is = eligible-weak _ _ _ _ (start (goal.at.returns-in_default-get c).After-apply-trial).requires.3 (sc (goal.at.returns-in_default-get c).After-apply-trial) (given (goal.at.returns-in_default-get c).In-Kmer-2).0 (asked (goal.at.returns-in_default-get c).After-get) (ap is_key c.in_default-get.is);
+      is = eligible-weak _ _ _ _ c.requires.3 (sc (goal.at.returns-in_default-get c).After-apply-trial) (given (goal.at.returns-in_default-get c).In-Kmer-2).0 (asked (goal.at.returns-in_default-get c).After-get) (ap is_key c.in_default-get.is);
       few = few (goal.at.returns-in_default-get c).In-Kmer-2;
     }
 
 pub returns-then-s-start : goal.returns-then-s-start
 returns-then-s-start c =
     record {
-      is = eligible-short _ _ _ _ (start (goal.at.returns-then-s-start c).After-apply-trial).requires.3 (sc (goal.at.returns-then-s-start c).After-apply-trial) (given (goal.at.returns-then-s-start c).In-Kmer-2).0 (asked (goal.at.returns-then-s-start c).After-get) (ap is_key c.in-At.is)
+      is = eligible-short _ _ _ _ c.requires.3 (sc (goal.at.returns-then-s-start c).After-apply-trial) (given (goal.at.returns-then-s-start c).In-Kmer-2).0 (asked (goal.at.returns-then-s-start c).After-get) (ap is_key c.in-At.is)
           (rw (← (c.check_start-start.ensures.0 _ _ _ _)) c.if-s-start.true);
       few = few (goal.at.returns-then-s-start c).In-Kmer-2;
     }
 
 pub returns : goal.returns
 returns c =
-    let a = (start (goal.at.returns c).After-apply-trial).args in
+    let a = c.args in
     let long : (sc (goal.at.returns c).After-apply-trial).o + a.c ≤ length a.s.now = rw (← (c.check_start-start.ensures.0 _ _ _ _)) c.if-s-start.false in
     record {
       is = (
-        eligible-on _ _ _ _ (start (goal.at.returns c).After-apply-trial).requires.3 (sc (goal.at.returns c).After-apply-trial) (given (goal.at.returns c).In-Kmer-2).0 (asked (goal.at.returns c).After-get) (ap is_key c.in-At.is) long,
+        eligible-on _ _ _ _ c.requires.3 (sc (goal.at.returns c).After-apply-trial) (given (goal.at.returns c).In-Kmer-2).0 (asked (goal.at.returns c).After-get) (ap is_key c.in-At.is) long,
         (given (goal.at.returns c).In-Kmer-2).1,
         long,
         known (goal.at.returns c).After-get,

@@ -41,20 +41,20 @@ given c = subst (EligibleIs _ _ _ _ _ _) c.in-Kmer.is c.eligible-candidate.ensur
 starts-at : (c : After-check_start-start) → c.check_start-start.result ≡ (here (goal.at.After-check_start-start c).In-scenarios).o
 starts-at c = c.check_start-start.ensures.0 _ _ _ _
 
-long : (c : After-check_start-start) → (let a = (start (goal.at.After-check_start-start c).At-scenarios).args in c.check_start-start.result + a.c ≤ length a.s.now)
+long : (c : After-check_start-start) → (let a = c.args in c.check_start-start.result + a.c ≤ length a.s.now)
 long c = omega (arith, starts-at c, (given c).2)
 
-near : (c : After-check_start-start) → c.check_start-start.result + (start (goal.at.After-check_start-start c).At-scenarios).args.c < 260
-near c = omega (arith, c.check_start-start.ensures.1, (start (goal.at.After-check_start-start c).At-scenarios).pre.3)
+near : (c : After-check_start-start) → c.check_start-start.result + c.args.c < 260
+near c = omega (arith, c.check_start-start.ensures.1, c.requires.3)
 
 -- there is room for one more in the group
 stored : (c : After-check_start-start) → c.scenarios.count < 13
-stored c = omega (arith, c.scenarios.inv.1, c.scenarios-test.taken, c.number_of-end.ensures, number-le c.args.two)
+stored c = omega (arith, c.scenarios.invariant.1, c.scenarios-test.taken, c.number_of-end.ensures, number-le c.args.two)
 
 -- a scenario asks at most 8 times before its bases, and then once for each
 spent : (c : At-loop-j) → c.loop-j.lookups ≤ c.scenarios.number * 300 + 263
 spent c =
-    omega (arith, c.loop-j.invariant.4, c.loop-j.invariant.2, c.eligible-candidate.ensures.few, c.scenarios.inv.2, c.requires.3)
+    omega (arith, c.loop-j.invariant.4, c.loop-j.invariant.2, c.eligible-candidate.ensures.few, c.scenarios.invariant.2, c.requires.3)
 
 pub scenarios-init : goal.scenarios-init
 scenarios-init c = (search rules, search rules, search rules, refl, λ i h. absurd (omega arith), λ i h. absurd (omega arith), done_none _ _ _ _ _)
