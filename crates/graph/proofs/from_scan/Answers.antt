@@ -9,11 +9,11 @@ use Rattle.scan.specs.Scan.{scan_of}
 use Rattle.successors.specs.Successors.{AltIs}
 use Rattle.successors.proofs.Laws.{alternative-known, alternative-at-most, alternative-back}
 use Rattle.graph.proofs.Laws.{no-alternative, from-alternative}
-use Rattle.graph.proofs.from_scan.Goals.{In-Kmer-2}
+use Rattle.graph.proofs.from_scan.Goals.{In-Kmer}
 use Rattle.graph.proofs.from_scan.Goals as goal
 
 -- x and its key's index
-told : (c : In-Kmer-2)
+told : (c : In-Kmer)
     → ((alternative c.args.head.k (solid (set_of c.args.set.now)) (kmer_of c.args.kmer)).answer ≡ some (kmer_of c.in-Kmer.x))
     × IsKmer c.args.head.k c.in-Kmer.x
     × (lookup (set_of c.args.set.now) c.in-Kmer.x.code ≡ some c.in-Kmer.place)
@@ -33,11 +33,11 @@ returns-in_default c =
 pub walk-requires : goal.walk-requires
 unfolding kmer_of
 walk-requires c =
-    let weighs = c.count_at.ensures ∙ sym (with-count _ _ (kmer_of c.in-Kmer.x) _ (told (goal.at.walk-requires c).In-Kmer-2).2) in
-    (c.requires.0, (told (goal.at.walk-requires c).In-Kmer-2).1, alternative-known _ _ _ _ (told (goal.at.walk-requires c).In-Kmer-2).0, c.requires.2, c.requires.3, weighs)
+    let weighs = c.count_at.ensures ∙ sym (with-count _ _ (kmer_of c.in-Kmer.x) _ (told (goal.at.walk-requires c).In-Kmer).2) in
+    (c.requires.0, (told (goal.at.walk-requires c).In-Kmer).1, alternative-known _ _ _ _ (told (goal.at.walk-requires c).In-Kmer).0, c.requires.2, c.requires.3, weighs)
 
 pub returns : goal.returns
 returns c =
     let low = c.requires.0.shifts.k_low in
-    rw (from-alternative _ _ _ (scan_of c.args.scan) _ _ low (told (goal.at.returns c).In-Kmer-2).0)
-    (c.walk.ensures (kmer_of c.args.kmer) (alternative-back _ _ _ _ low (told (goal.at.returns c).In-Kmer-2).0))
+    rw (from-alternative _ _ _ (scan_of c.args.scan) _ _ low (told (goal.at.returns c).In-Kmer).0)
+    (c.walk.ensures (kmer_of c.args.kmer) (alternative-back _ _ _ _ low (told (goal.at.returns c).In-Kmer).0))
