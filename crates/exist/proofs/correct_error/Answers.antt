@@ -18,7 +18,7 @@ use Rattle.exist.specs.declared.Pick.TheVariants.{Mend as Use}
 use Rattle.exist.specs.Exist.{PickIs}
 use Rattle.successors.proofs.Laws.{alternative-at-most}
 use Rattle.exist.proofs.Attempts.{exist-none, exist-answer, exist-lookups, refused, mended}
-use Rattle.exist.proofs.correct_error.Goals.{After-choose-choice, In-Kmer-2, In-Mend-2, Joined-mend-out, Start}
+use Rattle.exist.proofs.correct_error.Goals.{After-choose-choice, In-Kmer, In-Mend, Joined-mend-out, Start}
 use Rattle.exist.proofs.correct_error.Goals as goal
 
 abbrev attempt : Start → Try Mend
@@ -27,26 +27,26 @@ attempt c =
     let sol = solid (set_of a.set.now) in
     after a.made (exist a.head.k sol a.c a.s.now (scenarios a.two a.head.k sol) (kmer_of a.kmer))
 
-low : (c : In-Kmer-2) → 1 ≤ c.args.head.k
+low : (c : In-Kmer) → 1 ≤ c.args.head.k
 low c = c.requires.0.shifts.k_low
 
 -- the alternative
-x-is : (c : In-Kmer-2) → (let a = c.args in
+x-is : (c : In-Kmer) → (let a = c.args in
     AltIs a.head.k (set_of a.set.now) (alternative a.head.k (solid (set_of a.set.now)) (kmer_of a.kmer)).answer (Kmer c.in-Kmer.x c.in-Kmer.field-1))
 x-is c = subst (AltIs _ _ _) c.in-Kmer.is c.sole_alt.ensures
 
 -- what was chosen, and what it cost, said of the attempt
 picked : (c : After-choose-choice) → PickIs (set_of c.args.set.now) (attempt (goal.at.After-choose-choice c).Start).answer c.choose-choice.result.pick
 picked c =
-    rw (exist-answer _ _ _ _ _ _ _ (low (goal.at.After-choose-choice c).In-Kmer-2) (x-is (goal.at.After-choose-choice c).In-Kmer-2).0 c.get_scenarii-scenarii.result c.get_scenarii-scenarii.ensures) c.choose-choice.ensures.is
+    rw (exist-answer _ _ _ _ _ _ _ (low (goal.at.After-choose-choice c).In-Kmer) (x-is (goal.at.After-choose-choice c).In-Kmer).0 c.get_scenarii-scenarii.result c.get_scenarii-scenarii.ensures) c.choose-choice.ensures.is
 
 paid : (c : After-choose-choice)
     → (attempt (goal.at.After-choose-choice c).Start).lookups ≡ c.args.made + 4 + c.get_scenarii-scenarii.result.lookups + c.choose-choice.result.lookups
 paid c =
-    exist-lookups _ _ _ _ _ _ _ (low (goal.at.After-choose-choice c).In-Kmer-2) (x-is (goal.at.After-choose-choice c).In-Kmer-2).0 c.get_scenarii-scenarii.result c.get_scenarii-scenarii.ensures c.choose-choice.ensures.lookups
+    exist-lookups _ _ _ _ _ _ _ (low (goal.at.After-choose-choice c).In-Kmer) (x-is (goal.at.After-choose-choice c).In-Kmer).0 c.get_scenarii-scenarii.result c.get_scenarii-scenarii.ensures c.choose-choice.ensures.lookups
 
-used : (c : In-Mend-2) → PickIs (set_of c.args.set.now) (attempt (goal.at.In-Mend-2 c).Start).answer (Use c.in-Mend.mend)
-used c = subst (PickIs _ _) c.in-Mend.is (picked (goal.at.In-Mend-2 c).After-choose-choice)
+used : (c : In-Mend) → PickIs (set_of c.args.set.now) (attempt (goal.at.In-Mend c).Start).answer (Use c.in-Mend.mend)
+used c = subst (PickIs _ _) c.in-Mend.is (picked (goal.at.In-Mend c).After-choose-choice)
 
 pub overflow_add-lookups : goal.overflow_add-lookups
 overflow_add-lookups c =
@@ -58,7 +58,7 @@ returns-in_default c =
     refused (ap (λ ((goal.at.returns-in_default c).In_default : Try Mend). c.answer) e) (ap (λ ((goal.at.returns-in_default c).In_default : Try Mend). c.lookups) e)
 
 pub get_scenarii-scenarii-requires : goal.get_scenarii-scenarii-requires
-get_scenarii-scenarii-requires c = (search rules, (x-is (goal.at.get_scenarii-scenarii-requires c).In-Kmer-2).1, search rules, search rules)
+get_scenarii-scenarii-requires c = (search rules, (x-is c).1, search rules, search rules)
 
 pub overflow_add-lookups-4 : goal.overflow_add-lookups-4
 overflow_add-lookups-4 c =
@@ -69,7 +69,7 @@ returns-in_default-pick c =
     refused (subst (PickIs _ _) c.in_default-pick.is (picked (goal.at.returns-in_default-pick c).After-choose-choice)) (paid (goal.at.returns-in_default-pick c).After-choose-choice)
 
 pub write-requires : goal.write-requires
-write-requires c = ((used (goal.at.write-requires c).In-Mend-2).1, c.if-mend-out.true)
+write-requires c = ((used (goal.at.write-requires c).In-Mend).1, c.if-mend-out.true)
 
 -- The letters stand in the output if it has room for them.
 written : (c : Joined-mend-out)
@@ -84,7 +84,7 @@ written c =
 
 pub in_place-placed-requires : goal.in_place-placed-requires
 in_place-placed-requires c =
-    (c.requires.0.shifts, c.requires.1, (used (goal.at.in_place-placed-requires c).In-Mend-2).1)
+    (c.requires.0.shifts, c.requires.1, (used (goal.at.in_place-placed-requires c).In-Mend).1)
 
 pub shape_of-out : goal.shape_of-out
 shape_of-out c = (written (goal.at.shape_of-out c).Joined-mend-out).1
@@ -93,5 +93,5 @@ pub returns : goal.returns
 returns c =
     let mend = c.in-Mend.mend in
     let b = c.args in
-    let count = with-count b.set.now b.counts.now (of_code mend.tried) mend.place (used (goal.at.returns c).In-Mend-2).2 ∙ sym c.count_at-support.ensures in
-    mended mend (used (goal.at.returns c).In-Mend-2).0 (paid (goal.at.returns c).After-choose-choice) (written (goal.at.returns c).Joined-mend-out).0 (written (goal.at.returns c).Joined-mend-out).1 count c.in_place-placed.ensures
+    let count = with-count b.set.now b.counts.now (of_code mend.tried) mend.place (used (goal.at.returns c).In-Mend).2 ∙ sym c.count_at-support.ensures in
+    mended mend (used (goal.at.returns c).In-Mend).0 (paid (goal.at.returns c).After-choose-choice) (written (goal.at.returns c).Joined-mend-out).0 (written (goal.at.returns c).Joined-mend-out).1 count c.in_place-placed.ensures

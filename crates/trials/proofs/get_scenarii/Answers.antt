@@ -49,7 +49,7 @@ near c = omega (arith, c.check_start-start.ensures.1, c.requires.3)
 
 -- there is room for one more in the group
 stored : (c : After-check_start-start) → c.scenarios.count < 13
-stored c = omega (arith, c.scenarios.invariant.1, c.scenarios-test.taken, c.number_of-end.ensures, number-le c.args.two)
+stored c = omega (arith, c.scenarios.invariant.1, c.scenarios-test.true, c.number_of-end.ensures, number-le c.args.two)
 
 -- a scenario asks at most 8 times before its bases, and then once for each
 spent : (c : At-loop-j) → c.loop-j.lookups ≤ c.scenarios.number * 300 + 263
@@ -102,13 +102,13 @@ scenarios-preserved-then-not-asked c =
     let q = tried-bad _ _ _ _ (here (goal.at.scenarios-preserved-then-not-asked c).In-scenarios) _ _ (starts-at (goal.at.scenarios-preserved-then-not-asked c).After-check_start-start) (given (goal.at.scenarios-preserved-then-not-asked c).After-check_start-start).2 bad _ (given (goal.at.scenarios-preserved-then-not-asked c).After-check_start-start).0 (omega arith) in
     let z : c.loop-j.lookups + c.ask-asked.result.lookups ≡ a.lookups + (c.eligible-candidate.result.lookups + (c.loop-j.j - c.check_start-start.result + c.ask-asked.result.lookups)) =
     omega (arith, c.loop-j.invariant.4) in (
-      omega (arith, c.loop-j.invariant.0, c.scenarios-test.taken),
-      omega (arith, c.loop-j.invariant.0, a.inv.1),
+      omega (arith, c.loop-j.invariant.0, c.scenarios-test.true),
+      omega (arith, c.loop-j.invariant.0, a.invariant.1),
       omega (arith, c.loop-j.invariant.0, asked-le _ _ c.ask-asked.ensures, spent (goal.at.scenarios-preserved-then-not-asked c).At-loop-j),
-      a.inv.3,
-      a.inv.4,
-      a.inv.5,
-      rw (c.loop-j.invariant.0, z) (done_refused _ _ _ _ _ a.inv.6 (inside (goal.at.scenarios-preserved-then-not-asked c).In-scenarios) q),
+      a.invariant.3,
+      a.invariant.4,
+      a.invariant.5,
+      rw (c.loop-j.invariant.0, z) (done_refused _ _ _ _ _ a.invariant.6 (inside (goal.at.scenarios-preserved-then-not-asked c).In-scenarios) q),
     )
 
 pub overflow_step-j : goal.overflow_step-j
@@ -151,14 +151,14 @@ scenarios-preserved c =
     let all = run-all _ _ _ _ _ _ c.loop-j.invariant.5 c.loop-j-test.false c.loop-j.invariant.2 in
     let q = tried-all _ _ _ _ (here (goal.at.scenarios-preserved c).In-scenarios) _ _ (starts-at (goal.at.scenarios-preserved c).After-check_start-start) (given (goal.at.scenarios-preserved c).After-check_start-start).2 all _ (given (goal.at.scenarios-preserved c).After-check_start-start).0 (omega arith) in
     let z : c.loop-j.lookups ≡ a.lookups + (c.eligible-candidate.result.lookups + (c.check_start-start.result + b.c - c.check_start-start.result)) = omega (arith, c.loop-j.invariant.4, c.loop-j.invariant.2, c.loop-j-test.false) in
-    let room : a.count < length a.kept = omega (arith, stored (goal.at.scenarios-preserved c).After-check_start-start, a.inv.3) in (
-      omega (arith, c.loop-j.invariant.0, c.scenarios-test.taken),
-      omega (arith, c.loop-j.invariant.0, a.inv.1),
+    let room : a.count < length a.kept = omega (arith, stored (goal.at.scenarios-preserved c).After-check_start-start, a.invariant.3) in (
+      omega (arith, c.loop-j.invariant.0, c.scenarios-test.true),
+      omega (arith, c.loop-j.invariant.0, a.invariant.1),
       omega (arith, c.loop-j.invariant.0, spent (goal.at.scenarios-preserved c).At-loop-j),
-      length-set a.kept a.count _ ∙ a.inv.3,
-      each-store a.kept a.count _ room Small gives.small a.inv.4,
-      each-store a.kept a.count _ room (Placed (set_of b.set.now)) (gives-place _ (given (goal.at.scenarios-preserved c).After-check_start-start).4 gives) a.inv.5,
-      rw (mends-store a.kept a.count c.correct.result room, gives.is, c.loop-j.invariant.0, z) (done-kept _ _ _ _ _ a.inv.6 (inside (goal.at.scenarios-preserved c).In-scenarios) q),
+      length-set a.kept a.count _ ∙ a.invariant.3,
+      each-store a.kept a.count _ room Small gives.small a.invariant.4,
+      each-store a.kept a.count _ room (Placed (set_of b.set.now)) (gives-place _ (given (goal.at.scenarios-preserved c).After-check_start-start).4 gives) a.invariant.5,
+      rw (mends-store a.kept a.count c.correct.result room, gives.is, c.loop-j.invariant.0, z) (done-kept _ _ _ _ _ a.invariant.6 (inside (goal.at.scenarios-preserved c).In-scenarios) q),
     )
 
 pub returns : goal.returns
