@@ -44,17 +44,16 @@ small c =
 
 -- its count weighed
 weighed : (c : After-lower-weakest)
-    → let b = m.before.before.before.before.before.before.before.before.before.before.before.before.before.before.before.before.before.before.before.before.before.before.before.before.before in
-    c.lower-weakest.result ≡ min c.loop-i.weakest (count_of (set_with b.args.set.now b.args.counts.now) (kmer_of (next (goal.at.After-lower-weakest c).In-Nuc)))
+    → c.lower-weakest.result ≡ min c.loop-i.weakest (count_of (set_with c.args.set.now c.args.counts.now) (kmer_of (next (goal.at.After-lower-weakest c).After-add_nuc_to_end-next)))
 weighed c =
     c.lower-weakest.ensures
     ∙ ap (min _)
-    (move-count _ _ _ _ c.sole_nuc.result c.next_nucs.ensures.0 c.sole_nuc.ensures _ (next (goal.at.After-lower-weakest c).In-Nuc) c.in-Nuc.is
+    (move-count _ _ _ _ c.sole_nuc.result c.next_nucs.ensures.0 c.sole_nuc.ensures _ (next (goal.at.After-lower-weakest c).After-add_nuc_to_end-next) c.in-Nuc.is
     c.add_nuc_to_end-next.ensures c.next_nucs.ensures.1 c.count_at.ensures)
 
 words-after : (c : After-meet-met)
-    → length c.meet-met.new.x.1.1.1.1.1.0 ≡ length c.args.filter.now
-words-after c = c.meet-met.ensures.same ∙ words (goal.at.After-meet-met c).After-struct_known-3-1
+    → length c.meet-met.new.filter ≡ length c.args.filter.now
+words-after c = c.meet-met.ensures.same ∙ words (goal.at.After-meet-met c).At-loop-i
 
 pub overflow_add-lookups : goal.overflow_add-lookups
 overflow_add-lookups c = omega (arith, c.requires)
@@ -69,7 +68,7 @@ pub loop-i-init : goal.loop-i-init
 loop-i-init c =
     let w = c.write_last in (
       omega arith,
-      rw w.auto.0 c.requires.0.room,
+      rw w.auto.out c.requires.0.room,
       omega arith,
       refl,
       refl,
@@ -109,32 +108,35 @@ pub meet-met-requires : goal.meet-met-requires
 meet-met-requires c =
     let f = c.requires.0 in
     let lt = c.loop-i-test.true in
-    ((f.ready.shifts, f.kmer, omega (arith, c.loop-i.invariant.1, lt), rw (words (goal.at.meet-met-requires c).After-struct_known-3-1) c.requires.1), rw (move-begins _ _ _ _ f.ready.shifts.k_low (told (goal.at.meet-met-requires c).In-Nuc).0) c.loop-i.invariant.8)
+    record {
+      shifts = (f.ready.shifts, f.kmer, omega (arith, c.loop-i.invariant.1, lt), rw (words (goal.at.meet-met-requires c).At-loop-i) c.requires.1);
+      covers = rw (move-begins _ _ _ _ f.ready.shifts.k_low (told (goal.at.meet-met-requires c).After-add_nuc_to_end-next).0) c.loop-i.invariant.8;
+    }
 
 pub shape_of-filter-then-met : goal.shape_of-filter-then-met
 shape_of-filter-then-met c = words-after (goal.at.shape_of-filter-then-met c).After-meet-met
 
 pub shape_of-out-then-met : goal.shape_of-out-then-met
-shape_of-out-then-met c = room (goal.at.shape_of-out-then-met c).After-struct_known-3-1
+shape_of-out-then-met c = room (goal.at.shape_of-out-then-met c).At-loop-i
 
 pub returns-then-met : goal.returns-then-met
 returns-then-met c =
     λ y h. record {
       is = gap-refused _ _ _ _ _ _ _
-          (gap-repeats (low (goal.at.returns-then-met c).After-struct_known-3-1) c.loop-i.invariant.6 c.loop-i.invariant.7 c.loop-i-test.true _ (told (goal.at.returns-then-met c).In-Nuc).0
+          (gap-repeats (low (goal.at.returns-then-met c).At-loop-i) c.loop-i.invariant.6 c.loop-i.invariant.7 c.loop-i-test.true _ (told (goal.at.returns-then-met c).After-add_nuc_to_end-next).0
           (sym c.meet-met.ensures.is ∙ c.if-met.true))
           (omega (arith, c.loop-i.invariant.2));
-      room = room (goal.at.returns-then-met c).After-struct_known-3-1;
+      room = room (goal.at.returns-then-met c).At-loop-i;
     }
 
 pub offset_bounds-places-nuc : goal.offset_bounds-places-nuc
-offset_bounds-places-nuc c = omega (arith, small (goal.at.offset_bounds-places-nuc c).In-Nuc-2)
+offset_bounds-places-nuc c = omega (arith, small (goal.at.offset_bounds-places-nuc c).In-Nuc)
 
 pub bounds-places-nuc : goal.bounds-places-nuc
-bounds-places-nuc c = omega (arith, small (goal.at.bounds-places-nuc c).In-Nuc-2)
+bounds-places-nuc c = omega (arith, small (goal.at.bounds-places-nuc c).In-Nuc)
 
 pub overflow_add-i : goal.overflow_add-i
-overflow_add-i c = omega (arith, few_lookups (goal.at.overflow_add-i c).After-struct_known-3-1)
+overflow_add-i c = omega (arith, few_lookups (goal.at.overflow_add-i c).At-loop-i)
 
 pub loop-i-smaller : goal.loop-i-smaller
 loop-i-smaller c = omega (arith, c.loop-i-test.true)
@@ -147,14 +149,14 @@ loop-i-preserved c =
     let lt = c.loop-i-test.true in
     let new = sym q.is ∙ c.if-met.false in (
       omega arith,
-      rw w.auto.0 i.1,
+      rw w.auto.out i.1,
       omega (arith, i.2),
       q.same ∙ i.3,
-      w.auto.0 ∙ i.4,
-      (told (goal.at.loop-i-preserved c).In-Nuc).1,
-      sole-known _ _ _ _ (told (goal.at.loop-i-preserved c).In-Nuc).0,
-      rw (w.ensures, weighed (goal.at.loop-i-preserved c).After-lower-weakest) (gap-goes (low (goal.at.loop-i-preserved c).After-struct_known-3-1) i.6 i.7 lt _ (told (goal.at.loop-i-preserved c).In-Nuc).0 (omega (arith, i.1)) new),
-      rw (w.ensures, passed-more (low (goal.at.loop-i-preserved c).After-struct_known-3-1) i.6 i.7 lt _ (told (goal.at.loop-i-preserved c).In-Nuc).0 (omega (arith, i.1))) q.covers,
+      w.auto.out ∙ i.4,
+      (told (goal.at.loop-i-preserved c).After-add_nuc_to_end-next).1,
+      sole-known _ _ _ _ (told (goal.at.loop-i-preserved c).After-add_nuc_to_end-next).0,
+      rw (w.ensures, weighed (goal.at.loop-i-preserved c).After-lower-weakest) (gap-goes (low (goal.at.loop-i-preserved c).At-loop-i) i.6 i.7 lt _ (told (goal.at.loop-i-preserved c).After-add_nuc_to_end-next).0 (omega (arith, i.1)) new),
+      rw (w.ensures, passed-more (low (goal.at.loop-i-preserved c).At-loop-i) i.6 i.7 lt _ (told (goal.at.loop-i-preserved c).After-add_nuc_to_end-next).0 (omega (arith, i.1))) q.covers,
     )
 
 pub overflow_add-letters : goal.overflow_add-letters

@@ -3,7 +3,7 @@ use mathlib.Core.Logic.{inl, inr, ⊎_elim}
 use Rattle.kmer.specs.Kmer.{kmer_of}
 use Rattle.passed.specs.Filter.{suffix, Noted}
 use Rattle.passed.proofs.Bits.{asked, not-passed}
-use Rattle.passed.proofs.meet.Goals.{After-note-maybe}
+use Rattle.passed.proofs.meet.Goals.{After-note-maybe, then-before, else-before}
 use Rattle.passed.proofs.meet.Goals as goal
 
 -- the next k-mer's last letters are noted
@@ -17,4 +17,8 @@ returns-then-maybe c =
 pub returns-else-maybe : goal.returns-else-maybe
 returns-else-maybe c =
     let h = c.requires.covers in
-    asked _ _ h (told (goal.at.returns-else-maybe c).After-note-maybe) (c.if-maybe.false-raw ∙ not-passed _ _ h (told (goal.at.returns-else-maybe c).After-note-maybe) (⊎_elim (λ w. inr (sym w.1 ∙ c.if-maybe.false-raw)) (λ w. inl w.0.left) c.if-before.branch))
+    asked _ _ h (told (goal.at.returns-else-maybe c).After-note-maybe)
+    (c.if-maybe.false-raw ∙ not-passed _ _ h (told (goal.at.returns-else-maybe c).After-note-maybe) (elim c.if-before.branch [
+      | then-before w ↦ inr (cc)
+      | else-before w ↦ inl w.if-before.false
+    ]))
