@@ -9,7 +9,7 @@ use Rattle.rules.specs.Counted.{Try}
 use Rattle.rules.specs.Exist.{Mend}
 use Rattle.trials.specs.Trials.{mends_of}
 use Rattle.exist.proofs.Chosen.{mends-length, mends-cons, mends-one, asked-none, asked-yes, asked-no, choose_one, choose-found, choose-refused}
-use Rattle.exist.proofs.choose.Goals.{After-loop-i, At-loop-i}
+use Rattle.exist.proofs.choose.Goals.{After-loop-i, At-loop-i, then-more, else-more}
 use Rattle.exist.proofs.choose.Goals as goal
 
 abbrev ms : At-loop-i → List Mend
@@ -48,24 +48,24 @@ loop-i-preserved c =
     let placed = c.requires.3.placed c.loop-i.i c.loop-i-test.true in
     let here = mends-cons c.args.scenarii.kept c.args.scenarii.count (fits (goal.at.loop-i-preserved c).At-loop-i) c.loop-i.i c.loop-i-test.true in
     let more = c.one_more-more.ensures in
-    ⊎_elim
-    (λ w. (
-      search rules,
-      omega (arith, w.2),
-      omega (arith, more.few),
-      λ h. rw w.1 placed,
-      rw w.1 small,
-      rw (w.1, w.2) (asked-yes _ _ _ _ _ _ c.one_more-more.result c.loop-i.invariant.5 here more.is w.0.taken),
-    ))
-    (λ w. (
-      search rules,
-      omega (arith, w.2),
-      omega (arith, more.few),
-      λ h. rw w.1 (c.loop-i.invariant.3 (rw w.2 at h)),
-      rw w.1 c.loop-i.invariant.4,
-      rw (w.1, w.2) (asked-no _ _ _ _ _ _ c.one_more-more.result c.loop-i.invariant.5 here more.is w.0.left),
-    ))
-    c.if-more.branch
+    elim c.if-more.branch [
+      | then-more w ↦ (
+        search rules,
+        omega (arith, w.remaining-is),
+        omega (arith, more.few),
+        λ h. rw w.chosen-is placed,
+        rw w.chosen-is small,
+        rw (w.chosen-is, w.remaining-is) (asked-yes _ _ _ _ _ _ c.one_more-more.result c.loop-i.invariant.5 here more.is w.if-more.true),
+      )
+      | else-more w ↦ (
+        search rules,
+        omega (arith, w.remaining-is),
+        omega (arith, more.few),
+        λ h. rw w.chosen-is (c.loop-i.invariant.3 (rw w.remaining-is at h)),
+        rw w.chosen-is c.loop-i.invariant.4,
+        rw (w.chosen-is, w.remaining-is) (asked-no _ _ _ _ _ _ c.one_more-more.result c.loop-i.invariant.5 here more.is w.if-more.false),
+      )
+    ]
 
 pub returns-then-remaining-eq1 : goal.returns-then-remaining-eq1
 returns-then-remaining-eq1 c =

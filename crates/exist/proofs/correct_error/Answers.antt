@@ -18,7 +18,7 @@ use Rattle.exist.specs.declared.Pick.TheVariants.{Mend as Use}
 use Rattle.exist.specs.Exist.{PickIs}
 use Rattle.successors.proofs.Laws.{alternative-at-most}
 use Rattle.exist.proofs.Attempts.{exist-none, exist-answer, exist-lookups, refused, mended}
-use Rattle.exist.proofs.correct_error.Goals.{After-choose-choice, In-Kmer, In-Mend, Joined-mend-out, Start}
+use Rattle.exist.proofs.correct_error.Goals.{After-choose-choice, In-Kmer, In-Mend, Joined-mend-out, Start, then-mend-out, else-mend-out}
 use Rattle.exist.proofs.correct_error.Goals as goal
 
 abbrev attempt : Start → Try Mend
@@ -55,7 +55,7 @@ overflow_add-lookups c =
 pub returns-in_default : goal.returns-in_default
 returns-in_default c =
     let e = exist-none _ _ _ _ _ _ _ (subst (AltIs _ _ _) c.in_default.is c.sole_alt.ensures) (c.alt_cost.ensures _) in
-    refused (ap (λ ((goal.at.returns-in_default c).In_default : Try Mend). c.answer) e) (ap (λ ((goal.at.returns-in_default c).In_default : Try Mend). c.lookups) e)
+    refused (ap (λ (t : Try Mend). t.answer) e) (ap (λ (t : Try Mend). t.lookups) e)
 
 pub get_scenarii-scenarii-requires : goal.get_scenarii-scenarii-requires
 get_scenarii-scenarii-requires c = (search rules, (x-is c).1, search rules, search rules)
@@ -77,10 +77,10 @@ written : (c : Joined-mend-out)
     (mend.letters ≤ length c.if-mend-out.out → take mend.letters c.if-mend-out.out ≡ (spelled_out mend).letters)
     × (length c.if-mend-out.out ≡ length c.args.out.now)
 written c =
-    ⊎_elim
-    (λ v. (λ le. rw v.5 v.2.ensures.0, rw v.5 v.2.ensures.1))
-    (λ v. (λ le. absurd (omega (arith, le, v.0.left, ap length v.1)), ap length v.1))
-    c.if-mend-out.branch
+    elim c.if-mend-out.branch [
+      | then-mend-out v ↦ (λ le. rw v.out-is v.write.ensures.0, rw v.out-is v.write.ensures.1)
+      | else-mend-out v ↦ (λ le. absurd (omega (arith, le, v.if-mend-out.false, ap length v.out-is)), ap length v.out-is)
+    ]
 
 pub in_place-placed-requires : goal.in_place-placed-requires
 in_place-placed-requires c =
