@@ -22,7 +22,7 @@ tried c =
     rw (tail-part a.read.now a.p.at ∙ rest-is _ _ _ _ _ _ _ _ c.requires.turning [], ← (with-solid a.set.now a.counts.now)) at c.correct_error-tried.ensures
 
 mended : (c : In-Mend)
-    → let m = c.tried-1.given.0 in Told (goal.at.In-Mend c).After-correct_error-tried (Mend m.0 m.1.0 m.1.1.0 m.1.1.1.0 m.1.1.1.1.0)
+    → let m = c.in-Mend in Told (goal.at.In-Mend c).After-correct_error-tried (Mend m.letters m.resume m.lookups m.support m.kmer)
 mended c = subst (Told (goal.at.In-Mend c).After-correct_error-tried) c.in-Mend.is (tried (goal.at.In-Mend c).After-correct_error-tried)
 
 refused : (c : In-Refused) → Told (goal.at.In-Refused c).After-correct_error-tried (Refused c.in-Refused.lookups)
@@ -30,7 +30,7 @@ refused c = subst (Told (goal.at.In-Refused c).After-correct_error-tried) c.in-R
 
 pub returns-in_default-tried : goal.returns-in_default-tried
 returns-in_default-tried c =
-    let e = is-full c.correct_error-tried.result (λ n r l v z e. not-mend (rw e at c.in-Mend.keys2)) (λ l e. not-refused (rw e at c.in-Refused.keys2)) in
+    let e = is-full c.correct_error-tried.result c.in_default.not-Mend c.in_default-tried.not-Refused in
     let full = subst (Told (goal.at.returns-in_default-tried c).After-correct_error-tried) e (tried (goal.at.returns-in_default-tried c).After-correct_error-tried) in
     (λ put. no_room_lem _ _ _ _ _ _ _ _ c.requires.turning put _ _ c.requires.bad_at _ _ full, short _ _ _ _ _ _ _ _ c.requires.turning [] _ _ c.requires.bad_at _ _ full)
 

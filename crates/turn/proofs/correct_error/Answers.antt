@@ -1,3 +1,4 @@
+use native.Mathlib.Omega.{arith}
 use Rattle.kmer.specs.Kmer.{kmer_of}
 use Rattle.turn.proofs.Methods.{by_one, by_two, by-graph, by-gap-size}
 use Rattle.turn.proofs.correct_error.Goals as goal
@@ -20,6 +21,5 @@ returns-in-3 c =
 pub returns-in_default : goal.returns-in_default
 returns-in_default c =
     let a = c.args in
-    let others = c.in-1.rest in
-    rw (by-gap-size _ _ a.head c.requires.0 a.counts.now a.method a.c a.s.now (kmer_of a.kmer) others.0.0.1 others.0.1 others.1)
+    rw (by-gap-size _ _ a.head c.requires.0 a.counts.now a.method a.c a.s.now (kmer_of a.kmer) (λ e. omega arith) (λ e. omega arith) (λ e. omega arith))
     c.correct_error-in_default.ensures

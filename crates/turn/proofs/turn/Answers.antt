@@ -80,12 +80,12 @@ returns-then-not-previous c =
     )
 
 pub bad_base-requires : goal.bad_base-requires
-bad_base-requires c = (
-  c.requires,
-  record {
+bad_base-requires c = record {
+  turning = c.requires;
+  bad_at = record {
     kmer = c.add_base-next.ensures;
     weak = sym c.ask-asked.ensures.solid ∙ c.if-asked.false;
     cost = c.ask-asked.ensures.lookups;
     previous = not-false _ c.if-not-previous.false-raw;
-  },
-)
+  };
+}
