@@ -1,4 +1,6 @@
 // The calls of document 01: a single read, and a batch.
+#![tactic(auto)]
+
 ghost use Rattle.std.specs.Prelude.{[], ◌∷◌, length};
 ghost use Rattle.rules.specs.Set.{set_of, offering};
 ghost use Rattle.rules.specs.Job.{entries_of, lines};

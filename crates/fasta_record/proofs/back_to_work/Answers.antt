@@ -28,17 +28,17 @@ slice_bounds-go_on-end-then-count-eq0 c = sym (part_length (goal.at.slice_bounds
 pub go_on-requires : goal.go_on-requires
 go_on-requires c =
     let a = c.args in
-    let l = part_length (goal.at.go_on-requires c).After-count in (
-      (
+    let l = part_length (goal.at.go_on-requires c).After-count in record {
+      ready = (
         c.requires.ready.0,
         c.requires.ready.1,
         c.requires.ready.2,
         c.requires.ready.3,
         omega (arith, l, c.requires.ready.4),
         small-there (set_with a.set.now a.counts.now) a.job.now _ a.first a.output.now (part (goal.at.go_on-requires c).After-count) refl c.requires.ready.5,
-      ),
-      (omega (arith, l, c.requires.output_len_bound.0), sym l),
-    )
+      );
+      output_len_bound = (omega (arith, l, c.requires.output_len_bound.0), sym l);
+    }
 
 pub returns-then-count-eq0 : goal.returns-then-count-eq0
 returns-then-count-eq0 c =
@@ -55,7 +55,7 @@ slice_bounds-go_on-end-3 c = sym (part_length (goal.at.slice_bounds-go_on-end-3 
 
 pub go_on-passed-requires : goal.go_on-passed-requires
 go_on-passed-requires c =
-    (c.requires.ready, (c.requires.output_len_bound.0, part_length (goal.at.go_on-passed-requires c).After-count))
+    record { ready = c.requires.ready; output_len_bound = (c.requires.output_len_bound.0, part_length (goal.at.go_on-passed-requires c).After-count) }
 
 -- What the passes answer that end in the output.
 abbrev Went : After-go_on-passed → Pass → Type 0

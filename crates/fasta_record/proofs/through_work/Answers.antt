@@ -57,17 +57,17 @@ back_to_work-requires c =
     let a = c.args in
     let is = subst (Answered (goal.at.back_to_work-requires c).After-entry_pass-passed) c.in-Done.is c.entry_pass-passed.ensures.is in
     let kept = c.entry_pass-passed.auto.out in
-    let out = c.entry_pass-passed.new.out in (
-      (
+    let out = c.entry_pass-passed.new.out in record {
+      ready = (
         c.requires.0,
         some (goal.at.back_to_work-requires c).Else-count-eq0,
         c.requires.1.entries,
         c.requires.1.confirms,
         is.1,
         small-there (set_with a.set.now a.counts.now) a.job.now _ c.in-Done.first out out is.0 c.entry_pass-passed.ensures.small,
-      ),
-      (omega (arith, kept, c.requires.1.output), omega (arith, kept, c.requires.1.work)),
-    )
+      );
+      output_len_bound = (omega (arith, kept, c.requires.1.output), omega (arith, kept, c.requires.1.work));
+    }
 
 pub returns : goal.returns
 returns c =

@@ -17,7 +17,7 @@ through-passed-requires c =
     let p = c.requires.1 in
     let l = lent_length c.args.output.now c.args.at c.if-output-at.false in
     let rooms = length-take-le _ c.args.work.now (search rules) ∙ sym l in
-    ((c.requires.0, p.entries, p.confirms, p.input), (omega (arith, l, p.output), rooms))
+    record { ready = (c.requires.0, p.entries, p.confirms, p.input); output_len_bound = (omega (arith, l, p.output), rooms) }
 
 pub returns-in_default : goal.returns-in_default
 returns-in_default c =

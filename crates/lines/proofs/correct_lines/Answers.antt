@@ -46,9 +46,9 @@ correct_line-passed-requires c =
 pub returns-in_default : goal.returns-in_default
 returns-in_default c =
     let i = c.loop-from.invariant in
-    let kept = c.correct_line-passed.auto.output in
-    batch-no-room _ _ _ _ _ _ _ _ i.2 c.line_end-end.ensures c.correct_line-passed.ensures kept.0
-    c.correct_line-passed.new.work c.in_default.is (kept.1.0 ∙ i.1) c.no_room.ensures
+    let kept = c.correct_line-passed.auto in
+    batch-no-room _ _ _ _ _ _ _ _ i.2 c.line_end-end.ensures c.correct_line-passed.ensures kept.output
+    c.correct_line-passed.new.work c.in_default.is (kept.work ∙ i.1) c.no_room.ensures
 
 -- The line is done, and the next one is due; s is the support with it.
 next : (c : In-Done) (s : ℕ) →

@@ -1,8 +1,8 @@
 use Prim.Native.Nat.{◌-◌}
 use mathlib.Core.Path.{refl, sym, ◌∙◌}
-use mathlib.Core.Logic.{⊎_elim}
 use borrow.Author.Rules.{rules}
 use Rattle.records.proofs.Laws.{holds-here, holds_on, holds-none}
+use Rattle.records.proofs.holds_mark.Goals.{then-line-i-eq-MARK, else-line-i-eq-MARK}
 use Rattle.records.proofs.holds_mark.Goals as goal
 
 pub loop-i-init : goal.loop-i-init
@@ -14,10 +14,10 @@ loop-i-preserved c =
       search rules,
       search rules,
       l.invariant.2
-          ∙ ⊎_elim
-          (λ w. holds-here _ l.i (search rules) l.held w.0.true ∙ rw w.1)
-          (λ w. holds_on _ l.i (search rules) l.held w.0.left ∙ rw w.1)
-          c.if-line-i-eq-MARK.branch,
+          ∙ elim c.if-line-i-eq-MARK.branch [
+            | then-line-i-eq-MARK w ↦ holds-here _ l.i (search rules) l.held w.if-line-i-eq-MARK.true ∙ rw w.held-is
+            | else-line-i-eq-MARK w ↦ holds_on _ l.i (search rules) l.held w.if-line-i-eq-MARK.false ∙ rw w.held-is
+          ],
     )
 
 pub returns : goal.returns

@@ -1,14 +1,17 @@
 use mathlib.Core.Path.{sym, ◌∙◌}
-use mathlib.Core.Logic.{inl, inr, ⊎_elim}
+use mathlib.Core.Logic.{inl, inr}
 use Rattle.records.proofs.Laws.{With, see-right, see-wrong, see-after}
-use Rattle.records.proofs.see.Goals.{Joined-is_name}
+use Rattle.records.proofs.see.Goals.{Joined-is_name, then-is_name, else-is_name}
 use Rattle.records.proofs.see.Goals as goal
 
 -- The records with the line.
 with-line : (c : Joined-is_name) → With c.args.seen c.args.line.now c.if-is_name.records
 with-line c =
     let is = c.is_name.ensures in
-    ⊎_elim (λ w. inl (sym is ∙ w.0.true, w.1)) (λ w. inr (sym is ∙ w.0.left, w.1)) c.if-is_name.branch
+    elim c.if-is_name.branch [
+      | then-is_name w ↦ inl (sym is ∙ w.if-is_name.true, w.records-is)
+      | else-is_name w ↦ inr (sym is ∙ w.if-is_name.false, w.records-is)
+    ]
 
 pub returns-then-line_right : goal.returns-then-line_right
 returns-then-line_right c =
