@@ -1,5 +1,7 @@
 // The driver, `Corrector::correct` of src/correct/mod.rs: a pass, which is one read through one method. Document 01, "Driver", and document
 // 02, W8 and W10.
+#![tactic(auto)]
+
 ghost use Rattle.std.specs.Prelude.{◌≡◌, ◌≤◌, length, take};
 ghost use Rattle.rules.specs.Job.{entry};
 ghost use Rattle.set.specs.Ready.{Ready};

@@ -1,4 +1,6 @@
 // A pass whose bytes are counted, not kept. Document 02, W9.
+#![tactic(auto)]
+
 ghost use Rattle.std.specs.Prelude.{◌≤◌, length};
 ghost use Rattle.rules.specs.Job.{entry};
 ghost use Rattle.rules.specs.Calls.{max_read};

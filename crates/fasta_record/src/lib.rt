@@ -1,4 +1,6 @@
 // A record of a FASTA file corrected: its read through the entries of a job, and its text put into the output. Document 02, W11.
+#![tactic(auto)]
+
 ghost use Rattle.std.specs.Prelude.{◌≡◌, ◌≤◌, ◌<◌, length, take};
 ghost use Rattle.rules.specs.Job.{entry_count, entries_of, Confirmed};
 ghost use Rattle.rules.specs.Calls.{max_read, max_methods, max_output};

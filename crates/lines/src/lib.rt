@@ -1,4 +1,6 @@
 // The lines of a batch, corrected in turn.
+#![tactic(auto)]
+
 ghost use Rattle.std.specs.Prelude.{◌≡◌, true, [], ◌∷◌, ◌≤◌, length};
 ghost use Rattle.rules.specs.Job.{entries_of, lines};
 ghost use Rattle.rules.specs.Calls.{batch_right, corrected};

@@ -1,4 +1,6 @@
 // A record's text: its name line and its read in lines of 80 letters, each with its byte 10. Document 02, W11.
+#![tactic(auto)]
+
 ghost use Rattle.std.specs.Prelude.{◌≡◌, [], ◌∷◌, ◌++◌, ◌+◌, ◌-◌, ◌/◌, ◌≤◌, ◌<◌, ◌^◌, min, length, take};
 ghost use Rattle.rules_fasta.specs.Fasta.{read_lines, ended};
 ghost use Rattle.record_text.specs.Text.{PutIs};

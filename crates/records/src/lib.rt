@@ -1,4 +1,6 @@
 // The records of a FASTA file: checks 6 and 18, and a record's sequence lines joined. Document 02, W11.
+#![tactic(auto)]
+
 ghost use Rattle.std.specs.Prelude.{◌≡◌, ◌+◌, ◌≤◌, ◌<◌, ◌^◌, length};
 ghost use Rattle.rules.specs.Letters.{among};
 ghost use Rattle.rules_fasta.specs.Fasta.{mark, is_name, line_right};

@@ -1,4 +1,6 @@
 // How a call ends: with a report or a refusal, and what it leaves in the lent buffers.
+#![tactic(auto)]
+
 ghost use Rattle.std.specs.Prelude.{◌≡◌, ◌≤◌, ◌<◌, ◌^◌, length};
 ghost use Rattle.rules.specs.Report.{yield_of, quotient_of, remainder_of};
 ghost use Rattle.report.specs.Ending.{Cleared, report_on};

@@ -1,5 +1,7 @@
 // A read through the entries of a job: pass after pass, each reading the bytes of the one before. Document 01, "Records", Job, and
 // document 02, W1, W8 and W10.
+#![tactic(auto)]
+
 ghost use Rattle.std.specs.Prelude.{◌≡◌, ◌+◌, ◌-◌, ◌≤◌, ◌<◌, ◌^◌, length, take};
 ghost use Rattle.rules.specs.Job.{entry_at, entry_count, entries_of, Confirmed};
 ghost use Rattle.set.specs.Ready.{Ready};

@@ -1,6 +1,7 @@
 // One turn of the driver, `Corrector::correct` of src/correct/mod.rs: a base is taken, its k-mer looked up and, where that is not solid
 // while the previous was, an attempt made. Document 01, "Driver", and document 02, W5 and W8.
 #![tactic(auto)]
+
 ghost use Rattle.std.specs.Prelude.{◌≡◌, ◌+◌, ◌≤◌, ◌<◌, ◌^◌, length, set as put};
 ghost use Rattle.rules.specs.Set.{set_of, solid, count_of};
 ghost use Rattle.rules.specs.Scan.{error_len};

@@ -8,7 +8,7 @@ use Rattle.gap_size.proofs.correct_error.Goals as goal
 
 fits : (c : After-error_len-scan) → (c.error_len-scan.result.index < 2 ^ 63) × (c.error_len-scan.result.lookups < 2 ^ 63)
 fits c =
-    let l : length c.args.s.now < 2 ^ 63 = omega (arith, c.good.1.1.1.1.1.1.0) in
+    let l : length c.args.s.now < 2 ^ 63 = omega (arith, c.well_formed.1.1.1.1.1.1.0) in
     scan-fits _ _ _ _ c.error_len-scan.result c.error_len-scan.ensures c.requires.2 l
 
 pub from_scan-requires : goal.from_scan-requires

@@ -12,10 +12,10 @@ use Rattle.set.proofs.Counted.{with-count}
 use Rattle.successors.specs.Successors.{AltIs}
 use Rattle.successors.proofs.Laws.{alternative-at-most, alternative-back}
 use Rattle.gap_size.proofs.Laws.{gap-full, no-alternative, from-alternative}
-use Rattle.gap_size.proofs.ins_sub_correction.Goals.{In-Kmer-2}
+use Rattle.gap_size.proofs.ins_sub_correction.Goals.{In-Kmer}
 use Rattle.gap_size.proofs.ins_sub_correction.Goals as goal
 
-told : (c : In-Kmer-2)
+told : (c : In-Kmer)
     → ((alternative c.args.head.k (solid (set_of c.args.set.now)) (kmer_of c.args.kmer)).answer ≡ some (kmer_of c.in-Kmer.x))
     × IsKmer c.args.head.k c.in-Kmer.x
     × (lookup (set_of c.args.set.now) c.in-Kmer.x.code ≡ some c.in-Kmer.place)
@@ -42,9 +42,9 @@ unfolding SolidKmer kmer_of
 fill_by_length-requires c =
     record {
       ready = c.requires.0;
-      kmer = (told (goal.at.fill_by_length-requires c).In-Kmer-2).1;
-      lit = (x-good _ _ _ _ (told (goal.at.fill_by_length-requires c).In-Kmer-2).0).1;
-      weighs = c.count_at.ensures ∙ sym (with-count _ _ (kmer_of c.in-Kmer.x) _ (told (goal.at.fill_by_length-requires c).In-Kmer-2).2);
+      kmer = (told (goal.at.fill_by_length-requires c).In-Kmer).1;
+      lit = (x-good _ _ _ _ (told (goal.at.fill_by_length-requires c).In-Kmer).0).1;
+      weighs = c.count_at.ensures ∙ sym (with-count _ _ (kmer_of c.in-Kmer.x) _ (told (goal.at.fill_by_length-requires c).In-Kmer).2);
       above = c.requires.2;
       room = c.if-out-scan.false;
       few = c.requires.3;
@@ -53,5 +53,5 @@ fill_by_length-requires c =
 pub returns : goal.returns
 returns c =
     let low = c.requires.0.shifts.k_low in
-    rw (from-alternative _ _ _ _ _ _ low (told (goal.at.returns c).In-Kmer-2).0)
-    (c.fill_by_length.ensures (kmer_of c.args.kmer) (alternative-back _ _ _ _ low (told (goal.at.returns c).In-Kmer-2).0))
+    rw (from-alternative _ _ _ _ _ _ low (told (goal.at.returns c).In-Kmer).0)
+    (c.fill_by_length.ensures (kmer_of c.args.kmer) (alternative-back _ _ _ _ low (told (goal.at.returns c).In-Kmer).0))

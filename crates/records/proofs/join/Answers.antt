@@ -1,0 +1,73 @@
+use Prim.Native.Nat.{ℕ, ◌+◌, ◌-◌, ◌<◌}
+use native.Mathlib.Omega.{arith}
+use mathlib.Core.Path.{◌≡◌, refl, sym, ap, ◌∙◌}
+use mathlib.Core.List.{List, [], ◌++◌, append-nil}
+use borrow.Author.Rules.{rules}
+use borrow.Rule.Slice.PartMut.{put_mid, same_len_mid}
+use lib.ListN.{length, take, drop, length-take, length-drop}
+use Rattle.rules.specs.Job.{lines}
+use Rattle.rules_fasta.specs.Fasta.{joined}
+use Rattle.records.proofs.Laws.{line-length, record_same, join_more, joined-on, ends-at-name, no_lines}
+use Rattle.records.proofs.join.Goals as goal
+
+pub loop-next-init : goal.loop-next-init
+loop-next-init c = (search rules, search rules, refl, refl, refl)
+
+pub returns-then-file-next-eq-MARK : goal.returns-then-file-next-eq-MARK
+returns-then-file-next-eq-MARK c =
+    let l = c.loop-next in
+    let a = c.args in
+    let over = ends-at-name a.file.now l.next (search rules) c.if-file-next-eq-MARK.true in
+    record {
+      read = sym (append-nil (take l.read l.work)) ∙ ap (λ (t : List ℕ). take l.read l.work ++ t) (sym over) ∙ l.invariant.3;
+      rest = l.invariant.4;
+      short = l.invariant.0;
+      inside = l.invariant.1;
+      stops = λ h. c.if-file-next-eq-MARK.true;
+    }
+
+pub line_end-end-requires : goal.line_end-end-requires
+line_end-end-requires c = (search rules, c.requires.0 (search rules))
+
+pub copy-requires : goal.copy-requires
+copy-requires c =
+    let l = c.loop-next in
+    let e = c.line_end-end.ensures in
+    let long = line-length c.args.file.now l.next c.line_end-end.result (search rules) e in
+    omega (arith, long, length-take (length l.work - l.read) (drop l.read l.work), length-drop l.read l.work, e.inside, l.invariant.0, l.invariant.2, c.requires.2)
+
+pub loop-next-preserved : goal.loop-next-preserved
+loop-next-preserved c =
+    let l = c.loop-next in
+    let file = c.args.file.now in
+    let end = c.line_end-end.result in
+    let e = c.line_end-end.ensures in
+    let ne = c.if-file-next-eq-MARK.false in
+    let here : l.next < length file = search rules in
+    let line : List ℕ = take (end - l.next) (drop l.next file) in
+    let n : l.read + (end - l.next) ≡ l.read + length line = omega (arith, line-length file l.next end here e) in
+    let part = c.copy.new.dst in
+    let more = joined (lines (drop (end + 1) file)) in (
+      omega (arith, e.after, l.invariant.0),
+      omega (arith, e.inside),
+      same_len_mid l.read (length l.work - l.read) l.work part c.copy.auto.dst ∙ l.invariant.2,
+      ap (λ (m : ℕ). take m (put_mid l.read (length l.work - l.read) l.work part) ++ more) n
+          ∙ joined-on l.work part line more l.read (omega (arith, e.inside, l.invariant.0, l.invariant.2, c.requires.2)) c.copy.ensures
+          ∙ ap (λ (t : List ℕ). take l.read l.work ++ t) (sym (join_more file l.next end here e ne))
+          ∙ l.invariant.3,
+      l.invariant.4 ∙ record_same file l.next end here e ne,
+    )
+
+pub returns : goal.returns
+unfolding joined
+returns c =
+    let l = c.loop-next in
+    let a = c.args in
+    let over : joined (lines (drop l.next a.file.now)) ≡ [] = ap joined (no_lines a.file.now l.next (search rules)) in
+    record {
+      read = sym (append-nil (take l.read l.work)) ∙ ap (λ (t : List ℕ). take l.read l.work ++ t) (sym over) ∙ l.invariant.3;
+      rest = l.invariant.4;
+      short = l.invariant.0;
+      inside = l.invariant.1;
+      stops = λ h. absurd (search rules);
+    }
