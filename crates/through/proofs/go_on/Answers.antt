@@ -63,12 +63,12 @@ overflow_step-i c = omega (arith, few (goal.at.overflow_step-i c).In-Done)
 pub loop-i-preserved : goal.loop-i-preserved
 loop-i-preserved c =
     let a = c.args in
-    let kept = c.next_pass-passed.auto.output in (
-      kept.0 ∙ c.loop-i.invariant.0,
-      kept.1.0 ∙ c.loop-i.invariant.1,
+    let kept = c.next_pass-passed.auto in (
+      kept.output ∙ c.loop-i.invariant.0,
+      kept.work ∙ c.loop-i.invariant.1,
       next-done _ a.job.now _ _ c.loop-i.output c.loop-i.work c.loop-i.done c.loop-i.i c.loop-i.invariant.2 (more (goal.at.loop-i-preserved c).In-loop-i)
           c.next_pass-passed.new.output c.next_pass-passed.new.work c.in-Done.next c.join-done.result c.join-done.ensures
-          kept.0 kept.1.0 c.next_pass-passed.ensures.small (subst (Answered (goal.at.loop-i-preserved c).After-next_pass-passed) c.in-Done.is c.next_pass-passed.ensures.is),
+          kept.output kept.work c.next_pass-passed.ensures.small (subst (Answered (goal.at.loop-i-preserved c).After-next_pass-passed) c.in-Done.is c.next_pass-passed.ensures.is),
     )
 
 pub returns : goal.returns

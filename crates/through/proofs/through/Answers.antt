@@ -49,14 +49,14 @@ returns-in_default c =
 
 pub go_on-requires : goal.go_on-requires
 go_on-requires c =
-    let kept = c.first_pass.auto.output in
+    let kept = c.first_pass.auto in
     let is = subst (Answered (goal.at.go_on-requires c).After-first_pass) c.in-Done.is c.first_pass.ensures.is in
-    let rooms = kept.1.0 ∙ c.requires.output_len_bound.1 ∙ sym kept.0 in
+    let rooms = kept.work ∙ c.requires.output_len_bound.1 ∙ sym kept.output in
     let output = c.first_pass.new.output in
     let work = c.first_pass.new.work in
     let n = entry_count c.args.job.now in
-    let room = held-length (n - 1) output work rooms in (
-      (
+    let room = held-length (n - 1) output work rooms in record {
+      ready = (
         c.requires.ready.0,
         some (goal.at.go_on-requires c).Else-count-eq0,
         c.requires.ready.1,
@@ -64,26 +64,26 @@ go_on-requires c =
         omega (arith, is.1, room),
         small-there (set_with c.args.set.now c.args.counts.now) c.args.job.now _ c.in-Done.first (held (n - 1) output work) output is.0
             c.first_pass.ensures.small,
-      ),
-      (omega (arith, kept.0, c.requires.output_len_bound.0), rooms),
-    )
+      );
+      output_len_bound = (omega (arith, kept.output, c.requires.output_len_bound.0), rooms);
+    }
 
 pub returns : goal.returns
 returns c =
     let a = c.args in
-    let kept = c.first_pass.auto.output in
-    let on = c.go_on.auto.output in
+    let kept = c.first_pass.auto in
+    let on = c.go_on.auto in
     let is = subst (Answered (goal.at.returns c).After-first_pass) c.in-Done.is c.first_pass.ensures.is in
     let output = c.first_pass.new.output in
     let work = c.first_pass.new.work in
     let n = entry_count a.job.now in
-    let room = held-length (n - 1) output work (kept.1.0 ∙ c.requires.output_len_bound.1 ∙ sym kept.0) in
+    let room = held-length (n - 1) output work (kept.work ∙ c.requires.output_len_bound.1 ∙ sym kept.output) in
     let result = c.go_on.new.output in
     let set = set_with a.set.now a.counts.now in
     record {
-      is = subst (λ (n : ℕ). ThroughIs set (entries_of a.job.now) a.read.now n result c.go_on.result) kept.0
+      is = subst (λ (n : ℕ). ThroughIs set (entries_of a.job.now) a.read.now n result c.go_on.result) kept.output
           (all-through set a.job.now a.read.now (some (goal.at.returns c).Else-count-eq0) (length output) (held (n - 1) output work) result c.in-Done.first c.go_on.result is.0 is.1 room
           c.go_on.ensures);
-      output_room = on.0 ∙ kept.0;
-      work_room = on.1.0 ∙ kept.1.0;
+      output_room = on.output ∙ kept.output;
+      work_room = on.work ∙ kept.work;
     }
