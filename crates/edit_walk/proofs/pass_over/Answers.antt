@@ -34,7 +34,7 @@ loop-i-preserved c =
         | then-asks-edits+else-not-asked x ↦
             l.invariant.3
             ∙ step-solid a.head.k sol a.edits a.«then» a.part.now l.i w (search rules) v c.take_base-w.ensures.1
-            (sym x.ask-asked.ensures.solid ∙ x.if-not-asked.false)
+            (sym x.ask-asked.ensures.solid ∙ not-false _ x.if-not-asked.false)
         | else-asks-edits x ↦
             l.invariant.3
             ∙ step-free a.head.k sol a.edits a.«then» a.part.now l.i w (search rules) v c.take_base-w.ensures.1 x.if-asks-edits.false

@@ -11,7 +11,7 @@ use Rattle.judge_text.specs.Judged.{JudgedAs}
 use Rattle.judge_text.proofs.Judging.{is-refused}
 use Rattle.make_set.proofs.Makes.{at-k, at-line, at-keys, at_none, made-refused, blocks-short, counts-short, made-both, k-right, k-even, k-large}
 use borrow.Author.Tests.{ltb-true, ltb-false}
-use Rattle.make_set.proofs.make_set.Goals.{After-judge-judged, Else-k-gt31, Else-n-gt-MAX_KEYS, In-Kept}
+use Rattle.make_set.proofs.make_set.Goals.{After-judge-judged, Else-k-gt31, Else-n-gt-MAX_KEYS, In-Kept, then-blocks-length-via-then-blocks-length, then-blocks-length-via-else-blocks-length+then-counts-n}
 use Rattle.make_set.proofs.make_set.Goals as goal
 
 pub returns-then-k-eq0 : goal.returns-then-k-eq0
@@ -62,10 +62,14 @@ passed c =
 pub returns-then-blocks-length : goal.returns-then-blocks-length
 returns-then-blocks-length c =
     let a = c.args in
-    ⊎_elim
-    (λ w. blocks-short a.text.now a.k a.least _ _ _ (passed (goal.at.returns-then-blocks-length c).Else-n-gt-MAX_KEYS) (kept (goal.at.returns-then-blocks-length c).In-Kept).1 w.true)
-    (λ w. counts-short a.text.now a.k a.least _ _ _ (passed (goal.at.returns-then-blocks-length c).Else-n-gt-MAX_KEYS) (kept (goal.at.returns-then-blocks-length c).In-Kept).1 w.0.left (ltb-true _ _ w.1.true))
-    c.if-blocks-length.branch
+    elim c.then-blocks-length.branch [
+      | then-blocks-length-via-then-blocks-length w ↦
+          blocks-short a.text.now a.k a.least _ _ _ (passed (goal.at.returns-then-blocks-length c).Else-n-gt-MAX_KEYS)
+          (kept (goal.at.returns-then-blocks-length c).In-Kept).1 w.if-blocks-length.true
+      | then-blocks-length-via-else-blocks-length+then-counts-n w ↦
+          counts-short a.text.now a.k a.least _ _ _ (passed (goal.at.returns-then-blocks-length c).Else-n-gt-MAX_KEYS)
+          (kept (goal.at.returns-then-blocks-length c).In-Kept).1 w.if-blocks-length.false w.if-counts-n.true
+    ]
 
 pub write-requires : goal.write-requires
 write-requires c =
