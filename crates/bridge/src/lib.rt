@@ -1,4 +1,6 @@
 // Document 02, W13: the shortest bridge between two solid k-mers, as far as lookups last.
+#![tactic(auto)]
+
 ghost use Rattle.std.specs.Prelude.{◌≡◌, Bool, ◌-◌, ◌≤◌, length, take};
 ghost use Rattle.std.proofs.Math.Option.{none};
 ghost use Rattle.rules.specs.Set.{solid, set_of, opened};

@@ -1,4 +1,6 @@
 // Document 02, W13: the ends of a bridge, which are codes.
+#![tactic(auto)]
+
 ghost use Rattle.std.specs.Prelude.{◌^◌, ◌<◌};
 ghost use Rattle.rules.specs.Set.{set_of};
 ghost use Rattle.rules_bridge.specs.Bridge.{known};

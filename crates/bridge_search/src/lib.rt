@@ -1,4 +1,6 @@
 // Document 02, W13: the search of a bridge. A k-mer looks at its letters, and a letter at the k-mer behind it.
+#![tactic(auto)]
+
 ghost use Rattle.std.specs.Prelude.{◌≡◌, true, [], ◌∷◌, ◌+◌, ◌-◌, ◌<◌, ◌≤◌};
 ghost use Rattle.rules.specs.Letters.{push};
 ghost use Rattle.rules.specs.Set.{solid, set_of};

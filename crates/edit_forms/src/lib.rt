@@ -1,4 +1,6 @@
 // Document 02, W12: the first judgement of a sheet, by its edits' numbers alone. No sum can wrap: the tests subtract.
+#![tactic(auto)]
+
 ghost use Rattle.std.specs.Prelude.{◌≡◌, List, ℕ, ◌+◌, ◌*◌, ◌≤◌, ◌<◌, length};
 ghost use Rattle.rules_edits.specs.Edits as rules;
 ghost use Rattle.edit_forms.specs.Formed.{FormedIs, IsOffending};

@@ -1,5 +1,7 @@
 // Document 02, W12: one walk over the read with all edits made, piece by piece, so that it need not be laid out. The k-mer rolls over every
 // base; only those that an edit asks are looked up.
+#![tactic(auto)]
+
 ghost use Rattle.std.specs.Prelude.{◌≡◌};
 ghost use Rattle.std.proofs.Math.Option.{none};
 ghost use Rattle.rules.specs.Refusal.{first_failing};

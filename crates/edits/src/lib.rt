@@ -1,4 +1,6 @@
 // Document 02, W12: whether another program's edits turn a read into its corrected read, with solid k-mers around them.
+#![tactic(auto)]
+
 ghost use Rattle.std.specs.Prelude.{◌≡◌, ◌&&◌, eqb};
 ghost use Rattle.rules.specs.Set.{solid, set_of};
 ghost use Rattle.rules_edits.specs.Edits as rules;

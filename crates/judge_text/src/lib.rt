@@ -1,4 +1,6 @@
 // Document 02, W3: the lines of a text of k-mer counts judged, refusals 12 and 13.
+#![tactic(auto)]
+
 ghost use Rattle.std.specs.Prelude.{◌≡◌};
 ghost use Rattle.kmer.specs.Kmer.{Shifts};
 ghost use Rattle.judge_text.specs.Judged.{JudgedAs, IsRefused};

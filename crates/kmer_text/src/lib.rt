@@ -1,5 +1,7 @@
 // Document 02, W3 and W8: a site's k-mer counts as text. Where a line ends, whether it has the form, whether it is kept, its canonical code and its
 // count.
+#![tactic(auto)]
+
 ghost use Rattle.std.specs.Prelude.{◌≡◌, true, ◌≤◌, ◌<◌, min, length};
 ghost use Rattle.rules.specs.Set.{max_k};
 ghost use Rattle.rules_make.specs.MakeSet as Rules;

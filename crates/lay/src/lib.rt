@@ -1,4 +1,6 @@
 // A list of words written as document 01's blocks: little-endian words, 63 to a block, and check words; and what a maker of blocks answers.
+#![tactic(auto)]
+
 ghost use Rattle.std.specs.Prelude.{◌≡◌, ◌+◌, ◌*◌, ◌/◌, ◌≤◌, length};
 ghost use Rattle.lay.specs.Lay.{flat_put, Put, Sealed};
 

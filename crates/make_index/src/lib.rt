@@ -1,4 +1,6 @@
 // Document 02, W7: the index made from a set.
+#![tactic(auto)]
+
 ghost use Rattle.std.specs.Prelude.{◌≡◌, ◌++◌, ◌*◌, ◌-◌, ◌≤◌, length, replicate};
 ghost use Rattle.rules.specs.Set.{set_of};
 ghost use Rattle.rules.specs.Blocks.{blocks_for};

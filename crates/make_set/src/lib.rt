@@ -1,5 +1,7 @@
 // Document 02, W3 and W8: the set file and the list of its keys' counts made from k-mer counts as text. One walk over the lines judges and counts, a
 // second one writes; nothing is written before everything is judged.
+#![tactic(auto)]
+
 ghost use Rattle.std.specs.Prelude.{◌≡◌};
 ghost use Rattle.rules_make.specs.MakeSet as Rules;
 ghost use Rattle.make_set.specs.Make.{set_made_of};

@@ -1,4 +1,6 @@
 // How many of a read's k-mers are solid: every k-mer is asked once, and nothing is corrected.
+#![tactic(auto)]
+
 ghost use Rattle.std.specs.Prelude.{◌≡◌, ◌≤◌, length};
 ghost use Rattle.rules.specs.Set.{set_of};
 ghost use Rattle.rules.specs.Solid.{solids, kmers_of, count_solid};

@@ -1,0 +1,5 @@
+use Rattle.bridge.proofs.Deepening.{none_told}
+use Rattle.bridge.proofs.nothing.Goals as goal
+
+pub returns : goal.returns
+returns c = λ stop. none_told c.args.lookups c.args.floor stop
