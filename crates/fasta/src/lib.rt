@@ -1,5 +1,6 @@
 // FASTA in and out: the records of a file corrected in turn, and the call. Document 02, W11.
 #![tactic(auto)]
+
 ghost use Rattle.std.specs.Prelude.{◌≡◌, true, [], length};
 ghost use Rattle.rules.specs.Set.{set_of, offering};
 ghost use Rattle.rules.specs.Job.{entries_of};

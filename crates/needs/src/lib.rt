@@ -1,5 +1,6 @@
 // What will this job need? Document 02, W9: the bytes, turns and lookups of a batch for a job of one entry, without an output buffer.
 #![tactic(auto)]
+
 ghost use Rattle.std.specs.Prelude.{◌≡◌, true, ◌+◌, ◌≤◌, ◌<◌, ◌^◌, length};
 ghost use Rattle.rules.specs.Set.{set_of, offering};
 ghost use Rattle.rules.specs.Job.{entries_of, lines};

@@ -90,12 +90,11 @@ loop-from-smaller c =
     omega (arith, c.line_end-end.ensures.after, c.line_end-end.ensures.inside)
 
 pub loop-from-preserved : goal.loop-from-preserved
-loop-from-preserved c =
-    (
-      omega (arith, c.line_end-end.ensures.inside),
-      c.count-line.auto.spare ∙ c.loop-from.invariant.1,
-      rw c.add-done.ensures (gone (goal.at.loop-from-preserved c).In-Done),
-    )
+loop-from-preserved c = (
+  omega (arith, c.line_end-end.ensures.inside),
+  c.count-line.auto.spare ∙ c.loop-from.invariant.1,
+  rw c.add-done.ensures (gone (goal.at.loop-from-preserved c).In-Done),
+)
 
 -- The job's one entry.
 sole : (c : At-loop-from)
