@@ -5,7 +5,7 @@ use native.Mathlib.Numerals.{add-one}
 use native.Mathlib.Nat.{mod-eq_of_lt, mod-lt, one-le-pow, suc-mul, pow-suc, pow-le-pow_right, mul_comm, add_comm, div-lt_iff_lt-mul, div-add-mod', eq-or-lt_of_le}
 use mathlib.Core.Path.{◌≡◌, refl, sym, ap, ◌∙◌}
 use mathlib.Core.Bool.{Bool, true, false, ◌&&◌}
-use mathlib.Core.List.{List, [], ◌∷◌}
+use mathlib.Core.List.{List}
 use mathlib.Core.Logic.{◌⊎◌, inl, inr}
 use lib.Dec.{eqb, lit<, lit≤}
 use borrow.Author.Tests.{eqb-true, eq-eqb, ne_eqb}
@@ -17,7 +17,7 @@ use lib.Bits.{bit_and, bit_xor, and_mask, xor_shifted}
 use Rattle.rules.specs.Letters as rules
 use Rattle.rules.specs.Letters.{mask, same, push, add, add_all, has_code, code, complement, revcomp, even_ones, canonical}
 use Rattle.rules_laws.proofs.Opened.{both}
-use Rattle.rules_laws.proofs.Kmer.{known-true, ne-known, same_code, four-pos, push-is, push-lt, complement-lt, revcomp-lt, revcomp-first, ones-in, two-four}
+use Rattle.rules_laws.proofs.Kmer.{known-true, ne-known, same_code, four-pos, push-is, complement-lt, revcomp-lt, revcomp-first, ones-in, two-four}
 use Rattle.kmer.specs.declared.Header.{Header}
 use Rattle.kmer.specs.declared.Kmer.{Kmer}
 use Rattle.kmer.specs.Kmer.{Shifts, kmer_of, IsKmer, HasLetters}

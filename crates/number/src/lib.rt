@@ -1,4 +1,6 @@
 // Small arithmetic that Rust has as methods and conversions.
+#![tactic(auto)]
+
 ghost use Rattle.std.specs.Prelude.{◌≡◌, cond, ◌<◌, min};
 
 pub fn lesser(a: usize, b: usize) -> usize

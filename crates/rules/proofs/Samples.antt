@@ -14,7 +14,7 @@ use Rattle.rules.specs.Job.{Entry, entries_of, lines, pass, result}
 use Rattle.rules.specs.Counts.{Fed, sum, all_passes, turns, lookups}
 use Rattle.rules.specs.Calls.{Given, After, call_by, given_check, batch_right, correct_read, correct_batch}
 use Rattle.rules.specs.Samples.{A, C, T, G, N, AACGTC, AACGCCG, AACTCCG, sample_set, sample_bytes, Sample, line, table, unknown_table, JobSample, job_line, job_table}
-use Rattle.rules.specs.Scenarios.{OnSet, on, scenario_table}
+use Rattle.rules.specs.Scenarios.{OnSet, scenario_table}
 
 -- A line as the rules have it: its bytes, turns and lookups computed.
 pub by_rules : KmerSet → Sample → Sample

@@ -13,7 +13,7 @@ use Rattle.rules.specs.Refusal.{accepted, ◌or_else◌, unless, at_place}
 use Rattle.rules.specs.Set.{KmerSet, set_of, opened}
 use Rattle.rules.specs.Job.{Entry, entries_of, lines}
 use Rattle.rules.specs.Report.{Report}
-use Rattle.rules.specs.Calls.{Given, After, max_read, buffers_right, job_check, report, offer_check}
+use Rattle.rules.specs.Calls.{Given, After, max_read, buffers_right, job_check, offer_check}
 use Rattle.rules_laws.proofs.Opened.{both, passed-15, opened-check}
 use Rattle.rules_laws.proofs.Upward.{state_check}
 use Rattle.rules_fasta.specs.Fasta.{is_name, Record, joined, records_of, records, reads_of, max_records, file_right, line_right, first_wrong, with_written, text, texts, no_room_at, fasta_report, correct_fasta}

@@ -3,14 +3,14 @@ use Prim.Native.Nat.{ℕ, zero, suc, ◌+◌, ◌-◌, ◌%◌, ◌≤◌, ◌<�
 use native.Mathlib.Omega.{arith}
 use mathlib.Core.Path.{◌≡◌, refl, ap, ◌∙◌, subst}
 use mathlib.Core.Bool.{Bool, true, false, true≢false, false≢true}
-use mathlib.Core.Option.{Option, none, some, some-injective}
+use mathlib.Core.Option.{none, some, some-injective}
 use mathlib.Core.List.{List, [], ◌∷◌}
 use lib.ListN.{length, get_or, take, replicate}
 use lib.Seq.{take-append_seam}
 use Rattle.rules.specs.Refusal.{Outcome, accepted, refused, Check, at_place, first_failing}
 use Rattle.rules.specs.Set.{KmerSet, solid, opened}
 use Rattle.rules_bridge.specs.Bridge.{max_moves, cost, Chain, End, found, tried, stopped, from_kmer, Bridge, bridge_by, rounds, bridge, solid_code, ends_check, find_bridge, moves_of, letters_of, told}
-use Rattle.rules_bridge.specs.Promises.{NoneBelow, Best, Promised, Accepted, FindPromised}
+use Rattle.rules_bridge.specs.Promises.{NoneBelow, Promised, FindPromised}
 use Rattle.rules_bridge.proofs.Search.{chain_length, spent, sound, complete}
 
 none-some : (bs : List ℕ) → none ≡ some bs → ⊥

@@ -2,13 +2,13 @@
 use Prim.Native.Nat.{ℕ, zero, suc, ◌+◌, ◌-◌, ◌≤◌}
 use native.Mathlib.Omega.{arith}
 use native.Mathlib.Nat.{le_refl}
-use borrow.Author.Tests.{ltb-false, le-ltb}
+use borrow.Author.Tests.{le-ltb}
 use mathlib.Core.Path.{◌≡◌, refl, sym, ap, ◌∙◌}
 use mathlib.Core.Bool.{Bool, true, false, true≢false}
-use mathlib.Core.List.{List, [], ◌∷◌}
+use mathlib.Core.List.{List}
 use lib.ListN.{length}
 use lib.Dec.{eqb, ltb}
-use Rattle.rules.specs.Letters.{push, letter}
+use Rattle.rules.specs.Letters.{push}
 use Rattle.rules.specs.Counted.{Counted}
 use Rattle.rules.specs.Set.{solid}
 use Rattle.rules_bridge.specs.Bridge.{max_moves, cost, End, found, tried, stopped, before, go_on, in_order, from_letter, from_kmer, Bridge, rounds, bridge}

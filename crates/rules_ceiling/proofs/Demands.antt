@@ -1,5 +1,5 @@
 -- What the papers ask to be proved of the rules: of every set that opens, every index and counts offered with it, every list of entries with confirms from 1, every list of reads.
-use Prim.Native.Nat.{ℕ, zero, suc, ◌+◌, ◌*◌, ◌-◌, ◌≤◌, ◌<◌}
+use Prim.Native.Nat.{ℕ, zero, suc, ◌*◌, ◌-◌, ◌≤◌, ◌<◌}
 use native.Mathlib.Omega.{arith}
 use borrow.Author.Tests.{ltb-true, ltb-false}
 use mathlib.Core.Path.{◌≡◌, refl, sym, subst}

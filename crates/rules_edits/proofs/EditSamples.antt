@@ -3,9 +3,9 @@
 use Prim.Native.Nat.{ℕ}
 use mathlib.Core.Path.{◌≡◌, refl}
 use mathlib.Core.Option.{none, some}
-use mathlib.Core.List.{List, [], ◌∷◌, ◌++◌, map}
+use mathlib.Core.List.{List, [], ◌∷◌, map}
 use lib.ListN.{set}
-use Rattle.rules.specs.Refusal.{Outcome, Check}
+use Rattle.rules.specs.Refusal.{Outcome}
 use Rattle.rules.specs.Set.{KmerSet, solid, opened}
 use Rattle.rules.specs.Job.{Two, pass}
 use Rattle.rules.specs.Samples.{A, C, T, G, AACGCCG, AACTCCG, sample_set, sample_bytes}

@@ -3,14 +3,13 @@ use Prim.Native.Nat.{ℕ, zero, suc, ◌+◌, ◌*◌, ◌-◌, ◌≤◌, ◌<�
 use native.Mathlib.Omega.{arith}
 use native.Mathlib.Nat.{le_refl}
 use borrow.Author.Tests.{eqb-true, eqb-false, eq-eqb, ltb-true, lt-ltb, leb-true, le-leb}
-use mathlib.Core.Path.{◌≡◌, refl, sym, ap, ap₂, ◌∙◌, subst}
+use mathlib.Core.Path.{◌≡◌, refl, sym, ap, ◌∙◌, subst}
 use mathlib.Core.Bool.{Bool, true, false, ◌&&◌, true≢false}
 use mathlib.Core.Option.{Option, none, some}
-use mathlib.Core.List.{List, [], ◌∷◌, ◌++◌}
+use mathlib.Core.List.{List, ◌++◌}
 use lib.ListN.{length, take, drop, length-append, length-drop}
 use lib.Seq.{length-take-le}
 use lib.Dec.{eqb, ltb, leb}
-use Rattle.rules.specs.Letters.{Kmer}
 use Rattle.rules.specs.Refusal.{Outcome, accepted, refused, Check, ◌or_else◌, unless, at_place, first_failing}
 use Rattle.rules.specs.Set.{KmerSet, is_none, solid, opened}
 use Rattle.rules.specs.Scan.{ask}
@@ -21,7 +20,7 @@ use Rattle.rules_laws.proofs.Keys.{none-fails, is-none}
 use Rattle.rules_laws.proofs.Keys.{none-failing}
 use Rattle.rules_laws.proofs.Index.{bytes_same, bytes-are}
 use Rattle.rules_laws.proofs.Scan.{ask-known, ask-is}
-use Rattle.rules_edits.specs.Edits.{Sheet, count, position, taken, given, end_of, letters_to, kept_from, kept, letters_of, made_to, rest, made, start, kmer_to, behind, formed, supported, joins, differs, judge, check_by, check_edits, Right, Acceptable, AcceptedRight}
+use Rattle.rules_edits.specs.Edits.{Sheet, count, position, given, end_of, letters_to, kept_from, kept, letters_of, made_to, rest, made, start, kmer_to, behind, formed, supported, joins, differs, judge, check_by, check_edits, Right, Acceptable, AcceptedRight}
 
 -- ---- tests
 

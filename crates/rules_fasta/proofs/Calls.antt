@@ -15,7 +15,6 @@ use Rattle.rules.specs.Index.{index_check}
 use Rattle.rules.specs.Graph.{All, also}
 use Rattle.rules.specs.Job.{Entry, entries_of, lines_from, lines, result}
 use Rattle.rules.specs.Report.{Report}
-use Rattle.rules.specs.Counts.{turns, lookups}
 use Rattle.rules_ceiling.specs.Ceiling.{Demand3}
 use Rattle.rules.specs.Calls.{Given, without_index, without_counts, After, counts_check, buffers_right, job_check, input_check, batch_right, given_check, offer_check, unchanged, no_room, longest, too_long, results, report, correct_batch}
 use Rattle.rules_laws.proofs.Opened.{both, passed, unless-passed, at_none, passed-15}

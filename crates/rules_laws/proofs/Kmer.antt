@@ -1,5 +1,5 @@
 -- Letters and k-mers: y+b, the last letters, the reverse complement, and the theorem `canonical`.
-use Prim.Native.Nat.{ℕ, zero, suc, ◌+◌, ◌*◌, ◌-◌, ◌/◌, ◌%◌, ◌^◌, ◌≤◌, ◌<◌}
+use Prim.Native.Nat.{ℕ, zero, suc, ◌+◌, ◌*◌, ◌/◌, ◌%◌, ◌^◌, ◌≤◌, ◌<◌}
 use native.Mathlib.Omega.{arith}
 use native.Mathlib.Nat.{mod-lt, pow-suc, one-le-pow, pow-succ'}
 use mathlib.Core.Path.{◌≡◌, refl, sym, ap, ◌∙◌, subst}

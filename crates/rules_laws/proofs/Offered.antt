@@ -17,7 +17,7 @@ use Rattle.rules.specs.Graph.{graph}
 use Rattle.rules.specs.GapSize.{gap_size}
 use Rattle.rules.specs.Driver.{Pass, weaker, drive}
 use Rattle.rules.specs.Job.{Method, One, Two, Graph, GapSize, Entry, entries_of, lines, correct_error, pass, result}
-use Rattle.rules.specs.Report.{yield_of, Report, quotient_of, remainder_of}
+use Rattle.rules.specs.Report.{yield_of, quotient_of, remainder_of}
 use Rattle.rules.specs.Counts.{Fed, sum, passes_of, all_passes, turns, lookups, attempts, corrections, support, support_over, w_of}
 use Rattle.rules.specs.Calls.{Given, without_index, After, unchanged, no_room, longest, too_long, results, report, corrected, counts_check, offer_check, call_by, call, given_check, batch_right, correct_read, correct_batch}
 use Rattle.rules_laws.proofs.Index.{index-refused, offered-agrees}

@@ -2,16 +2,15 @@
 use Prim.Native.Nat.{ℕ, zero, suc, ◌+◌, ◌-◌, ◌≤◌, ◌<◌}
 use native.Mathlib.Omega.{arith}
 use mathlib.Core.Path.{◌≡◌, refl, sym, ap, ap₂, ◌∙◌, fun_ext}
-use mathlib.Core.Bool.{Bool, true, false}
+use mathlib.Core.Bool.{true, false}
 use mathlib.Core.Option.{Option, none, some}
 use mathlib.Core.List.{List, [], ◌∷◌, ◌++◌}
 use lib.ListN.{length, replicate}
-use lib.Dec.{ltb, eqb}
+use lib.Dec.{ltb}
 use Rattle.rules.specs.Letters.{Kmer}
-use Rattle.rules.specs.Refusal.{Refusal, Outcome, accepted, refused, Check, ◌or_else◌, unless}
+use Rattle.rules.specs.Refusal.{Outcome, accepted, refused, Check, ◌or_else◌, unless}
 use Rattle.rules.specs.Set.{KmerSet, offering, first_for, keys_for, lookup, solid, count_of, opened}
 use Rattle.rules.specs.Index.{index_check}
-use Rattle.rules.specs.Counted.{Try}
 use Rattle.rules.specs.Exist.{Mend, exist, one, two}
 use Rattle.rules.specs.Graph.{All, end, also, graph}
 use Rattle.rules.specs.GapSize.{gap_size}

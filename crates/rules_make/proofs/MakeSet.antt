@@ -1,5 +1,5 @@
 -- What an accepted call writes opens with exactly the kept keys; and what it leaves in the list of counts.
-use Prim.Native.Nat.{ℕ, zero, suc, ◌+◌, ◌-◌, ◌%◌, ◌^◌, ◌≤◌, ◌<◌, min}
+use Prim.Native.Nat.{ℕ, zero, suc, ◌-◌, ◌%◌, ◌^◌, ◌≤◌, ◌<◌, min}
 use native.Mathlib.Omega.{arith}
 use borrow.Author.Tests.{eqb-true, leb-true}
 use mathlib.Core.Path.{◌≡◌, refl, sym, ap, ◌∙◌}
@@ -11,7 +11,7 @@ use lib.ListN.{length, get_or, take, drop, replicate}
 use lib.Seq.{take_at, drop_at}
 use Rattle.rules.specs.Letters.{Kmer, add, add_all, kmer, canonical, even_ones, revcomp, code}
 use Rattle.rules.specs.Refusal.{Refusal, accepted, refused, Check, ◌or_else◌, unless}
-use Rattle.rules.specs.Set.{max_k, max_keys, k_right, blocks, opened}
+use Rattle.rules.specs.Set.{max_k, max_keys, k_right, opened}
 use Rattle.rules.specs.Blocks.{Keys, set_blocks, fits, filled}
 use Rattle.rules_make.specs.MakeSet.{text_lines, kept, kept_lines, form_right, line_count, line_key, line_keys, text_keys, max_count, line_counts, text_counts, unless_at, rises_from, line_check, last_kept, lines_check, text_check, set_unmade, both_laid, make_set}
 use Rattle.rules_laws.proofs.Kmer.{four-pos, add-lt, revcomp-lt, canonical-one}

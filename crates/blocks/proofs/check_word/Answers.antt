@@ -1,4 +1,4 @@
-use Rattle.std.proofs.Common.{◌≡◌, ◌-◌, refl, rules}
+use Rattle.std.proofs.Common.{◌≡◌, refl, rules}
 use Rattle.rules.specs.Set.{sum_words}
 use Rattle.blocks.proofs.Words.{sum_more, sum-end}
 use Rattle.blocks.proofs.check_word.Goals as goal

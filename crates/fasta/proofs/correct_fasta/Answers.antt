@@ -61,6 +61,4 @@ unfolding without_index
 returns c =
     let ready = subst (OfferedIs _ _ _ _) c.in-Ready.is c.open-opened.ensures in
     let exact = fasta-corrected _ (fine (goal.at.returns c).In-Fine) (right (goal.at.returns c).In-Fine-file_checked) ready.0 ready.1 c.correct_records.result c.correct_records.ensures in
-    let both =
-    (exact, fasta-ceiling _ c.correct_records.result exact) in
-    record { exact = both.0; ceiling = both.1 }
+    record { exact = exact; ceiling = fasta-ceiling _ c.correct_records.result exact }

@@ -68,9 +68,9 @@ pub returns-in_default : goal.returns-in_default
 returns-in_default c =
     let i = c.loop-from.invariant in
     let taken = c.loop-from-test.true in
-    let kept = c.correct_record-passed.auto.output in
+    let kept = c.correct_record-passed.auto in
     fasta-no-room (call (goal.at.returns-in_default c).After-join-before) c.loop-from.from c.line_end-end.result _ _ _ _ _ _ _ i.3 taken (i.1 taken) c.line_end-end.ensures c.join-joined.ensures
-    c.correct_record-passed.ensures kept.0 c.correct_record-passed.new.work c.in_default.is (kept.1.0 ∙ c.join-joined.auto.work ∙ same-work (goal.at.returns-in_default c).At-loop-from)
+    c.correct_record-passed.ensures kept.output c.correct_record-passed.new.work c.in_default.is (kept.work ∙ c.join-joined.auto.work ∙ same-work (goal.at.returns-in_default c).At-loop-from)
     c.no_room.ensures
 
 -- The record is done, and the next one is due; s is the support with it.

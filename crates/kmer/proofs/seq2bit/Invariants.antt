@@ -1,8 +1,8 @@
-use Prim.Native.Nat.{◌-◌, ◌≤◌}
+use Prim.Native.Nat.{◌≤◌}
 use mathlib.Core.Path.{◌≡◌}
 use lib.ListN.{take}
 use lib.Seq.{slice}
-use Rattle.rules.specs.Letters.{add_all, kmer, code}
+use Rattle.rules.specs.Letters.{add_all}
 use Rattle.kmer.specs.Kmer.{IsKmer, kmer_of}
 use Rattle.kmer.proofs.seq2bit.Given as goal
 

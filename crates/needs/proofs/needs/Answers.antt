@@ -5,7 +5,7 @@ use mathlib.Core.Option.{none}
 use borrow.Author.Tests.{not-true, not-false}
 use lib.ListN.{length, length-replicate}
 use Rattle.rules.specs.Calls.{batch_right}
-use Rattle.rules_needs.specs.Needs as goal
+use Rattle.rules_needs.specs.Needs as wanted
 use Rattle.rules_needs.specs.Needs.{needs_check}
 use Rattle.input.specs.Input.{check_of}
 use Rattle.input.proofs.Checks.{is-refused}
@@ -17,7 +17,7 @@ use Rattle.needs.proofs.Calls.{bookable, ceiling, checked_refused, not_right, no
 use Rattle.needs.proofs.needs.Goals.{After-check_needs-checked, Else-not-check_batch, In-Fine}
 use Rattle.needs.proofs.needs.Goals as goal
 
-abbrev call : After-check_needs-checked → goal.Asked
+abbrev call : After-check_needs-checked → wanted.Asked
 call c = (let a = c.args in asked a.set.now a.index.now a.counts.now a.job.now a.batch.now a.work.now)
 
 pub refused-requires : goal.refused-requires
@@ -56,6 +56,4 @@ pub returns : goal.returns
 returns c =
     let ready = subst (OfferedIs _ _ _ _) c.in-Ready.is c.open-opened.ensures in
     let exact = counted-exact (call (goal.at.returns c).After-check_needs-checked) (fine (goal.at.returns c).In-Fine) (right (goal.at.returns c).Else-not-check_batch) ready.0 ready.1 _ c.count_lines.ensures in
-    let both =
-    (exact, ceiling (call (goal.at.returns c).After-check_needs-checked) _ exact) in
-    record { exact = both.0; ceiling = both.1 }
+    record { exact = exact; ceiling = ceiling (call (goal.at.returns c).After-check_needs-checked) _ exact }
