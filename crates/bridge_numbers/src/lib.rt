@@ -1,4 +1,6 @@
 // The answer of a bridge call as numbers.
+#![tactic(auto)]
+
 ghost use Rattle.std.specs.Prelude.{◌≡◌};
 ghost use Rattle.bridge.specs.Answer.{answer_of};
 ghost use Rattle.bridge_numbers.specs.Numbers.{bridge_numbers};

@@ -3,7 +3,6 @@ use Rattle.std.specs.Prelude.{ℕ, ◌+◌, ◌-◌, ◌≤◌, ◌≡◌, List,
 use Rattle.rules.specs.Counted.{Counted}
 use Rattle.rules_bridge.specs.Bridge as rules
 use Rattle.rules_bridge.specs.Bridge.{found, tried, stopped}
-use Rattle.bridge_search.specs.declared.End.{End}
 use Rattle.bridge_search.specs.declared.End.TheVariants as Ends
 use Rattle.bridge_search.specs.declared.Search.{Search}
 

@@ -1,9 +1,6 @@
-use Prim.Native.Nat.{◌-◌}
 use mathlib.Core.Path.{refl}
 use borrow.Author.Rules.{rules}
-use Rattle.rules_bridge.specs.Bridge as rules
-use Rattle.bridge_search.proofs.Laws.{other_tag}
-use Rattle.bridge.proofs.Deepening.{not_found, over-told, found-told, stopped-told, tried-on}
+use Rattle.bridge.proofs.Deepening.{over-told, found-told, stopped-told, tried-on}
 use Rattle.bridge.proofs.rounds.Goals as goal
 
 pub loop-round-init : goal.loop-round-init
@@ -13,7 +10,7 @@ pub returns-in_default-end : goal.returns-in_default-end
 returns-in_default-end c =
     let l = c.loop-round in
     stopped-told _ _ _ _ _ _ _ _ _ _ l.invariant.1 (search rules) c.from_kmer-r.result c.from_kmer-r.ensures _
-    (λ e. other_tag (rw e at c.in-Tried.keys2)) (λ n e. not_found (rw e at c.in-Found.keys2)) c.requires.6 c.requires.5
+    c.in_default.not-Tried c.in_default-end.not-Found c.requires.6 c.requires.5
 
 pub returns-in_default : goal.returns-in_default
 returns-in_default c =

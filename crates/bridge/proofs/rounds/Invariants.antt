@@ -1,7 +1,6 @@
 use Prim.Native.Nat.{◌-◌, ◌≤◌}
 use mathlib.Core.Path.{◌≡◌}
 use lib.ListN.{take}
-use borrow.Author.Rules.{rules}
 use Rattle.rules.specs.Set.{solid, set_of}
 use Rattle.rules_bridge.specs.Bridge as rules
 use Rattle.bridge.proofs.rounds.Given as goal

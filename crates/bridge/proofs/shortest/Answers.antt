@@ -1,13 +1,12 @@
 use native.Mathlib.Omega.{arith}
-use Rattle.bridge_search.proofs.Laws.{other_tag}
-use Rattle.bridge.proofs.Deepening.{not_found, best-laid, best-moves, chained, chain-deep, tried-deep, stopped-deep}
+use Rattle.bridge.proofs.Deepening.{best-laid, best-moves, chained, chain-deep, tried-deep, stopped-deep}
 use borrow.Author.Rules.{rules}
 use Rattle.bridge.proofs.shortest.Goals as goal
 
 pub returns-in_default-end : goal.returns-in_default-end
 returns-in_default-end c =
-    stopped-deep _ _ _ _ _ c.from_kmer-deep.result c.from_kmer-deep.ensures _ (λ e. other_tag (rw e at c.in-Tried.keys2))
-    (λ n e. not_found (rw e at c.in-Found.keys2)) c.nothing.ensures
+    stopped-deep _ _ _ _ _ c.from_kmer-deep.result c.from_kmer-deep.ensures _ c.in_default-end.not-Tried c.in_default.not-Found
+    c.nothing.ensures
 
 pub returns-in_default : goal.returns-in_default
 returns-in_default c =
