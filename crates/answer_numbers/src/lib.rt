@@ -1,4 +1,6 @@
 // A call's answer as numbers, and numbers told in a slice that the host lends.
+#![tactic(auto)]
+
 ghost use Rattle.std.specs.Prelude.{◌≡◌, ◌<◌, length};
 ghost use Rattle.refusal.specs.Refusal.{refusal_of};
 ghost use Rattle.report.specs.Answer.{answer_of};
