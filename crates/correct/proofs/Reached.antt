@@ -1,8 +1,8 @@
 -- A place that a pass has reached, whatever bytes it had put out at the first one.
 use Prim.Native.Nat.{ℕ, ◌+◌, ◌≤◌}
-use mathlib.Core.Path.{◌≡◌, refl, sym, ap, ◌∙◌, subst}
+use mathlib.Core.Path.{◌≡◌, refl, sym, ap, ◌∙◌}
 use mathlib.Core.List.{List, ◌++◌}
-use lib.ListN.{length, length-append, take, drop, drop_of_length-le}
+use lib.ListN.{length, length-append, take, drop_of_length-le}
 use Rattle.rules.specs.Set.{solid, count_of}
 use Rattle.rules.specs.Driver.{Pass, State}
 use Rattle.rules_laws.proofs.Driver.{finish-end}

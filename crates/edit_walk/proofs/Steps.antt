@@ -1,18 +1,15 @@
 -- The walk in the code's terms.
 use Prim.Native.Nat.{ℕ, suc, ◌+◌, ◌≤◌, ◌<◌, min}
-use native.Mathlib.Omega.{arith}
 use native.Mathlib.Numerals.{add-one}
 use borrow.Author.Tests.{eq-eqb, ne_eqb, lt-ltb, le-ltb}
 use mathlib.Core.Path.{◌≡◌, refl, sym, ap, ap₂, ◌∙◌, subst}
 use mathlib.Core.Bool.{Bool, true, false, not, ◌&&◌}
 use mathlib.Core.Option.{Option, none, some}
-use mathlib.Core.List.{List, [], ◌∷◌}
+use mathlib.Core.List.{List, ◌∷◌}
 use lib.ListN.{length, get_or, drop, drop_of_length-le}
 use lib.Seq.{drop-cons}
 use lib.Dec.{ltb}
 use Rattle.rules.specs.Letters.{Kmer, add_base}
-use Rattle.rules.specs.Scan.{ask}
-use Rattle.kmer.specs.Kmer.{kmer_of}
 use Rattle.edit_walk.specs.declared.Walk.{Walk}
 use Rattle.edit_walk.specs.declared.Step.{Step}
 use Rattle.edit_walk.specs.declared.Step.TheVariants as Steps

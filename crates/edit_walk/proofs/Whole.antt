@@ -3,7 +3,7 @@ use Prim.Native.Nat.{ℕ, zero, suc, ◌+◌, ◌≤◌, ◌<◌, min}
 use native.Mathlib.Omega.{arith}
 use borrow.Author.Tests.{eqb-true, eqb-false, ltb-true, ltb-false}
 use mathlib.Core.Path.{◌≡◌, refl, sym, ap, ◌∙◌, subst}
-use mathlib.Core.Bool.{Bool, true, false, not, true≢false}
+use mathlib.Core.Bool.{Bool, true, false, true≢false}
 use mathlib.Core.Option.{Option, none, some}
 use mathlib.Core.List.{List, [], ◌∷◌, ◌++◌, append_assoc, append-nil}
 use lib.ListN.{length, length-append}
@@ -11,11 +11,10 @@ use lib.Dec.{eqb, ltb}
 use Rattle.rules.specs.Letters.{Kmer, add_base, kmer}
 use Rattle.rules.specs.Refusal.{first_failing}
 use Rattle.rules.specs.Set.{is_none}
-use Rattle.rules.specs.Scan.{ask}
 use Rattle.rules_laws.proofs.Keys.{none-fails}
 use Rattle.rules_laws.proofs.Keys.{none-failing}
 use Rattle.rules_edits.specs.Edits.{Sheet, count, given, kept, letters_of, made_to, rest, made, start, kmer_to, supported}
-use Rattle.rules_edits.proofs.Edits.{Formed, letters-length, made-next, made-le, ends-before, start-low, rest_some}
+use Rattle.rules_edits.proofs.Edits.{Formed, letters-length, made-le, ends-before, start-low, rest_some}
 use Rattle.edit_walk.specs.Walk.{Stand, Walked, on, offends, next, stepped, and_then, yes, pass_over, at_edit, over_edit, walk_from, begins, walk}
 use Rattle.edit_walk.proofs.Windows.{add-snoc, window}
 

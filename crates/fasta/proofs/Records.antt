@@ -5,25 +5,24 @@ use native.Mathlib.Nat.{add-zero, zero-add, sub-zero}
 use native.Mathlib.Numerals.{add-one}
 use borrow.Author.Tests.{leb-true, eqb-true, ne_eqb}
 use mathlib.Core.Path.{◌≡◌, refl, sym, ap, ap₂, ◌∙◌, subst}
-use mathlib.Core.Bool.{Bool, true, ◌&&◌, ◌||◌}
+use mathlib.Core.Bool.{Bool, true, ◌||◌}
 use mathlib.Core.Option.{none, some}
 use mathlib.Core.Logic.{⊎_elim}
 use mathlib.Core.List.{List, [], ◌∷◌, ◌++◌, append-nil}
-use lib.ListN.{length, get_or, take, drop, replicate, length-append, length-take, length-drop}
+use lib.ListN.{length, get_or, take, drop, replicate}
 use lib.Dec.{eqb, ltb, leb}
 use lib.Seq.{length-take-le, take-length}
 use Rattle.rules.specs.Refusal.{accepted}
-use Rattle.rules.specs.Report as Reports
 use Rattle.rules.specs.Set.{KmerSet, offering}
 use Rattle.rules.specs.Driver.{weaker}
 use Rattle.rules.specs.Job.{Entry, entries_of, lines}
 use Rattle.rules.specs.Counts.{sum, all_passes, turns, lookups, attempts, corrections, support_over, w_of}
-use Rattle.rules.specs.Calls.{Given, After, max_methods, longest, no_room, results, report}
+use Rattle.rules.specs.Calls.{Given, After, max_methods, no_room, results, report}
 use Rattle.rules_laws.proofs.Opened.{both as and-true}
 use Rattle.rules_laws.proofs.Job.{entries_of-length}
 use Rattle.rules_laws.proofs.Support.{weaker-none}
 use Rattle.rules_laws.proofs.Calls.{sum_first, support-first}
-use Rattle.rules_fasta.specs.Fasta.{mark, Record, joined, records_of, records, reads_of, max_records, file_right, text, texts, no_room_at, with_written, fasta_report, corrected_records}
+use Rattle.rules_fasta.specs.Fasta.{mark, Record, records_of, records, reads_of, max_records, file_right, text, texts, no_room_at, with_written, fasta_report, corrected_records}
 use Rattle.rules_fasta.proofs.Text.{no-room-text, no-room-pass, room-later}
 use Rattle.rules_fasta.proofs.Calls.{records-full, records-fit}
 use Rattle.set.specs.Counted.{set_with}

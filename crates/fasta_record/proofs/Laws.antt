@@ -1,5 +1,5 @@
 -- A read's way from the work buffer and back, and its record's text.
-use Prim.Native.Nat.{ℕ, ◌+◌, ◌-◌, ◌/◌, max, ◌≤◌, ◌<◌}
+use Prim.Native.Nat.{ℕ, ◌+◌, ◌-◌, ◌/◌, ◌≤◌, ◌<◌}
 use native.Mathlib.Omega.{arith}
 use mathlib.Core.Path.{◌≡◌, refl, sym, ap, ap₂, ◌∙◌, subst}
 use mathlib.Core.List.{List, [], ◌∷◌, ◌++◌}
@@ -9,7 +9,6 @@ use Rattle.rules.specs.Set.{KmerSet}
 use Rattle.rules.specs.Job.{Entry, entry_count, entries_of, pass, result}
 use Rattle.rules.specs.Counts.{sum, passes_of, support_over}
 use Rattle.rules.specs.Calls.{longest}
-use Rattle.rules_laws.proofs.Job.{entries_of-length}
 use Rattle.rules_fasta.specs.Fasta.{Record, read_lines, ended, mended, text}
 use Rattle.rules_fasta.proofs.Text.{text-length}
 use Rattle.support.specs.Support.{support_of}

@@ -1,11 +1,11 @@
 -- A batch line by line, counted: what is done and what is left.
 use Prim.Native.Nat.{ℕ, ◌+◌, ◌*◌, ◌-◌, ◌^◌, ◌≤◌, ◌<◌}
 use native.Mathlib.Omega.{arith}
-use native.Mathlib.Nat.{add-zero, mul-le-mul_right}
-use mathlib.Core.Path.{◌≡◌, sym, ap, ◌∙◌}
+use native.Mathlib.Nat.{mul-le-mul_right}
+use mathlib.Core.Path.{◌≡◌, ap, ◌∙◌}
 use mathlib.Core.Bool.{true}
 use mathlib.Core.List.{List, [], ◌∷◌}
-use lib.ListN.{length, take, drop, length-append, length-take, length-drop, drop_of_length-le}
+use lib.ListN.{length, take, drop, length-append, length-take, drop_of_length-le}
 use Rattle.rules.specs.Set.{KmerSet}
 use Rattle.rules.specs.Job.{Entry, entry_at, entry_count, entries_from, entries_of, pass, result, lines, lines_from}
 use Rattle.rules.specs.Counts.{sum, passes_of, all_passes, turns, lookups}

@@ -1,12 +1,12 @@
 -- The entries of an index as a table of starts.
 use Prim.Native.Nat.{ℕ, ◌+◌, ◌*◌, ◌-◌, ◌/◌, ◌^◌, ◌≤◌, ◌<◌}
 use native.Mathlib.Omega.{arith}
-use mathlib.Core.Path.{◌≡◌, sym, ap, ◌∙◌}
+use mathlib.Core.Path.{◌≡◌, sym, ap}
 use mathlib.Core.Option.{none}
 use mathlib.Core.Logic.{◌⊎◌, inl, inr}
 use mathlib.Core.List.{List, []}
 use lib.ListN.{length, get_or}
-use Rattle.rules.specs.Set.{first_letters, first_code, entry_in, header_k, header_n, key_word, set_check, set_of}
+use Rattle.rules.specs.Set.{first_letters, first_code, entry_in, header_k, key_word, set_check, set_of}
 use Rattle.rules.specs.Blocks.{blocks_for}
 use Rattle.rules.specs.Index.{index_entry, index_entries, index_list, index_blocks, index_check}
 use Rattle.rules_laws.proofs.Kmer.{two-four}

@@ -3,18 +3,18 @@ use Prim.Native.Nat.{ℕ, suc, ◌+◌, ◌-◌, ◌≤◌, ◌<◌}
 use native.Mathlib.Omega.{arith}
 use native.Mathlib.Numerals.{add-one}
 use borrow.Author.Tests.{lt-ltb, le-leb, lt-leb, eq-eqb, ne_eqb, eqb-true}
-use mathlib.Core.Path.{◌≡◌, refl, sym, ap, ◌∙◌, subst}
+use mathlib.Core.Path.{◌≡◌, refl, sym, ap, ◌∙◌}
 use mathlib.Core.Bool.{Bool, true, false, not, ◌&&◌, ◌||◌}
-use mathlib.Core.Option.{Option, none, some}
+use mathlib.Core.Option.{none, some}
 use mathlib.Core.Logic.{◌⊎◌, ⊎_elim}
 use mathlib.Core.List.{List, [], ◌∷◌, ◌++◌, append_assoc}
-use lib.Dec.{eqb, ltb, leb}
+use lib.Dec.{eqb, ltb}
 use lib.ListN.{length, get_or, take, drop, length-drop, drop_of_length-le}
 use lib.Seq.{drop-cons, length-take-le}
 use Rattle.rules.specs.Letters.{among}
 use Rattle.rules.specs.Refusal.{unless, at_place, ◌or_else◌}
 use Rattle.rules.specs.Job.{lines_from, lines}
-use Rattle.rules_fasta.specs.Fasta.{mark, is_name, Record, joined, records_of, records, max_records, file_right, line_right, first_wrong}
+use Rattle.rules_fasta.specs.Fasta.{mark, is_name, joined, records_of, records, max_records, file_right, line_right, first_wrong}
 use Rattle.refusal.specs.declared.Refusal.TheVariants.{Batch, Sequence}
 use Rattle.refusal.specs.Refusal.{refusal_of}
 use Rattle.input.specs.Input.{LineAt}

@@ -1,5 +1,5 @@
 -- What the end of a call leaves.
-use Rattle.std.specs.Prelude.{ℕ, ◌-◌, ◌≡◌, Bool, true, false, ◌&&◌, List, ◌++◌, length, take, replicate, ltb}
+use Rattle.std.specs.Prelude.{ℕ, ◌-◌, ◌≡◌, Bool, ◌&&◌, List, ◌++◌, length, take, replicate, ltb}
 use Rattle.rules.specs.Report.{yield_of, quotient_of, remainder_of}
 use Rattle.correct.specs.declared.Counts.{Counts}
 use Rattle.report.specs.declared.Report.{Report}

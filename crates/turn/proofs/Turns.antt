@@ -25,7 +25,7 @@ use Rattle.rules_laws.proofs.Driver.{turn-solid, turn-quiet, turn-refused, turn-
 use Rattle.rules_ceiling.proofs.Demands.{steady}
 use Rattle.kmer.specs.declared.Header.{Header}
 use Rattle.kmer.specs.declared.Kmer.{Kmer}
-use Rattle.kmer.specs.Kmer.{kmer_of, IsKmer, HasLetters}
+use Rattle.kmer.specs.Kmer.{kmer_of, HasLetters}
 use Rattle.set.specs.Ready.{Ready}
 use Rattle.set.specs.declared.Asked.{Asked}
 use Rattle.set.specs.Asked.{AskedIs}

@@ -2,8 +2,7 @@ use Prim.Native.Nat.{ℕ, ◌-◌, ◌≤◌}
 use native.Mathlib.Omega.{arith}
 use mathlib.Core.Path.{sym, ap, ◌∙◌}
 use mathlib.Core.Bool.{not}
-use mathlib.Core.Logic.{⊎_elim}
-use borrow.Author.Tests.{not-true, not-false, ltb-true, ltb-false, eq-eqb, ne_eqb}
+use borrow.Author.Tests.{not-true, ltb-true, ltb-false, eq-eqb, ne_eqb}
 use Rattle.rules.specs.Set.{set_of}
 use Rattle.rules.specs.Index.{index_entry}
 use Rattle.index.proofs.Laws.{entry-le}

@@ -2,7 +2,6 @@ use Prim.Native.Nat.{◌+◌, ◌≤◌}
 use native.Mathlib.Omega.{arith}
 use mathlib.Core.Path.{◌≡◌, sym, ap, ◌∙◌, subst}
 use mathlib.Core.Bool.{true}
-use mathlib.Core.Logic.{⊎_elim}
 use lib.ListN.{length, take}
 use borrow.Author.Rules.{rules}
 use Rattle.rules.specs.Set.{solid, set_of}

@@ -4,7 +4,6 @@ use mathlib.Core.Path.{refl, sym, ◌∙◌}
 use lib.Dec.{lit<}
 use borrow.Author.Rules.{rules}
 use Rattle.rules_make.specs.MakeSet.{is_digit}
-use Rattle.rules_make.specs.MakeSet as Rules
 use Rattle.kmer_text.proofs.Laws.{all-at, digit-range, number_more, number-end, ten-more, ten-fits}
 use Rattle.kmer_text.proofs.number_of.Goals.{After-wide}
 use Rattle.kmer_text.proofs.number_of.Goals as goal

@@ -3,14 +3,13 @@ use mathlib.Core.Path.{◌≡◌, sym, subst}
 use mathlib.Core.Option.{none}
 use lib.ListN.{length}
 use mathlib.Core.Bool.{true}
-use mathlib.Core.Logic.{⊎_elim}
 use Rattle.rules.specs.Set.{k_right}
 use Rattle.rules_make.specs.MakeSet.{text_keys, text_check}
 use Rattle.judge_text.specs.declared.Judged.TheVariants.{Kept}
 use Rattle.judge_text.specs.Judged.{JudgedAs}
 use Rattle.judge_text.proofs.Judging.{is-refused}
 use Rattle.make_set.proofs.Makes.{at-k, at-line, at-keys, at_none, made-refused, blocks-short, counts-short, made-both, k-right, k-even, k-large}
-use borrow.Author.Tests.{ltb-true, ltb-false}
+use borrow.Author.Tests.{ltb-false}
 use Rattle.make_set.proofs.make_set.Goals.{After-judge-judged, Else-k-gt31, Else-n-gt-MAX_KEYS, In-Kept, then-blocks-length-via-then-blocks-length, then-blocks-length-via-else-blocks-length+then-counts-n}
 use Rattle.make_set.proofs.make_set.Goals as goal
 

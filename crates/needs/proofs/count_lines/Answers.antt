@@ -6,7 +6,6 @@ use mathlib.Core.List.{List, [], ◌∷◌}
 use lib.ListN.{length, take, drop, length-take, length-drop}
 use Rattle.rules.specs.Refusal.{accepted}
 use Rattle.rules.specs.Job.{Entry, entry, entries_of, lines}
-use Rattle.rules_needs.specs.Needs as wanted
 use Rattle.rules_needs.specs.Needs.{needed_for}
 use Rattle.rules_laws.proofs.Job.{confirmed-entry}
 use Rattle.set.specs.Counted.{set_with}

@@ -1,8 +1,7 @@
 use Prim.Native.Nat.{◌-◌, ◌≤◌}
 use mathlib.Core.Path.{◌≡◌}
 use lib.ListN.{length}
-use Rattle.rules.specs.Job.{entry, lines}
-use Rattle.rules_needs.specs.Needs as wanted
+use Rattle.rules.specs.Job.{entry}
 use Rattle.set.specs.Counted.{set_with}
 use Rattle.needs.proofs.Lines.{Going}
 use Rattle.needs.proofs.count_lines.Given as goal

@@ -1,6 +1,5 @@
 use Prim.Native.Nat.{◌*◌, ◌-◌, ◌≤◌, min}
 use mathlib.Core.Path.{◌≡◌}
-use Rattle.rules.specs.Set as Rules
 use Rattle.set_checks.specs.Keys.{least_key}
 use Rattle.set_checks.specs.Checks.{first_wrong, wrong_key}
 use Rattle.opening.proofs.check_keys.Given as goal

@@ -2,10 +2,9 @@ use Prim.Native.Nat.{◌%◌, ◌≤◌}
 use native.Mathlib.Omega.{arith}
 use mathlib.Core.Path.{◌≡◌, sym, ap, ◌∙◌}
 use mathlib.Core.Bool.{true}
-use mathlib.Core.Logic.{⊎_elim}
 use lib.ListN.{length}
 use borrow.Author.Rules.{rules}
-use borrow.Author.Tests.{eqb-true, eqb-false, not-true, not-false}
+use borrow.Author.Tests.{eqb-true, not-true, not-false}
 use Rattle.rules.specs.Refusal.{at_place}
 use Rattle.rules.specs.Set as Rules
 use Rattle.refusal.specs.declared.Refusal.TheVariants.{Header}

@@ -1,5 +1,5 @@
-use mathlib.Core.Path.{sym, ◌∙◌}
-use mathlib.Core.Logic.{inl, inr, ⊎_elim}
+use mathlib.Core.Path.{◌∙◌}
+use mathlib.Core.Logic.{inl, inr}
 use Rattle.kmer.specs.Kmer.{kmer_of}
 use Rattle.passed.specs.Filter.{suffix, Noted}
 use Rattle.passed.proofs.Bits.{asked, not-passed}

@@ -1,6 +1,5 @@
 use Prim.Native.Nat.{◌-◌}
 use mathlib.Core.Path.{◌≡◌}
-use Rattle.rules.specs.Set as Rules
 use Rattle.set_checks.specs.Checks.{first_wrong}
 use Rattle.set_checks.proofs.check_blocks.Given as goal
 

@@ -1,6 +1,5 @@
 use Prim.Native.Nat.{◌-◌, ◌≤◌}
 use mathlib.Core.Path.{◌≡◌}
-use Rattle.rules.specs.Set as Rules
 use Rattle.set_checks.specs.Keys.{least_key}
 use Rattle.set_checks.specs.Checks.{wrong_key}
 use Rattle.set_checks.proofs.look_at_keys.Given as goal

@@ -8,7 +8,7 @@ use Rattle.scan.specs.declared.Attempt.TheVariants.{Mend, Refused}
 use Rattle.set.proofs.Counted.{with-solid}
 use Rattle.turn.specs.Turn.{Fits}
 use Rattle.turn.proofs.Parts.{tail-part}
-use Rattle.turn.proofs.Turns.{rest-is, kept-lookups, keep-fits, kept-went, Tried, refused-keep, mended_fits, mended-is, is-full, not-mend, not-refused, no_room_lem, short}
+use Rattle.turn.proofs.Turns.{rest-is, kept-lookups, keep-fits, kept-went, Tried, refused-keep, mended_fits, mended-is, is-full, no_room_lem, short}
 use Rattle.turn.proofs.bad_base.Goals.{After-correct_error-tried, In-Mend, In-Refused}
 use Rattle.turn.proofs.bad_base.Goals as goal
 

@@ -1,7 +1,6 @@
 use Prim.Native.Nat.{◌+◌, ◌-◌, ◌*◌, ◌≤◌}
 use mathlib.Core.Path.{◌≡◌}
 use lib.ListN.{length}
-use Rattle.rules.specs.Letters as rules
 use Rattle.rules.specs.Set.{solid, set_of, count_of}
 use Rattle.rules_laws.proofs.Kmer.{Known}
 use Rattle.kmer.specs.Kmer.{kmer_of, IsKmer}

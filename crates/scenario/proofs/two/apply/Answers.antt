@@ -11,7 +11,6 @@ use Rattle.kmer.specs.Kmer.{kmer_of}
 use Rattle.successors.specs.declared.Next.TheVariants.{Kmer, Refused}
 use Rattle.scenario.specs.declared.Trial.{Trial}
 use Rattle.scenario.specs.Scenario.{nth, trial_of, TrialIs}
-use Rattle.scenario.proofs.Numbers.{past}
 use Rattle.scenario.proofs.Trials.{trial-short, trial-long, trial-is, trial-x, trial-sole, trials}
 use Rattle.scenario.proofs.two.apply.Goals.{After-row_of, Else-s-row_of, In_default}
 use Rattle.scenario.proofs.two.apply.Goals as goal

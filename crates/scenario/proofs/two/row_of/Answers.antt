@@ -2,7 +2,7 @@ use native.Mathlib.Omega.{arith}
 use mathlib.Core.Path.{◌≡◌}
 use Rattle.rules.specs.Exist.{row, two}
 use Rattle.scenario.specs.Scenario.{nth}
-use Rattle.scenario.proofs.Numbers.{row-right, past}
+use Rattle.scenario.proofs.Numbers.{row-right}
 use Rattle.scenario.proofs.two.row_of.Goals as goal
 
 pub returns-in-0 : goal.returns-in-0
