@@ -26,12 +26,11 @@ pub overflow_add-start : goal.overflow_add-start
 overflow_add-start c = omega (arith, (half c).1, c.requires.0.few)
 
 pub in_four-requires : goal.in_four-requires
-in_four-requires c =
-    (
-      rw c.lesser.ensures (fewer c.requires.0 _ _ (half (goal.at.in_four-requires c).After-pick-start).0 (half (goal.at.in_four-requires c).After-pick-start).2.within.1),
-      omega (arith, c.lesser.ensures, (half (goal.at.in_four-requires c).After-pick-start).1),
-      omega (arith, c.lesser.ensures),
-    )
+in_four-requires c = (
+  rw c.lesser.ensures (fewer c.requires.0 _ _ (half (goal.at.in_four-requires c).After-pick-start).0 (half (goal.at.in_four-requires c).After-pick-start).2.within.1),
+  omega (arith, c.lesser.ensures, (half (goal.at.in_four-requires c).After-pick-start).1),
+  omega (arith, c.lesser.ensures),
+)
 
 pub returns : goal.returns
 returns c =

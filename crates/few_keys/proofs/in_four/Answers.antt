@@ -43,6 +43,7 @@ module _ (skip : ℕ) (part : List ℕ) (x from end second third last : ℕ) (so
     (second_is : second ≡ min (from + 1) last) (third-is : third ≡ min (from + 2) last) (last-is : last ≡ end - 1) where
   abbrev is : ℕ → Bool
   is i = eqb x (key_in skip part i)
+
   few-at : (((is from || is second) || is third) || is last) ≡ true
       → Answers skip part x from end (At (cond (is from) from (cond (is second) second (cond (is third) third last))))
   few-at e =
@@ -52,13 +53,16 @@ module _ (skip : ℕ) (part : List ℕ) (x from end second third last : ℕ) (so
       (λ d. (omega arith, omega arith, sym (eqb-true x _ d)))
       (λ d. (omega arith, omega arith, sym (eqb-true x _ d)))
       e
+
   few-none : (((is from || is second) || is third) || is last) ≡ false → Answers skip part x from end Nothing
   few-none e i l h same = go (dec_lt i (from + 1)) (dec_lt i (from + 2)) (dec_lt i last)
     where
       not : (j : ℕ) → is j ≡ false → i ≡ j → ⊥
       not j d k = false≢true (sym d ∙ eq-eqb x (key_in skip part j) (sym same ∙ ap (key_in skip part) k))
+
       tests : (is from ≡ false) × (is second ≡ false) × (is third ≡ false) × (is last ≡ false)
       tests = nowhere (is from) (is second) (is third) (is last) e
+
       go : Dec (i < from + 1) → Dec (i < from + 2) → Dec (i < last) → ⊥
       go (yes a) b c = not from tests.0 (omega arith)
       go (no a) (yes b) c = not second tests.1 (omega arith)

@@ -15,10 +15,12 @@ use Rattle.few_keys.proofs.in_two.Goals as goal
 module _ (skip : ℕ) (part : List ℕ) (x from end : ℕ) (some : from < end) (two : end ≤ from + 2) where
   abbrev is : ℕ → Bool
   is i = eqb x (key_in skip part i)
+
   two_at : (p q : Bool) → is from ≡ p → is (end - 1) ≡ q → (p || q) ≡ true → Answers skip part x from end (At (cond p from (end - 1)))
   two_at true q d e h = (omega arith, omega arith, sym (eqb-true x _ d))
   two_at false true d e h = (omega arith, omega arith, sym (eqb-true x _ e))
   two_at false false d e h = absurd (false≢true h)
+
   two_none : (p q : Bool) → is from ≡ p → is (end - 1) ≡ q → (p || q) ≡ false → Answers skip part x from end Nothing
   two_none true q d e h i l g same = absurd (false≢true (sym h))
   two_none false true d e h i l g same = absurd (false≢true (sym h))
@@ -26,6 +28,7 @@ module _ (skip : ℕ) (part : List ℕ) (x from end : ℕ) (some : from < end) (
     where
       not : (j : ℕ) → is j ≡ false → i ≡ j → ⊥
       not j b k = false≢true (sym b ∙ eq-eqb x (key_in skip part j) (sym same ∙ ap (key_in skip part) k))
+
       go : Dec (from < i) → ⊥
       go (yes a) = not (end - 1) e (omega arith)
       go (no a) = not from d (omega arith)

@@ -7,7 +7,7 @@ use Rattle.rules.specs.Refusal.{◌or_else◌, unless}
 use Rattle.rules.specs.Job.{entry_count}
 use Rattle.rules_needs.specs.Needs.{needs_check}
 use Rattle.input.proofs.Checks.{refuses, is-fine}
-use Rattle.input.proofs.check_needs.Goals.{After-count, Else-count-ne1}
+use Rattle.input.proofs.check_needs.Goals.{After-count}
 use Rattle.input.proofs.check_needs.Goals as goal
 
 pub returns-in_default : goal.returns-in_default
@@ -35,25 +35,18 @@ returns-then-count-ne1 c =
     sym (by_entries (goal.at.returns-then-count-ne1 c).After-count ∙ rw (ne_eqb _ _ other))
 
 -- One entry: 5 decides.
-by-work : (c : Else-count-ne1) →
-    let a = c.args in
-    needs_check a.batch a.job.now a.work ≡ unless (leb a.batch a.work) 5
-unfolding unless ◌or_else◌
-by-work c =
-    let a = c.args in
-    let one : entry_count a.job.now ≡ 1 = omega (arith, c.count.ensures, c.if-count-ne1.false) in
-    by_entries (goal.at.Else-count-ne1 c).After-count ∙ rw (eq-eqb _ _ one)
-
 pub returns-then-batch-work : goal.returns-then-batch-work
-unfolding unless
+unfolding unless ◌or_else◌
 returns-then-batch-work c =
     let a = c.args in
+    let one : entry_count a.job.now ≡ 1 = omega (arith, c.count.ensures, c.if-count-ne1.false) in
     let enough : a.batch ≤ a.work = omega (arith, c.if-batch-work.true) in
-    sym (by-work (goal.at.returns-then-batch-work c).Else-count-ne1 ∙ rw (le-leb _ _ enough))
+    sym (by_entries (goal.at.returns-then-batch-work c).After-count ∙ rw (eq-eqb _ _ one, le-leb _ _ enough))
 
 pub returns : goal.returns
-unfolding unless
+unfolding unless ◌or_else◌
 returns c =
     let a = c.args in
+    let single : entry_count a.job.now ≡ 1 = omega (arith, c.count.ensures, c.if-count-ne1.false) in
     let short : a.work < a.batch = omega (arith, c.if-batch-work.false) in
-    sym (by-work (goal.at.returns c).Else-count-ne1 ∙ rw (lt-leb _ _ short))
+    sym (by_entries (goal.at.returns c).After-count ∙ rw (eq-eqb _ _ single, lt-leb _ _ short))

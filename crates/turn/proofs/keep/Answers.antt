@@ -8,9 +8,9 @@ use Rattle.turn.proofs.keep.Goals as goal
 -- The base is written where there is room.
 written : (c : Joined-out-gt0) → let a = c.args in c.if-out-gt0.out ≡ set a.out.now 0 a.base
 written c = elim c.if-out-gt0.branch [
-      | then-out-gt0 v ↦ v.out-is
-      | else-out-gt0 v ↦ v.out-is ∙ sym (set_out _ 0 _ (omega (arith, v.if-out-gt0.false)))
-    ]
+  | then-out-gt0 v ↦ v.out-is
+  | else-out-gt0 v ↦ v.out-is ∙ sym (set_out _ 0 _ (omega (arith, v.if-out-gt0.false)))
+]
 
 pub shape_of-out : goal.shape_of-out
 shape_of-out c = let a = c.args in ap length (written (goal.at.shape_of-out c).Joined-out-gt0) ∙ length-set a.out.now 0 a.base

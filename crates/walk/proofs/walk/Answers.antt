@@ -85,19 +85,18 @@ overflow_mul-fuel c = omega (arith, keys (goal.at.overflow_mul-fuel c).Start)
 
 pub loop-moves-init : goal.loop-moves-init
 unfolding kmer_of
-loop-moves-init c =
-    (
-      omega arith,
-      omega (arith, keys (goal.at.loop-moves-init c).Start),
-      omega arith,
-      omega arith,
-      refl,
-      c.requires.1,
-      c.requires.2,
-      rw (c.write_last.ensures, c.requires.5)
-          (going_start _ _ _ _ (kmer_of c.args.scan.end) (kmer_of c.args.x) c.args.out.now
-          (sym c.same.ensures ∙ c.if-same.false)),
-    )
+loop-moves-init c = (
+  omega arith,
+  omega (arith, keys (goal.at.loop-moves-init c).Start),
+  omega arith,
+  omega arith,
+  refl,
+  c.requires.1,
+  c.requires.2,
+  rw (c.write_last.ensures, c.requires.5)
+      (going_start _ _ _ _ (kmer_of c.args.scan.end) (kmer_of c.args.x) c.args.out.now
+      (sym c.same.ensures ∙ c.if-same.false)),
+)
 
 pub overflow_add-lookups-in-loop-moves : goal.overflow_add-lookups-in-loop-moves
 overflow_add-lookups-in-loop-moves c = omega (arith, c.loop-moves.invariant, c.requires)
@@ -178,24 +177,24 @@ loop-moves-preserved c =
     let new = sym c.same-in-loop-moves-2.ensures ∙ c.if-same-3.false in
     elim c.if-moves-marks_at.branch [
       | then-moves-marks_at v ↦ (
-      omega arith,
-      i.1,
-      omega (arith, v.if-moves-marks_at.true, v.marks_at-is, i.2),
-      omega (arith, i.3),
-      same,
-      (told (goal.at.loop-moves-preserved c).After-add_nuc_to_end-next).1,
-      known,
-      rw (v.mark-is, v.marks_at-is, c.write_last-in-loop-moves.ensures, weighed (goal.at.loop-moves-preserved c).After-lower-weakest) (walk-marks (low (goal.at.loop-moves-preserved c).At-loop-moves) i.6 i.7 lt _ (told (goal.at.loop-moves-preserved c).After-add_nuc_to_end-next).0 ne new v.if-moves-marks_at.true),
+        omega arith,
+        i.1,
+        omega (arith, v.if-moves-marks_at.true, v.marks_at-is, i.2),
+        omega (arith, i.3),
+        same,
+        (told (goal.at.loop-moves-preserved c).After-add_nuc_to_end-next).1,
+        known,
+        rw (v.mark-is, v.marks_at-is, c.write_last-in-loop-moves.ensures, weighed (goal.at.loop-moves-preserved c).After-lower-weakest) (walk-marks (low (goal.at.loop-moves-preserved c).At-loop-moves) i.6 i.7 lt _ (told (goal.at.loop-moves-preserved c).After-add_nuc_to_end-next).0 ne new v.if-moves-marks_at.true),
       )
       | else-moves-marks_at v ↦ (
-      omega arith,
-      i.1,
-      omega (arith, v.marks_at-is, i.2),
-      omega (arith, i.3),
-      same,
-      (told (goal.at.loop-moves-preserved c).After-add_nuc_to_end-next).1,
-      known,
-      rw (v.mark-is, v.marks_at-is, c.write_last-in-loop-moves.ensures, weighed (goal.at.loop-moves-preserved c).After-lower-weakest) (walk-goes (low (goal.at.loop-moves-preserved c).At-loop-moves) i.6 i.7 lt _ (told (goal.at.loop-moves-preserved c).After-add_nuc_to_end-next).0 ne new v.if-moves-marks_at.false),
+        omega arith,
+        i.1,
+        omega (arith, v.marks_at-is, i.2),
+        omega (arith, i.3),
+        same,
+        (told (goal.at.loop-moves-preserved c).After-add_nuc_to_end-next).1,
+        known,
+        rw (v.mark-is, v.marks_at-is, c.write_last-in-loop-moves.ensures, weighed (goal.at.loop-moves-preserved c).After-lower-weakest) (walk-goes (low (goal.at.loop-moves-preserved c).At-loop-moves) i.6 i.7 lt _ (told (goal.at.loop-moves-preserved c).After-add_nuc_to_end-next).0 ne new v.if-moves-marks_at.false),
       )
     ]
 
