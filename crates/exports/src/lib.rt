@@ -1,5 +1,7 @@
 // The calls of documents 01 and 02 for C and Rust: a slice passes as pointer and length, and what a call answers stands as numbers in a lent slice.
 // corrector.h says the same for a host.
+#![tactic(auto)]
+
 ghost use Rattle.std.specs.Prelude.{◌≡◌, [], ◌∷◌};
 ghost use Rattle.rules.specs.Set.{set_of, offering, opened};
 ghost use Rattle.rules.specs.Job.{entries_of, lines};

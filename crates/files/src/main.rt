@@ -1,83 +1,89 @@
 // The program over files of its own folder, one case after the other; `stdout` holds what document 01 says of each. full.set has k = 9 and as keys the
 // first 8,001 canonical codes, which fill 127 blocks; long.set and long.batch are full.set and full.batch and a byte more, long.job is full.job and an entry more.
-use libc::STDOUT_FILENO;
+#![tactic(auto)]
 
-fn case(name: &[u8], set: &[u8], job: &[u8], batch: &[u8]) {
-    io::write_all(STDOUT_FILENO, b"== ");
-    io::write_all(STDOUT_FILENO, name);
-    io::write_all(STDOUT_FILENO, b"\n");
-    let file = os::open_read(batch);
-    run::run(set, job, file);
-    libc::close(file);
+use std::rt::Files;
+use std::{fs, io};
+
+fn case<R: Files + Print>(rt: &R, name: &str, set: &str, job: &str, batch: &str) -> io::Result<()> {
+    println!(rt; "== {name}")?;
+    run::run(rt, set, job, fs::open(rt, batch))
 }
 
-fn accepted() {
-    case(b"the printed case", b"solid.set", b"job", b"batch");
-    case(b"an empty batch", b"solid.set", b"job", b"empty.batch");
-    case(b"no methods", b"solid.set", b"empty.job", b"batch");
+fn accepted<R: Files + Print>(rt: &R) -> io::Result<()> {
+    case(rt, "the printed case", "solid.set", "job", "batch")?;
+    case(rt, "an empty batch", "solid.set", "job", "empty.batch")?;
+    case(rt, "no methods", "solid.set", "empty.job", "batch")
 }
 
-fn refused() {
+fn refused<R: Files + Print>(rt: &R) -> io::Result<()> {
     case(
-        b"an unknown method in entry 1",
-        b"solid.set",
-        b"unknown.job",
-        b"batch",
-    );
+        rt,
+        "an unknown method in entry 1",
+        "solid.set",
+        "unknown.job",
+        "batch",
+    )?;
     case(
-        b"confirm 0 in entry 1",
-        b"solid.set",
-        b"confirm.job",
-        b"batch",
-    );
+        rt,
+        "confirm 0 in entry 1",
+        "solid.set",
+        "confirm.job",
+        "batch",
+    )?;
     case(
-        b"a wrong check in block 1",
-        b"damaged.set",
-        b"job",
-        b"batch",
-    );
+        rt,
+        "a wrong check in block 1",
+        "damaged.set",
+        "job",
+        "batch",
+    )?;
     case(
-        b"a batch without a final byte 10",
-        b"solid.set",
-        b"job",
-        b"open.batch",
-    );
+        rt,
+        "a batch without a final byte 10",
+        "solid.set",
+        "job",
+        "open.batch",
+    )
 }
 
-fn bad_file() {
-    case(b"no set", b"no.set", b"job", b"batch");
-    case(b"no job", b"solid.set", b"no.job", b"batch");
-    case(b"no batch", b"solid.set", b"job", b"no.batch");
-    case(b"a job of 3 bytes", b"solid.set", b"odd.job", b"batch");
+fn bad_file<R: Files + Print>(rt: &R) -> io::Result<()> {
+    case(rt, "no set", "no.set", "job", "batch")?;
+    case(rt, "no job", "solid.set", "no.job", "batch")?;
+    case(rt, "no batch", "solid.set", "job", "no.batch")?;
+    case(rt, "a job of 3 bytes", "solid.set", "odd.job", "batch")
 }
 
-fn limits() {
+fn limits<R: Files + Print>(rt: &R) -> io::Result<()> {
     case(
-        b"a set of 65,536 bytes, its k longer than the reads",
-        b"full.set",
-        b"job",
-        b"batch",
-    );
-    case(b"a set of 65,537 bytes", b"long.set", b"job", b"batch");
-    case(b"a job of 64 bytes", b"solid.set", b"full.job", b"batch");
-    case(b"a job of 66 bytes", b"solid.set", b"long.job", b"batch");
+        rt,
+        "a set of 65,536 bytes, its k longer than the reads",
+        "full.set",
+        "job",
+        "batch",
+    )?;
+    case(rt, "a set of 65,537 bytes", "long.set", "job", "batch")?;
+    case(rt, "a job of 64 bytes", "solid.set", "full.job", "batch")?;
+    case(rt, "a job of 66 bytes", "solid.set", "long.job", "batch")?;
     case(
-        b"a batch of 16,384 bytes",
-        b"solid.set",
-        b"empty.job",
-        b"full.batch",
-    );
+        rt,
+        "a batch of 16,384 bytes",
+        "solid.set",
+        "empty.job",
+        "full.batch",
+    )?;
     case(
-        b"a batch of 16,385 bytes",
-        b"solid.set",
-        b"empty.job",
-        b"long.batch",
-    );
+        rt,
+        "a batch of 16,385 bytes",
+        "solid.set",
+        "empty.job",
+        "long.batch",
+    )
 }
 
-fn main() {
-    accepted();
-    refused();
-    bad_file();
-    limits();
+fn main(rt: HostRuntime) -> io::Result<()> {
+    accepted(&rt)?;
+    refused(&rt)?;
+    bad_file(&rt)?;
+    limits(&rt)
 }

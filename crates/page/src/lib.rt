@@ -1,4 +1,6 @@
 // Words, numbers and lines, put on a page behind those that stand there.
+#![tactic(auto)]
+
 ghost use Rattle.std.specs.Prelude.{◌++◌, ◌≡◌, ◌+◌, ◌≤◌, length};
 ghost use Rattle.rules_program.specs.Program.{decimal, refusal_line, counts_line};
 ghost use Rattle.refusal.specs.Refusal.{refusal_of};

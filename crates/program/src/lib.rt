@@ -1,4 +1,6 @@
 // The program of document 01, "Sample reads": what it prints for its files, as bytes on a page.
+#![tactic(auto)]
+
 ghost use Rattle.std.specs.Prelude.{[], ◌≡◌, length};
 ghost use Rattle.rules.specs.Calls.{correct_batch};
 ghost use Rattle.rules_program.specs.Program.{printed_for, zeros};

@@ -50,12 +50,16 @@ fn answer_agrees(answer: Answer, record: &[u8; 76]) -> bool {
 }
 
 // Whether a lent buffer has the result, and the rest behind it.
-fn lent_is(lent: &[u8], res: &[u8], rest: u8) -> bool {
-    if lent.len() < res.len() {
+fn lent_is(lent: &[u8], recorded: &[u8], rest: u8) -> bool {
+    if lent.len() < recorded.len() {
         return false;
     }
     for i in 0..lent.len() {
-        let byte = if i < res.len() { res[i] } else { rest };
+        let byte = if i < recorded.len() {
+            recorded[i]
+        } else {
+            rest
+        };
         if lent[i] != byte {
             return false;
         }
@@ -125,11 +129,11 @@ pub fn call_agrees(
     fill: u8,
     job: &[u8],
     input: &[u8],
-    res: &[u8],
+    recorded: &[u8],
     output: &mut [u8],
     work: &mut [u8],
 ) -> bool {
     let answer = call(set, index, counts, record, job, input, output, work);
     let rest = rest_of(record, fill);
-    answer_agrees(answer, record) && lent_is(output, res, rest) && lent_is(work, b"", rest)
+    answer_agrees(answer, record) && lent_is(output, recorded, rest) && lent_is(work, b"", rest)
 }

@@ -1,8 +1,7 @@
 // The parts of a list: numbers and bytes.
-ghost use Rattle.std.specs.Prelude.{◌<◌, ◌+◌, ◌*◌, ◌^◌, length};
-ghost use Rattle.io.specs.Counts.{IsPrefixLen};
+ghost use Rattle.std.specs.Prelude.{◌<◌, ◌≤◌, ◌+◌, ◌*◌, ◌^◌, length};
 
-use libc::STDIN_FILENO;
+use std::io::Read;
 
 // The part of a buffer from its start; whole if it has the length that was asked for.
 #[derive(Clone, Copy)]
@@ -31,24 +30,24 @@ pub fn number(record: &[u8; 76], i: usize) -> u64
     number_of(record, i)
 }
 
-pub fn part_of(buffer: &[u8], length: usize) -> Part
-    ensures { IsPrefixLen result.length buffer.now }
+pub fn part_of(buffer: &[u8], asked: usize) -> Part
+    ensures { result.length ≤ length buffer.now }
 {
-    if buffer.len() < length {
+    if buffer.len() < asked {
         return Part {
             length: 0,
             whole: false,
         };
     }
     Part {
-        length: length,
+        length: asked,
         whole: true,
     }
 }
 
 // Counts as they are lent, from bytes: 32 bits each, little-endian. Whole if there is room for all of them.
 pub fn put_counts(bytes: &[u8], counts: &mut [u32]) -> Part
-    ensures { IsPrefixLen result.length counts.new }
+    ensures { result.length ≤ length counts.new }
 {
     let length = bytes.len() / 4;
     if counts.len() < length {
@@ -67,18 +66,23 @@ pub fn put_counts(bytes: &[u8], counts: &mut [u32]) -> Part
 }
 
 // Reads the next bytes of the list to the start of a buffer.
-pub fn read_part(buffer: &mut [u8], length: usize) -> Part
-    ensures { IsPrefixLen result.length buffer.new }
+pub fn read_part<L: Read>(list: &mut L, buffer: &mut [u8], asked: usize) -> Part
+    ensures { result.length ≤ length buffer.new }
 {
-    if buffer.len() < length {
+    if buffer.len() < asked {
         return Part {
             length: 0,
             whole: false,
         };
     }
-    let n = io::read_full(STDIN_FILENO, &mut buffer[..length]);
-    Part {
-        length: n,
-        whole: n == length,
+    match list.read_exact(&mut buffer[..asked]) {
+        Ok(()) => Part {
+            length: asked,
+            whole: true,
+        },
+        Err(_) => Part {
+            length: 0,
+            whole: false,
+        },
     }
 }

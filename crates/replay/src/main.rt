@@ -1,13 +1,16 @@
 // Replays the list of cases on standard input, as `compare/run --list` writes it (compare/README.md has its format), and prints how many
 // agree in the answer, the report and every byte of the lent buffers.
+#![tactic(auto)]
+
 mod agree;
 mod list;
 
-ghost use Rattle.io.specs.Counts.{IsPrefixLen};
+ghost use Rattle.std.specs.Prelude.{◌≤◌, length};
 
 use agree::{call_agrees, needs_agrees, open_agrees};
-use libc::{STDIN_FILENO, STDOUT_FILENO};
 use list::{Part, number, part_of, put_counts, read_part};
+use std::io;
+use std::io::Read;
 
 const MAX_SET: usize = 8192;
 
@@ -66,7 +69,7 @@ fn compare(
     fill: u8,
     job: &[u8],
     input: &[u8],
-    res: &[u8],
+    recorded: &[u8],
 ) -> Case {
     let mut output = [fill; MAX_OUTPUT];
     let mut work = [fill; MAX_WORK];
@@ -85,7 +88,7 @@ fn compare(
         fill,
         job,
         input,
-        res,
+        recorded,
         &mut output[..output_end],
         &mut work[..work_end],
     ))
@@ -118,19 +121,26 @@ fn compare_needs(
     ))
 }
 
-fn replay_call(set: &[u8], index: &[u8], counts: &[u32], record: &[u8; 76], fill: u8) -> Case {
+fn replay_call<L: Read>(
+    list: &mut L,
+    set: &[u8],
+    index: &[u8],
+    counts: &[u32],
+    record: &[u8; 76],
+    fill: u8,
+) -> Case {
     let mut job = [0u8; MAX_JOB];
     let mut input = [0u8; MAX_INPUT];
-    let mut result = [0u8; MAX_OUTPUT];
-    let job_part = read_part(&mut job, number(record, 2) as usize);
-    let input_part = read_part(&mut input, number(record, 3) as usize);
-    let result_part = read_part(&mut result, number(record, 6) as usize);
-    if !job_part.whole || !input_part.whole || !result_part.whole {
+    let mut recorded = [0u8; MAX_OUTPUT];
+    let job_part = read_part(list, &mut job, number(record, 2) as usize);
+    let input_part = read_part(list, &mut input, number(record, 3) as usize);
+    let recorded_part = read_part(list, &mut recorded, number(record, 6) as usize);
+    if !job_part.whole || !input_part.whole || !recorded_part.whole {
         return Case::Malformed;
     }
     let job_end = job_part.length;
     let input_end = input_part.length;
-    let result_end = result_part.length;
+    let recorded_end = recorded_part.length;
     if number(record, 0) == NEEDS {
         return compare_needs(
             set,
@@ -150,12 +160,13 @@ fn replay_call(set: &[u8], index: &[u8], counts: &[u32], record: &[u8; 76], fill
         fill,
         &job[..job_end],
         &input[..input_end],
-        &result[..result_end],
+        &recorded[..recorded_end],
     )
 }
 
 // A call with the counts that these bytes are.
-fn replay_counted(
+fn replay_counted<L: Read>(
+    list: &mut L,
     set: &[u8],
     index: &[u8],
     count_bytes: &[u8],
@@ -168,32 +179,45 @@ fn replay_counted(
         return Case::Malformed;
     }
     let counts_end = counts_part.length;
-    replay_call(set, index, &counts[..counts_end], record, fill)
+    replay_call(list, set, index, &counts[..counts_end], record, fill)
 }
 
-fn replay_case(set: &[u8], index: &[u8], count_bytes: &[u8], record: &[u8; 76], fill: u8) -> Case {
+fn replay_case<L: Read>(
+    list: &mut L,
+    set: &[u8],
+    index: &[u8],
+    count_bytes: &[u8],
+    record: &[u8; 76],
+    fill: u8,
+) -> Case {
     match number(record, 0) {
         2 => told(open_agrees(set, record)),
-        3..=4 => replay_counted(set, index, count_bytes, record, fill),
-        NEEDS => replay_counted(set, index, count_bytes, record, fill),
-        FASTA => replay_counted(set, index, count_bytes, record, fill),
+        3..=4 => replay_counted(list, set, index, count_bytes, record, fill),
+        NEEDS => replay_counted(list, set, index, count_bytes, record, fill),
+        FASTA => replay_counted(list, set, index, count_bytes, record, fill),
         _ => Case::Malformed,
     }
 }
 
 // If the record is of that kind, reads its bytes, which stand for the cases that follow, and the next record; else the bytes stay.
-fn next_bytes(kind: u64, record: &mut [u8; 76], bytes: &mut [u8], length: usize) -> Part
-    requires { IsPrefixLen length bytes.old }
-    ensures { IsPrefixLen result.length bytes.new }
+fn next_bytes<L: Read>(
+    list: &mut L,
+    kind: u64,
+    record: &mut [u8; 76],
+    bytes: &mut [u8],
+    held: usize,
+) -> Part
+    requires { held ≤ length bytes.old }
+    ensures { result.length ≤ length bytes.new }
 {
     if number(record, 0) != kind {
         return Part {
-            length: length,
+            length: held,
             whole: true,
         };
     }
-    let part = read_part(bytes, number(record, 1) as usize);
-    let next = read_part(record, 76);
+    let part = read_part(list, bytes, number(record, 1) as usize);
+    let next = read_part(list, record, 76);
     Part {
         length: part.length,
         whole: part.whole && next.whole,
@@ -206,26 +230,27 @@ fn kept(record: &[u8; 76], offered: usize) -> usize {
 }
 
 // Reads the record of the next case, and before it the set, the index and the counts, if they are there; else they stay.
-fn next_case(
+fn next_case<L: Read>(
+    list: &mut L,
     record: &mut [u8; 76],
     set: &mut [u8],
-    length: usize,
+    held: usize,
     index: &mut [u8],
     indexed: usize,
     counts: &mut [u8],
     counted: usize,
 ) -> Next
-    requires { IsPrefixLen length set.old }
-    ensures { IsPrefixLen result.set set.new
-        × IsPrefixLen result.index index.new
-        × IsPrefixLen result.counts counts.new }
+    requires { held ≤ length set.old }
+    ensures set { result.set ≤ length set.new }
+    ensures index { result.index ≤ length index.new }
+    ensures counts { result.counts ≤ length counts.new }
 {
-    let first = read_part(record, 76);
+    let first = read_part(list, record, 76);
     let index_stays = part_of(index, kept(record, indexed));
     let counts_stay = part_of(counts, kept(record, counted));
-    let set_part = next_bytes(SET, record, set, length);
-    let index_part = next_bytes(INDEX, record, index, index_stays.length);
-    let counts_part = next_bytes(COUNTS, record, counts, counts_stay.length);
+    let set_part = next_bytes(list, SET, record, set, held);
+    let index_part = next_bytes(list, INDEX, record, index, index_stays.length);
+    let counts_part = next_bytes(list, COUNTS, record, counts, counts_stay.length);
     Next {
         set: set_part.length,
         index: index_part.length,
@@ -235,22 +260,18 @@ fn next_case(
 }
 
 // A record of zeros, and nothing behind it.
-fn ends() -> bool {
-    let mut last = [0u8; 77];
-    io::read_full(STDIN_FILENO, &mut last) == 76 && check::same(&last, &[0; 77])
+fn ends<L: Read>(list: &mut L) -> bool {
+    let mut last = [1u8; 76];
+    let mut more = [0u8; 1];
+    let part = read_part(list, &mut last, 76);
+    part.whole && last == [0; 76] && matches!(list.read(&mut more), Ok(0))
 }
 
-fn print(number: usize, word: &[u8]) {
-    io::print_decimal(STDOUT_FILENO, number as u64);
-    io::write_all(STDOUT_FILENO, word);
+fn malformed(rt: &impl Print, case: usize) -> io::Result<()> {
+    println!(rt; "bad list at case {case}")
 }
 
-fn malformed(case: usize) {
-    io::write_all(STDOUT_FILENO, b"bad list at case ");
-    print(case, b"\n");
-}
-
-fn replay(cases: usize, fill: u8) {
+fn replay<R: Print, L: Read>(rt: &R, list: &mut L, cases: usize, fill: u8) -> io::Result<()> {
     let mut set = [0u8; MAX_SET];
     let mut set_end = 0;
     let mut index = [0u8; MAX_INDEX];
@@ -261,6 +282,7 @@ fn replay(cases: usize, fill: u8) {
     for case in 0..cases {
         let mut record = [0u8; 76];
         let next = next_case(
+            list,
             &mut record,
             &mut set,
             set_end,
@@ -270,12 +292,13 @@ fn replay(cases: usize, fill: u8) {
             counts_end,
         );
         if !next.whole {
-            return malformed(case);
+            return malformed(rt, case);
         }
         set_end = next.set;
         index_end = next.index;
         counts_end = next.counts;
         match replay_case(
+            list,
             &set[..set_end],
             &index[..index_end],
             &counts[..counts_end],
@@ -283,22 +306,22 @@ fn replay(cases: usize, fill: u8) {
             fill,
         ) {
             Case::Agrees => agree += 1,
-            Case::Differs => print(case, b" differs\n"),
-            Case::Malformed => return malformed(case),
+            Case::Differs => println!(rt; "{case} differs")?,
+            Case::Malformed => return malformed(rt, case),
         }
     }
-    if !ends() {
-        return malformed(cases);
+    if !ends(list) {
+        return malformed(rt, cases);
     }
-    print(cases, b" cases: ");
-    print(agree, b" agree\n");
+    println!(rt; "{cases} cases: {agree} agree")
 }
 
-fn main() {
+fn main(rt: HostRuntime) -> io::Result<()> {
+    let mut list = rt.stdin();
     let mut head = [0u8; 76];
-    let part = read_part(&mut head, 36);
+    let part = read_part(&mut list, &mut head, 36);
     if !part.whole || number(&head, 0) != 1 {
-        return malformed(0);
+        return malformed(&rt, 0);
     }
-    replay(number(&head, 1) as usize, head[24]);
+    replay(&rt, &mut list, number(&head, 1) as usize, head[24])
 }
