@@ -1,5 +1,5 @@
 /*
- * The read corrector for C and C++ on x86-64 Linux: link libexports.a, which `rt staticlib exports` writes.
+ * The read corrector for C and C++ on x86-64 Linux: link libexports.a, which `rt lib` in crates/exports writes to its out/.
  *
  * Every call is proved to answer what the rules of crates/rules say and to leave every lent byte as they say, whatever it is given.
  * The formats of a set, a job, a batch, FASTA and k-mer counts are in README.md, "Formats".

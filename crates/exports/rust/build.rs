@@ -1,4 +1,4 @@
-//! Links the static library that CORRECTOR_LIBRARY names: `rt staticlib exports` writes target/staticlib/libexports.a.
+//! Links the static library that CORRECTOR_LIBRARY names: `rt lib` in crates/exports writes crates/exports/out/libexports.a.
 use std::path::PathBuf;
 
 fn main() {
