@@ -12,13 +12,7 @@ use std::io;
 const FILL: u8 = 170;
 
 fn count(bytes: &[u8], byte: u8) -> usize {
-    let mut n: usize = 0;
-    for i in 0..bytes.len() {
-        if bytes[i] == byte {
-            n += 1;
-        }
-    }
-    n
+    bytes.iter().filter(|x| **x == byte).count()
 }
 
 fn print_refusal(rt: &impl Print, refusal: Refusal) -> io::Result<()> {

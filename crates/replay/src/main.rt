@@ -278,7 +278,7 @@ fn replay<R: Print, L: Read>(rt: &R, list: &mut L, cases: usize, fill: u8) -> io
     let mut index_end = 0;
     let mut counts = [0u8; MAX_COUNT_BYTES];
     let mut counts_end = 0;
-    let mut agree = 0;
+    let mut agree: usize = 0;
     for case in 0..cases {
         let mut record = [0u8; 76];
         let next = next_case(
