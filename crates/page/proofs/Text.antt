@@ -1,10 +1,10 @@
 -- Bytes put behind a page's text.
-use Prim.Native.Nat.{ℕ, zero, suc, ◌+◌, ◌-◌, ◌≤◌, ◌<◌}
+use Prim.Native.Nat.{ℕ, zero, suc, ◌+◌, ◌-◌, ◌≤◌}
 use native.Mathlib.Omega.{arith}
 use mathlib.Core.Path.{◌≡◌, refl, sym, ap, ◌∙◌, subst}
-use mathlib.Core.List.{List, [], ◌∷◌, ◌++◌, append_assoc}
+use mathlib.Core.List.{List, [], ◌++◌, append_assoc}
 use lib.ListN.{length, take, drop, replicate, length-append, length-replicate}
-use lib.Seq.{paste, take-append_seam, take-length, drop-append-add, drop-nil}
+use lib.Seq.{paste, take-append_seam, take-length, drop-append-add}
 use Rattle.rules_program.specs.Program.{zeros}
 use Rattle.page.specs.Page.{Page, Puts, page_length}
 

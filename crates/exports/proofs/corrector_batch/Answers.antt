@@ -1,0 +1,7 @@
+use Rattle.exports.proofs.Told.{told-exact, told-ceiling}
+use Rattle.exports.proofs.corrector_batch.Goals as goal
+
+pub returns : goal.returns
+returns c =
+    let d = c.correct_batch in
+    (told-exact d.result c.tell_answer.ensures d.ensures.exact, told-ceiling _ _ _ d.result c.tell_answer.ensures d.ensures.ceiling)
