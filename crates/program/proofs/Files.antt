@@ -1,14 +1,14 @@
 -- Which files make a call.
-use Prim.Native.Nat.{ℕ, ◌%◌, ◌≤◌}
+use Prim.Native.Nat.{ℕ, ◌%◌}
 use native.Mathlib.Omega.{arith}
-use mathlib.Core.Path.{◌≡◌, refl, sym, ap, ◌∙◌}
+use mathlib.Core.Path.{◌≡◌, refl, ◌∙◌}
 use mathlib.Core.Bool.{Bool, true, false, ◌&&◌}
 use mathlib.Core.Option.{Option, none, some}
 use mathlib.Core.List.{List, []}
 use lib.Dec.{eqb, leb}
 use lib.ListN.{length}
 use Rattle.rules.specs.Calls.{Given, correct_batch}
-use Rattle.rules_program.specs.Program.{Files, zeros, bad_file, up_to, call_on, call_of, printed_for, printed}
+use Rattle.rules_program.specs.Program.{zeros, bad_file, up_to, call_on, call_of, printed_for, printed}
 use Rattle.report.specs.Answer.{given}
 use Rattle.program.specs.declared.Whole.{Whole}
 use Rattle.program.specs.Files.{file_of, files_of, taken, all_taken}

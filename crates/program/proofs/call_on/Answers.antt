@@ -1,6 +1,7 @@
 use native.Mathlib.Omega.{arith}
-use mathlib.Core.Path.{refl}
+use mathlib.Core.Path.{refl, sym}
 use mathlib.Core.List.{[]}
+use lib.Seq.{length-take-le}
 use Rattle.rules_program.specs.Program.{zeros}
 use Rattle.page.proofs.Text.{length-page}
 use Rattle.program.proofs.Answer.{answered}
@@ -9,6 +10,10 @@ use Rattle.program.proofs.call_on.Goals as goal
 pub slice_bounds-correct_batch-end-3 : goal.slice_bounds-correct_batch-end-3
 slice_bounds-correct_batch-end-3 c =
     omega (arith, length-page [] 0 c.args.page.now c.requires)
+
+pub slice_bounds-correct_batch-end-4 : goal.slice_bounds-correct_batch-end-4
+slice_bounds-correct_batch-end-4 c =
+    sym (length-take-le 32768 c.args.page.now (omega (arith, length-page [] 0 c.args.page.now c.requires)))
 
 pub returns : goal.returns
 unfolding zeros
