@@ -5,4 +5,4 @@ pub returns : goal.returns
 returns c =
     let d = c.needs in
     let told = told-by c.needs_numbers-numbers.ensures c.tell.ensures in
-    (needs-exact d.result told d.ensures.exact, needs-ceiling _ _ _ d.result told d.ensures.ceiling)
+    record { exact = needs-exact d.result told d.ensures.exact; ceiling = needs-ceiling _ _ _ d.result told d.ensures.ceiling }
