@@ -25,13 +25,13 @@ returns-then-set-n c = elim c.if-n-le16777216.branch [
 
 pub returns-else-set-n : goal.returns-else-set-n
 returns-else-set-n c = elim c.if-n-le16777216.branch [
-  | then-n-le16777216 u ↦
-      let g = u.if-n-le16777216.true in
-      let count = sym u.value-is ∙ c.if-set-n.false in
+  | then-n-le16777216 v ↦
+      let h = v.if-n-le16777216.true in
+      let count = sym v.value-is ∙ c.if-set-n.false in
       c.if-set-n.false
-      ∙ (rw (eq-eqb _ _ g.0, le-leb _ _ g.1, le-leb _ _ g.2, count) at (header-test c.args.set.now _ _ c.requires.1 c.requires.2))
-  | else-n-le16777216 u ↦
-      let b = u.if-n-le16777216.either in
-      let short : sizes c.args.k c.args.n ≡ false = grind (arith, nat_tests, u.if-n-le16777216.either) in
+      ∙ (rw (eq-eqb _ _ h.0, le-leb _ _ h.1, le-leb _ _ h.2, count) at (header-test c.args.set.now _ _ c.requires.1 c.requires.2))
+  | else-n-le16777216 v ↦
+      let b = v.if-n-le16777216.either in
+      let short : sizes c.args.k c.args.n ≡ false = grind (arith, nat_tests, v.if-n-le16777216.either) in
       c.if-set-n.false ∙ (rw short at (header-test c.args.set.now _ _ c.requires.1 c.requires.2))
 ]
