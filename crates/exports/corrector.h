@@ -13,7 +13,7 @@
  * Large sets. Each call opens the set and fills a table of where its keys start: 10 ms at 4 million keys, 44 at 16 million. So send batches as
  * long as may be. Lend a set of a million keys or more from memory that starts at a multiple of 2 MB and was advised by
  * `madvise(.., MADV_HUGEPAGE)` before the set was read into it: a batch by One took 17 and 9 % less time
- * with 4 and 16 million keys (docs/BENCHMARK.md).
+ * with 4 and 16 million keys (docs/BENCHMARK-OLDER.md).
  *
  * Slices. A slice is a pointer and a count of elements. As for Rust's slices, the pointer must not be null and must be aligned for its
  * elements, also where the count is 0, and every element must be initialised, those of output, work, blocks and a maker's counts too. `output`,
