@@ -2,6 +2,8 @@
 // prefix start; a search among those decides.
 #![tactic(auto)]
 
+mod ready;
+
 ghost use Rattle.std.specs.Prelude.{◌≡◌, ℕ, ◌+◌, ◌-◌, ◌*◌, ◌/◌, ◌^◌, ◌≤◌, ◌<◌, max, length, get_or};
 ghost use Rattle.std.proofs.Math.Option.{none};
 ghost use Rattle.rules.specs.Set.{max_k, max_keys, header_k, header_n, key_word, set_check, set_of, first_letters, entry_in, lookup, solid};
@@ -15,6 +17,7 @@ ghost use Rattle.set.specs.Asked.{AskedIs};
 
 use few_keys::Found;
 use kmer::{Header, Kmer};
+pub use ready::KmerSet;
 
 // The entries that a table of starts has room for.
 pub const STARTS: usize = 65537;
@@ -203,4 +206,30 @@ pub fn first_line(set: &[u8], starts: &[u32], head: Header, kmer: Kmer) -> usize
     keys::first_line(
         range.key, head.shift, span.first, span.last, range.from, range.end,
     )
+}
+
+impl KmerSet<'_> {
+    // The index of a k-mer's key, or n, the number of keys, if there is none.
+    pub fn place_of(&self, kmer: Kmer) -> usize
+        requires { IsKmer self.now.head.k kmer × (kmer.unknown ≡ 0) }
+        ensures { result ≡ place_in self.now.head.n (lookup (set_of self.now.bytes.now) kmer.code) }
+    {
+        place_of(self.bytes, self.starts, self.head, kmer)
+    }
+
+    // A k-mer asked: none is solid that holds an unknown letter, and no lookup is made for it.
+    pub fn ask(&self, kmer: Kmer) -> Asked
+        requires { IsKmer self.now.head.k kmer }
+        ensures { AskedIs (rules.ask (solid (set_of self.now.bytes.now)) (kmer_of kmer)) result }
+    {
+        ask(self.bytes, self.starts, self.head, kmer)
+    }
+
+    // The first of the lines that a lookup of the k-mer reads first, none that it may not read.
+    pub fn first_line(&self, kmer: Kmer) -> usize
+        requires { IsKmer self.now.head.k kmer }
+        ensures { (result ≤ max_keys) × LineOf self.now.bytes.now (self.now.head.shift + self.now.head.finer) (canonical self.now.head.k kmer.code) result }
+    {
+        first_line(self.bytes, self.starts, self.head, kmer)
+    }
 }
