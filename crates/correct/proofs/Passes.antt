@@ -14,7 +14,7 @@ use Rattle.rules.specs.Driver as Rules
 use Rattle.rules.specs.Driver.{begin, drive}
 use Rattle.rules.specs.Job.{entry, pass}
 use Rattle.rules.specs.Counts.{w_of}
-use Rattle.kmer.specs.declared.Header.{Header}
+use Rattle.kmer.specs.declared.shifts.Header.{Header}
 use Rattle.kmer.specs.Kmer.{kmer_of}
 use Rattle.set.specs.Ready.{Ready}
 use Rattle.set.specs.Asked.{AskedIs}

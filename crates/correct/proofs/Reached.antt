@@ -6,7 +6,7 @@ use lib.ListN.{length, length-append, take, drop_of_length-le}
 use Rattle.rules.specs.Set.{solid, count_of}
 use Rattle.rules.specs.Driver.{Pass, State}
 use Rattle.rules_laws.proofs.Driver.{finish-end}
-use Rattle.kmer.specs.declared.Header.{Header}
+use Rattle.kmer.specs.declared.shifts.Header.{Header}
 use Rattle.set.specs.Counted.{set_with}
 use Rattle.turn.specs.declared.Place.{Place}
 use Rattle.turn.specs.Turn.{state_of, attempt_of, end_of, Turning, Went}

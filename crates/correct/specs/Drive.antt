@@ -1,6 +1,6 @@
 -- The turns of a pass, whose bytes are kept in a buffer or only counted: what they ask and give.
 use Rattle.std.specs.Prelude.{ℕ, ◌+◌, ◌-◌, ◌≤◌, ◌<◌, ◌≡◌, List, length, take}
-use Rattle.kmer.specs.declared.Header.{Header}
+use Rattle.kmer.specs.declared.shifts.Header.{Header}
 use Rattle.set.specs.Ready.{Ready}
 use Rattle.support.specs.Support.{support_of}
 use Rattle.turn.specs.declared.Place.{Place}

@@ -8,7 +8,7 @@ use Rattle.rules.specs.Driver as rules
 use Rattle.rules.specs.Job.{Entry, pass}
 use Rattle.rules.specs.Counts.{w_of}
 use Rattle.rules.specs.Calls.{max_read}
-use Rattle.kmer.specs.declared.Header.{Header}
+use Rattle.kmer.specs.declared.shifts.Header.{Header}
 use Rattle.kmer.specs.declared.Kmer.{Kmer}
 use Rattle.kmer.specs.Kmer.{kmer_of, HasLetters}
 use Rattle.set.specs.declared.Asked.{Asked}

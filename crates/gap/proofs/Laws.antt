@@ -21,7 +21,7 @@ use Rattle.rules_laws.proofs.Kmer.{Known}
 use Rattle.rules_laws.proofs.Few.{SolidKmer, few}
 use Rattle.rules_laws.proofs.Growth.{length-spell}
 use Rattle.rules_laws.proofs.Correctors.{gap-any, gap-cost}
-use Rattle.kmer.specs.declared.Header.{Header}
+use Rattle.kmer.specs.declared.shifts.Header.{Header}
 use Rattle.kmer.specs.declared.Kmer.{Kmer as KmerOf}
 use Rattle.kmer.specs.Kmer.{kmer_of, IsKmer}
 use Rattle.set.specs.Ready.{Ready}

@@ -18,8 +18,9 @@ use Rattle.rules.specs.Letters as rules
 use Rattle.rules.specs.Letters.{mask, same, push, add, add_all, has_code, code, complement, revcomp, even_ones, canonical}
 use Rattle.rules_laws.proofs.Opened.{both}
 use Rattle.rules_laws.proofs.Kmer.{known-true, ne-known, same_code, four-pos, push-is, complement-lt, revcomp-lt, revcomp-first, ones-in, two-four}
-use Rattle.kmer.specs.declared.Header.{Header}
+use Rattle.kmer.specs.declared.shifts.Header.{Header}
 use Rattle.kmer.specs.declared.Kmer.{Kmer}
+use Rattle.kmer.specs.Masked.{Masked}
 use Rattle.kmer.specs.Kmer.{Shifts, kmer_of, IsKmer, HasLetters}
 
 -- k is at most 31, so a k-mer is below 2 ^ 62
@@ -148,12 +149,12 @@ revcomp-add (suc j) y a l s h =
     rw (quarter, e, push-is 4 j y a h, revcomp, digits_mod (y % P) h, digits_div (y % P) h) (add_comm (revcomp j (y % P)) (complement a * P))
 
 -- the mask without its last letter
-pub quarter-is : {head : Header} → Shifts head → head.mask / 4 ≡ 4 ^ (head.k - 1) - 1
+pub quarter-is : {k m : ℕ} → Masked k m → m / 4 ≡ 4 ^ (k - 1) - 1
 unfolding mask
-quarter-is {head} s =
-    let e : suc (head.k - 1) ≡ head.k = omega (arith, s.k_low) in
-    let p : 4 ^ head.k ≡ 4 ^ (head.k - 1) * 4 = rw e at (pow-suc 4 (head.k - 1)) in
-    omega (arith, s.mask_is, p, four-pos (head.k - 1))
+quarter-is {k} {m} s =
+    let e : suc (k - 1) ≡ k = omega (arith, s.k_low) in
+    let p : 4 ^ k ≡ 4 ^ (k - 1) * 4 = rw e at (pow-suc 4 (k - 1)) in
+    omega (arith, s.mask_is, p, four-pos (k - 1))
 
 module _ (head : Header) (y : Kmer) (s : Shifts head) (is : IsKmer head.k y) where
   pub rev-add : (a : ℕ) → a < 4 → y.rev / 4 + complement a * 4 ^ (head.k - 1) ≡ revcomp head.k (push 4 head.k y.code a)

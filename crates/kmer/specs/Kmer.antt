@@ -1,15 +1,14 @@
 -- What the functions over k-mers ask and give.
 use Rattle.std.specs.Prelude.{ℕ, ◌^◌, ◌≤◌, ◌<◌, ◌≡◌}
-use Rattle.rules.specs.Letters.{mask, complement, revcomp}
+use Rattle.rules.specs.Letters.{complement, revcomp}
 use Rattle.rules.specs.Letters as rules
-use Rattle.kmer.specs.declared.Header.{Header}
+use Rattle.kmer.specs.Masked.{Masked}
+use Rattle.kmer.specs.declared.shifts.Header.{Header}
 use Rattle.kmer.specs.declared.Kmer.{Kmer}
 
 -- The header's mask belongs to its k.
-pub record Shifts (head : Header) : Type 0 where
-  pub k_low : 1 ≤ head.k
-  pub k_high : head.k ≤ 31
-  pub mask_is : head.mask ≡ mask head.k
+abbrev pub Shifts : Header → Type 0
+Shifts head = Masked head.k head.mask
 
 -- The code of k letters, beside it that of its reverse complement, and a bit for each letter.
 pub record IsKmer (k : ℕ) (y : Kmer) : Type 0 where

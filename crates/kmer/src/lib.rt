@@ -2,19 +2,13 @@
 // `nuc2bit`, `bit2nuc`, `seq2bit` and `canonical` of the crate cocktail.
 #![tactic(auto)]
 
+mod shifts;
+
 ghost use Rattle.std.specs.Prelude.{◌≡◌, [], ℕ, ◌-◌, ◌<◌, ◌≤◌, ◌^◌, length, take};
 ghost use Rattle.rules.specs.Letters;
 ghost use Rattle.kmer.specs.Kmer.{Shifts, kmer_of, IsKmer, HasLetters};
 
-// What a set's header says, k and n, with what lookups and shifts need beside it.
-#[derive(Clone, Copy)]
-pub struct Header {
-    pub k: usize,
-    pub n: usize,
-    pub mask: u64,
-    pub shift: u32,
-    pub finer: u32,
-}
+pub use shifts::Header;
 
 // A k-mer's code, and beside it the code of its reverse complement, so that a lookup never has to turn the letters round; and its unknown
 // letters, a bit for each.

@@ -17,7 +17,7 @@ use Rattle.rules.specs.Letters.{Kmer, same, met}
 use Rattle.rules_laws.proofs.Kmer.{same_true, add_is, two-four}
 use Rattle.rules_laws.proofs.Scan.{sole-is}
 use Rattle.rules.specs.Scan.{sole}
-use Rattle.kmer.specs.declared.Header.{Header}
+use Rattle.kmer.specs.declared.shifts.Header.{Header}
 use Rattle.kmer.specs.Kmer.{Shifts}
 use Rattle.kmer.proofs.Laws.{quarter-is}
 use Rattle.passed.specs.Filter.{all_but_last, suffix, hash_of, slot_of, bits_of, Has, In, BitsSet, Noted, Covers, Begun, Asked}
@@ -101,8 +101,8 @@ met-one z a h = ⊎_elim (λ e. absurd (false≢true e)) (λ e. e) (met-snoc z a
 -- ---- the (k−1)-mers of a walk
 
 -- the last k − 1 letters, by a mask
-pub suffix-is : {head : Header} → Shifts head → (y : Kmer) → bit_and y.code (head.mask / 4) ≡ suffix head.k y
-suffix-is {head} s y = rw (quarter-is s, ← two-four (head.k - 1)) (and_mask y.code (2 * (head.k - 1)))
+pub suffix-is : (head : Header) → Shifts head → (y : Kmer) → bit_and y.code (head.mask / 4) ≡ suffix head.k y
+suffix-is head s y = rw (quarter-is s, ← two-four (head.k - 1)) (and_mask y.code (2 * (head.k - 1)))
 
 -- a successor begins as the k-mer before it ends
 pub move-begins : (k : ℕ) (sol : ℕ → Bool) (y z : Kmer) → 1 ≤ k → (sole k sol y).answer ≡ some z → all_but_last z ≡ suffix k y

@@ -7,7 +7,7 @@ use mathlib.Core.List.{List}
 use mathlib.Core.Option.{none}
 use lib.Dec.{lit<}
 use Rattle.rules.specs.Set.{header_k, header_n, set_check}
-use Rattle.kmer.specs.declared.Header.{Header}
+use Rattle.kmer.specs.declared.shifts.Header.{Header}
 use Rattle.set.specs.Ready.{table_length, prefixes, Below}
 use Rattle.set.proofs.Opened.{opened-key-lt}
 use Rattle.set.proofs.Table.{prefix-lt}

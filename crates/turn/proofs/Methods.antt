@@ -13,7 +13,7 @@ use Rattle.rules.specs.Exist.{Mend, exist, one, two}
 use Rattle.rules.specs.Graph.{graph}
 use Rattle.rules.specs.GapSize.{gap_size}
 use Rattle.rules.specs.Job.{Method, One, Two, Graph, GapSize, method_of, correct_error}
-use Rattle.kmer.specs.declared.Header.{Header}
+use Rattle.kmer.specs.declared.shifts.Header.{Header}
 use Rattle.set.specs.Ready.{Ready}
 use Rattle.set.specs.Counted.{set_with}
 use Rattle.set.proofs.Opened.{set-count}

@@ -23,7 +23,7 @@ use Rattle.rules.specs.Job.{method_of}
 use Rattle.rules_laws.proofs.Scan.{scan-is}
 use Rattle.rules_laws.proofs.Driver.{turn-solid, turn-quiet, turn-refused, turn-mended, Steady, finish-step, left, left_step}
 use Rattle.rules_ceiling.proofs.Demands.{steady}
-use Rattle.kmer.specs.declared.Header.{Header}
+use Rattle.kmer.specs.declared.shifts.Header.{Header}
 use Rattle.kmer.specs.declared.Kmer.{Kmer}
 use Rattle.kmer.specs.Kmer.{kmer_of, HasLetters}
 use Rattle.set.specs.Ready.{Ready}

@@ -11,7 +11,7 @@ use Rattle.rules.specs.Driver as rules
 use Rattle.rules.specs.Driver.{State}
 use Rattle.rules.specs.Job.{method_of, correct_error}
 use Rattle.rules_laws.proofs.Driver.{finish}
-use Rattle.kmer.specs.declared.Header.{Header}
+use Rattle.kmer.specs.declared.shifts.Header.{Header}
 use Rattle.kmer.specs.declared.Kmer.{Kmer}
 use Rattle.kmer.specs.Kmer.{kmer_of, IsKmer, HasLetters}
 use Rattle.set.specs.Ready.{Ready}
