@@ -1,5 +1,5 @@
 -- Laws of the window: three lines, one of them, a half of it and the half of that, two words.
-use Prim.Native.Nat.{ℕ, ◌+◌, ◌-◌, ◌%◌, ◌≤◌, ◌<◌, min}
+use Prim.Native.Nat.{ℕ, ◌+◌, ◌%◌, ◌≤◌, ◌<◌, min}
 use native.Mathlib.Omega.{arith}
 use native.Mathlib.Nat.{add-zero}
 use native.Mathlib.Decide.{dec_lt}
@@ -10,7 +10,7 @@ use borrow.Author.Tests.{eqb-true, eq-eqb, ltb-true, ltb-false, lt-ltb, le-leb, 
 use lib.Dec.{eqb, ltb, leb}
 use Rattle.rules_laws.proofs.Opened.{both}
 use Rattle.number.proofs.Picked.{if-le}
-use Rattle.few_keys.specs.declared.Found.TheVariants.{At, Nothing}
+use Rattle.std.specs.Prelude.{Some, None}
 use Rattle.few_keys.specs.Find.{key_in, Sorted, LowerBefore, Bracket, Answers}
 use Rattle.cache_line.specs.Lines.{first_key}
 use Rattle.few_keys.proofs.Bracket.{lower-before, lower-through, higher-from}
@@ -29,10 +29,10 @@ module _ (skip : ℕ) (part : List ℕ) (x line at word : ℕ) (low : at < 7)
   abbrev end : ℕ
   end = min (first_key (line + 1)) (first_key line + at + 2)
 
-  pub pair-at : (first || second) ≡ true → Answers skip part x (first_key line + at) end (At (first_key line + at + cond second 1 0))
+  pub pair-at : (first || second) ≡ true → Answers skip part x (first_key line + at) end (Some (first_key line + at + cond second 1 0))
   pair-at e = go second refl
     where
-      go : (q : Bool) → second ≡ q → Answers skip part x (first_key line + at) end (At (first_key line + at + cond q 1 0))
+      go : (q : Bool) → second ≡ q → Answers skip part x (first_key line + at) end (Some (first_key line + at + cond q 1 0))
       go true d =
           let t = both (eqb x word) (ltb (at + line % 8) 13) d in
           let l : at + line % 8 < 13 = ltb-true _ _ t.1 in
@@ -43,7 +43,7 @@ module _ (skip : ℕ) (part : List ℕ) (x line at word : ℕ) (low : at < 7)
           here true c = c
           here false c = absurd (false≢true (sym (rw (c, d)) ∙ e))
 
-  pub pair-none : (first || second) ≡ false → Answers skip part x (first_key line + at) end Nothing
+  pub pair-none : (first || second) ≡ false → Answers skip part x (first_key line + at) end None
   pair-none e i l g same = go (dec_lt i (first_key line + at + 1))
     where
       go : Dec (i < first_key line + at + 1) → ⊥

@@ -7,8 +7,6 @@ ghost use Rattle.rules.specs.Set.{max_keys};
 ghost use Rattle.few_keys.specs.Find.{key_in, Sorted, Bracket, Answers};
 ghost use Rattle.cache_line.specs.Lines.{first_key, Lines};
 
-use few_keys::Found;
-
 // The key at the start of a line.
 pub fn first_key(line: usize) -> usize
     requires { line ≤ max_keys }
@@ -34,7 +32,7 @@ pub fn line_key(part: &[u8], skip: usize, line: usize, at: usize) -> u64
 }
 
 // Two words of a line, but no check word: it is the last word in the last line of a block.
-fn in_pair(part: &[u8], skip: usize, key: u64, line: usize, at: usize) -> Found
+fn in_pair(part: &[u8], skip: usize, key: u64, line: usize, at: usize) -> Option<usize>
     requires { Lines skip part.now line (line + 1) × (at < 7) }
     ensures { Answers skip part.now key (first_key line + at) (min (first_key (line + 1)) (first_key line + at + 2)) result }
 {
@@ -44,13 +42,20 @@ fn in_pair(part: &[u8], skip: usize, key: u64, line: usize, at: usize) -> Found
     let is_first = key == blocks::word_at(part, 512 + 8 * word - skip);
     let is_second = (key == next) & (at + line % 8 < 13);
     if is_first | is_second {
-        return Found::At(word + number::pick(is_second, 1, 0) - line / 8);
+        return Some(word + number::pick(is_second, 1, 0) - line / 8);
     }
-    Found::Nothing
+    None
 }
 
 // The half of a line that the key belongs to, and the half of that.
-pub fn in_line(part: &[u8], skip: usize, key: u64, first: usize, last: usize, line: usize) -> Found
+pub fn in_line(
+    part: &[u8],
+    skip: usize,
+    key: u64,
+    first: usize,
+    last: usize,
+    line: usize,
+) -> Option<usize>
     requires { Sorted skip part.now first last × Bracket skip part.now first last key (first_key line) (first_key (line + 1)) × Lines skip part.now line (line + 1) }
     ensures { Answers skip part.now key first last result }
 {

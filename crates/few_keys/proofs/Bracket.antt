@@ -6,8 +6,7 @@ use native.Mathlib.Decide.{dec_lt}
 use mathlib.Core.Path.{◌≡◌}
 use mathlib.Core.Logic.{◌⊎◌, inl, inr}
 use mathlib.Core.List.{List}
-use Rattle.few_keys.specs.declared.Found.{Found}
-use Rattle.few_keys.specs.declared.Found.TheVariants.{At, Nothing}
+use Rattle.std.specs.Prelude.{Option, Some, None}
 use Rattle.few_keys.specs.Find.{key_in, Sorted, LowerBefore, HigherFrom, Bracket, Answers}
 
 module _ {skip : ℕ} {part : List ℕ} {first last : ℕ} (sorted : Sorted skip part first last) (x m : ℕ) where
@@ -33,9 +32,9 @@ module _ {skip : ℕ} {part : List ℕ} {first last : ℕ} (sorted : Sorted skip
 
 module _ {skip : ℕ} {part : List ℕ} {first last x lo hi : ℕ} (b : Bracket skip part first last x lo hi) where
   -- It is enough to look where x can stand.
-  pub answers-all : (r : Found) → Answers skip part x lo hi r → Answers skip part x first last r
-  answers-all (At i) h = (omega (arith, b.within), omega (arith, b.within), h.2)
-  answers-all Nothing h = λ i l g e. out i l g e (dec_lt i lo) (dec_lt i hi)
+  pub answers-all : (r : Option ℕ) → Answers skip part x lo hi r → Answers skip part x first last r
+  answers-all (Some i) h = (omega (arith, b.within), omega (arith, b.within), h.2)
+  answers-all None h = λ i l g e. out i l g e (dec_lt i lo) (dec_lt i hi)
     where
       out : (i : ℕ) → first ≤ i → i < last → key_in skip part i ≡ x → Dec (i < lo) → Dec (i < hi) → ⊥
       out i l g e (yes k) d = omega (arith, b.below i l g k)
@@ -43,5 +42,5 @@ module _ {skip : ℕ} {part : List ℕ} {first last x lo hi : ℕ} (b : Bracket 
       out i l g e (no f) (no k) = omega (arith, b.above i l g (omega arith))
 
   -- Where nothing is left x is no key.
-  pub answers-none : hi ≤ lo → Answers skip part x first last Nothing
-  answers-none h = answers-all Nothing (λ i l g e. omega arith)
+  pub answers-none : hi ≤ lo → Answers skip part x first last None
+  answers-none h = answers-all None (λ i l g e. omega arith)

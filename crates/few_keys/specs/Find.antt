@@ -1,8 +1,7 @@
 -- A search among keys that rise, in a part of a set's bytes: where key x can stand, and what is answered.
 use Rattle.std.specs.Prelude.{ℕ, ◌+◌, ◌*◌, ◌-◌, ◌/◌, ◌≤◌, ◌<◌, ◌≡◌, List, length, drop}
 use Rattle.rules.specs.Set.{max_keys, little}
-use Rattle.few_keys.specs.declared.Found.{Found}
-use Rattle.few_keys.specs.declared.Found.TheVariants.{At, Nothing}
+use Rattle.std.specs.Prelude.{Option, Some, None}
 
 -- The byte of the set at which key i stands: one word in 64 is a check word.
 abbrev pub place : ℕ → ℕ
@@ -34,6 +33,6 @@ pub record Bracket (skip : ℕ) (part : List ℕ) (first last x lo hi : ℕ) : T
   pub above : HigherFrom skip part first last x hi
 
 -- What is answered about x among the keys from lo on and before hi.
-abbrev pub Answers : ℕ → List ℕ → ℕ → ℕ → ℕ → Found → Type 0
-Answers skip part x lo hi (At i) = (lo ≤ i) × (i < hi) × (key_in skip part i ≡ x)
-Answers skip part x lo hi Nothing = (i : ℕ) → lo ≤ i → i < hi → key_in skip part i ≡ x → ⊥
+abbrev pub Answers : ℕ → List ℕ → ℕ → ℕ → ℕ → Option ℕ → Type 0
+Answers skip part x lo hi (Some i) = (lo ≤ i) × (i < hi) × (key_in skip part i ≡ x)
+Answers skip part x lo hi None = (i : ℕ) → lo ≤ i → i < hi → key_in skip part i ≡ x → ⊥

@@ -6,13 +6,6 @@ ghost use Rattle.rules.specs.Set.{max_keys};
 ghost use Rattle.few_keys.specs.Find;
 ghost use Rattle.few_keys.specs.Find.{key_in, Sorted, Bracket, Answers};
 
-// A key's index among the keys, or that it is none of them.
-#[derive(Clone, Copy)]
-pub enum Found {
-    At(usize),
-    Nothing,
-}
-
 // How many check words stand before key i, by fewer instructions than a division takes.
 pub fn checks_before(i: usize) -> usize
     requires { i ≤ max_keys }
@@ -41,7 +34,7 @@ pub fn key_at(part: &[u8], skip: usize, i: usize) -> u64
 const SMALL: usize = 32768;
 
 // One key or two.
-fn in_two(part: &[u8], skip: usize, key: u64, from: usize, end: usize) -> Found
+fn in_two(part: &[u8], skip: usize, key: u64, from: usize, end: usize) -> Option<usize>
     requires { Sorted skip part.now from end × (from < end) × (end ≤ from + 2) }
     ensures { Answers skip part.now key from end result }
 {
@@ -49,13 +42,13 @@ fn in_two(part: &[u8], skip: usize, key: u64, from: usize, end: usize) -> Found
     let is_first = key == key_at(part, skip, from);
     let is_last = key == key_at(part, skip, last);
     if is_first | is_last {
-        return Found::At(number::pick(is_first, from, last));
+        return Some(number::pick(is_first, from, last));
     }
-    Found::Nothing
+    None
 }
 
 // Up to four keys, all of them compared: a branch on each would often be guessed wrong.
-fn in_four(part: &[u8], skip: usize, key: u64, from: usize, end: usize) -> Found
+fn in_four(part: &[u8], skip: usize, key: u64, from: usize, end: usize) -> Option<usize>
     requires { Sorted skip part.now from end × (from < end) × (end ≤ from + 4) }
     ensures { Answers skip part.now key from end result }
 {
@@ -67,17 +60,24 @@ fn in_four(part: &[u8], skip: usize, key: u64, from: usize, end: usize) -> Found
     let is_third = key == key_at(part, skip, third);
     let is_last = key == key_at(part, skip, last);
     if is_first | is_second | is_third | is_last {
-        return Found::At(number::pick(
+        return Some(number::pick(
             is_first,
             from,
             number::pick(is_second, second, number::pick(is_third, third, last)),
         ));
     }
-    Found::Nothing
+    None
 }
 
 // A few keys of a set of n.
-pub fn in_few(part: &[u8], skip: usize, key: u64, n: usize, from: usize, end: usize) -> Found
+pub fn in_few(
+    part: &[u8],
+    skip: usize,
+    key: u64,
+    n: usize,
+    from: usize,
+    end: usize,
+) -> Option<usize>
     requires { Sorted skip part.now from end × (from < end) × (end ≤ from + 4) }
     ensures { Answers skip part.now key from end result }
 {
@@ -90,12 +90,12 @@ pub fn in_few(part: &[u8], skip: usize, key: u64, n: usize, from: usize, end: us
 }
 
 // Up to eight keys, if any: one comparison says in which half the key can stand.
-pub fn in_eight(part: &[u8], skip: usize, key: u64, from: usize, end: usize) -> Found
+pub fn in_eight(part: &[u8], skip: usize, key: u64, from: usize, end: usize) -> Option<usize>
     requires { Sorted skip part.now from end × (end ≤ from + 8) }
     ensures { Answers skip part.now key from end result }
 {
     if end <= from {
-        return Found::Nothing;
+        return None;
     }
     let middle = from + (end - from) / 2;
     let start = number::pick(key_at(part, skip, middle) <= key, middle, from);
@@ -111,7 +111,7 @@ pub fn bisect(
     last: usize,
     from: usize,
     end: usize,
-) -> Found
+) -> Option<usize>
     requires { Sorted skip part.now first last × Bracket skip part.now first last key from end }
     ensures { Answers skip part.now key first last result }
 {
@@ -121,7 +121,7 @@ pub fn bisect(
         let i = low + (high - low) / 2;
         let word = key_at(part, skip, i);
         if word == key {
-            return Found::At(i);
+            return Some(i);
         }
         if word < key {
             low = i + 1;
@@ -129,5 +129,5 @@ pub fn bisect(
             high = i;
         }
     }
-    Found::Nothing
+    None
 }

@@ -8,8 +8,6 @@ ghost use Rattle.few_keys.specs.Find.{key_in, Sorted, Bracket, Answers};
 ghost use Rattle.cache_line.specs.Lines.{first_key};
 ghost use Rattle.keys.specs.Within.{WithinKeys};
 
-use few_keys::Found;
-
 // The line before that of key i, where there is one.
 fn line_before(i: usize) -> usize
     requires { i < max_keys }
@@ -60,7 +58,7 @@ fn search(
     from: usize,
     end: usize,
     guessed: usize,
-) -> Found
+) -> Option<usize>
     requires { Sorted skip part.now first last × Bracket skip part.now first last key from end × (from ≤ guessed) × (guessed < end) }
     ensures { Answers skip part.now key first last result }
 {
@@ -86,7 +84,7 @@ fn search(
             i = on(low, high, step);
         }
     }
-    Found::Nothing
+    None
 }
 
 // The 14 bits of the key below its prefix. Of a prefix shorter than an index's the highest may be lost: a worse guess.
@@ -162,7 +160,7 @@ fn beside(
     from: usize,
     end: usize,
     line: usize,
-) -> Found
+) -> Option<usize>
     requires { Sorted skip part.now first last × Bracket skip part.now first last key from end × (from < end)
         × (first ≤ first_key line) × (first_key (line + 3) ≤ last)
         × ((leb (key_in skip part.now (first_key line)) key && leb key (key_in skip part.now (first_key (line + 2) + 6))) ≡ false) }
@@ -190,7 +188,7 @@ pub fn find(
     last: usize,
     from: usize,
     end: usize,
-) -> Found
+) -> Option<usize>
     requires { Sorted skip part.now first last × (shift < 64) × Bracket skip part.now first last key from end × (from < end) }
     ensures { Answers skip part.now key first last result }
 {

@@ -3,7 +3,7 @@ use Prim.Native.Nat.{ℕ, ◌+◌, ◌≤◌, ◌<◌}
 use native.Mathlib.Omega.{arith}
 use mathlib.Core.Path.{◌≡◌, refl, sym, ap, ◌∙◌}
 use mathlib.Core.Bool.{Bool, true, false, not}
-use mathlib.Core.Option.{Option, none, some}
+use mathlib.Core.Option.{Option as MaybeOf, none, some}
 use mathlib.Core.List.{List}
 use borrow.Author.Tests.{ltb-true, ltb-false}
 use lib.Dec.{ltb}
@@ -12,8 +12,7 @@ use Rattle.rules.specs.Letters.{canonical}
 use Rattle.rules.specs.Set.{KmerSet, header_k, header_n, key_word, set_of, set_check, lookup, is_none, solid}
 use Rattle.rules_laws.proofs.Keys.{keys_length, keys-at}
 use Rattle.rules_laws.proofs.Lookup.{lookup-at, lookup-is, lookup-none}
-use Rattle.few_keys.specs.declared.Found.{Found}
-use Rattle.few_keys.specs.declared.Found.TheVariants.{At, Nothing}
+use Rattle.std.specs.Prelude.{Option, Some, None}
 use Rattle.few_keys.specs.Find.{Answers}
 use Rattle.few_keys.proofs.Part.{key-whole}
 use Rattle.set.specs.Found.{index_of, is_key, place_in}
@@ -35,33 +34,33 @@ module _ (bytes : List ℕ) (opens : set_check bytes ≡ none) where
       rw (key-is a (omega arith), key-is b g) (opened-keys-rising bytes opens a b l g)
 
   -- What is answered about the canonical code among all keys is what a lookup answers.
-  pub answers-lookup : (y : ℕ) (r : Found) → Answers 0 bytes (canonical (header_k bytes) y) 0 (header_n bytes) r → index_of r ≡ lookup (set_of bytes) y
+  pub answers-lookup : (y : ℕ) (r : Option ℕ) → Answers 0 bytes (canonical (header_k bytes) y) 0 (header_n bytes) r → index_of r ≡ lookup (set_of bytes) y
   unfolding set_of
-  answers-lookup y (At i) h =
+  answers-lookup y (Some i) h =
       sym (lookup-is (set_of bytes) y refl rising i (omega (arith, count_is, h.1)) (key-is i h.1 ∙ sym (key-whole bytes i) ∙ h.2))
-  answers-lookup y Nothing h =
+  answers-lookup y None h =
       sym (lookup-none (set_of bytes) y refl
       (λ i l e. let g : i < header_n bytes = omega (arith, count_is) in h i (omega arith) g (key-whole bytes i ∙ sym (key-is i g) ∙ e)))
 
 -- A code is solid where its lookup finds a key.
-pub found-solid : (r : Found) (s : KmerSet) (y : ℕ) → index_of r ≡ lookup s y → is_key r ≡ solid s y
+pub found-solid : (r : Option ℕ) (s : KmerSet) (y : ℕ) → index_of r ≡ lookup s y → is_key r ≡ solid s y
 unfolding solid is_none
-found-solid (At i) s y h = ap (λ (o : Option ℕ). not (is_none o)) h
-found-solid Nothing s y h = ap (λ (o : Option ℕ). not (is_none o)) h
+found-solid (Some i) s y h = ap (λ (o : MaybeOf ℕ). not (is_none o)) h
+found-solid None s y h = ap (λ (o : MaybeOf ℕ). not (is_none o)) h
 
 -- A lookup told as a number p: the key's index, below the number of keys n, or n.
 module _ (s : KmerSet) (y n p : ℕ) (n_is : n ≡ length s.keys) (told : p ≡ place_in n (lookup s y)) where
   pub place_found : p < n → lookup s y ≡ some p
   place_found l = go (lookup s y) refl
     where
-      go : (o : Option ℕ) → lookup s y ≡ o → lookup s y ≡ some p
+      go : (o : MaybeOf ℕ) → lookup s y ≡ o → lookup s y ≡ some p
       go none e = absurd (let q : p ≡ n = told ∙ ap (place_in n) e in omega arith)
-      go (some i) e = e ∙ ap {B = Option ℕ} some (sym (told ∙ ap (place_in n) e))
+      go (some i) e = e ∙ ap {B = MaybeOf ℕ} some (sym (told ∙ ap (place_in n) e))
 
   pub place_none : n ≤ p → lookup s y ≡ none
   place_none f = go (lookup s y) refl
     where
-      go : (o : Option ℕ) → lookup s y ≡ o → lookup s y ≡ none
+      go : (o : MaybeOf ℕ) → lookup s y ≡ o → lookup s y ≡ none
       go none e = e
       go (some i) e = absurd (let q : p ≡ i = told ∙ ap (place_in n) e in omega (arith, f, (lookup-at s y i e).0))
 
@@ -71,5 +70,5 @@ module _ (s : KmerSet) (y n p : ℕ) (n_is : n ≡ length s.keys) (told : p ≡ 
   place-solid = go (ltb p n) refl
     where
       go : (t : Bool) → ltb p n ≡ t → t ≡ solid s y
-      go true e = sym (ap (λ (o : Option ℕ). not (is_none o)) (place_found (ltb-true p n e)))
-      go false e = sym (ap (λ (o : Option ℕ). not (is_none o)) (place_none (ltb-false p n e)))
+      go true e = sym (ap (λ (o : MaybeOf ℕ). not (is_none o)) (place_found (ltb-true p n e)))
+      go false e = sym (ap (λ (o : MaybeOf ℕ). not (is_none o)) (place_none (ltb-false p n e)))

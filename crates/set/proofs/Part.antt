@@ -7,8 +7,7 @@ use mathlib.Core.List.{List}
 use lib.ListN.{length, take, drop, length-drop}
 use lib.Seq.{length-take-le}
 use Rattle.rules.specs.Set.{header_n, set_check}
-use Rattle.few_keys.specs.declared.Found.{Found}
-use Rattle.few_keys.specs.declared.Found.TheVariants.{At, Nothing}
+use Rattle.std.specs.Prelude.{Option, Some, None}
 use Rattle.few_keys.specs.Find.{place, key_in, Sorted, Bracket, Answers}
 use Rattle.few_keys.proofs.Part.{key-whole, key-part}
 use Rattle.set.proofs.Table.{opened-sorted}
@@ -46,6 +45,6 @@ module _ (bytes : List ℕ) (opens : set_check bytes ≡ none) (first last : ℕ
     above = λ j f n g. rw (key-same j f n) (b.above j (omega arith) (omega arith) g);
   }
 
-  pub part-answers : (x : ℕ) (r : Found) → Answers skip part x first last r → Answers 0 bytes x first last r
-  part-answers x (At i) h = (h.0, h.1, sym (key-same i h.0 h.1) ∙ h.2)
-  part-answers x Nothing h = λ i l g e. h i l g (key-same i l g ∙ e)
+  pub part-answers : (x : ℕ) (r : Option ℕ) → Answers skip part x first last r → Answers 0 bytes x first last r
+  part-answers x (Some i) h = (h.0, h.1, sym (key-same i h.0 h.1) ∙ h.2)
+  part-answers x None h = λ i l g e. h i l g (key-same i l g ∙ e)

@@ -15,7 +15,6 @@ ghost use Rattle.set.specs.Ready.{prefix, InPrefix, LineOf, Table, Ready};
 ghost use Rattle.set.specs.Found.{index_of, place_in};
 ghost use Rattle.set.specs.Asked.{AskedIs};
 
-use few_keys::Found;
 use kmer::{Header, Kmer};
 pub use ready::KmerSet;
 
@@ -38,12 +37,12 @@ pub fn prefix_of(key: u64, shift: u32) -> usize
 }
 
 // The index of the key that was found, or n.
-fn index_or(found: Found, n: usize) -> usize
+fn index_or(found: Option<usize>, n: usize) -> usize
     ensures { result ≡ place_in n (index_of found) }
 {
     match found {
-        Found::At(i) => i,
-        Found::Nothing => n,
+        Some(i) => i,
+        None => n,
     }
 }
 
@@ -91,7 +90,7 @@ fn span_of(set: &[u8], starts: &[u32], shift: u32, finer: u32, key: u64) -> Span
 }
 
 // A few keys of one prefix: no other is read.
-fn in_few(set: &[u8], n: usize, range: Range) -> Found
+fn in_few(set: &[u8], n: usize, range: Range) -> Option<usize>
     requires { (set_check set.now ≡ none) × (range.from < range.end) × (range.end ≤ range.from + 4) × (range.end ≤ header_n set.now) }
     ensures { Answers 0 set.now range.key range.from range.end result }
 {
@@ -102,7 +101,7 @@ fn in_few(set: &[u8], n: usize, range: Range) -> Found
 
 // Many keys of one prefix: the search gets the bytes from the span's first key up to the place of the key behind its last, so that it can read
 // no other key.
-fn in_many(set: &[u8], shift: u32, range: Range, span: Span) -> Found
+fn in_many(set: &[u8], shift: u32, range: Range, span: Span) -> Option<usize>
     requires { (set_check set.now ≡ none) × (shift < 64) × Bracket 0 set.now 0 (header_n set.now) range.key range.from range.end
         × (range.from < range.end) × (span.first ≤ range.from) × (range.end ≤ span.last) × (span.last ≤ header_n set.now) }
     ensures { Answers 0 set.now range.key span.first span.last result }
@@ -154,16 +153,13 @@ pub fn place_of(set: &[u8], starts: &[u32], head: Header, kmer: Kmer) -> usize
     look_up(set, starts, kmer, head.n, head.shift, head.finer)
 }
 
-pub fn get(set: &[u8], starts: &[u32], head: Header, kmer: Kmer) -> Found
+// The index of a k-mer's key, if there is one.
+pub fn get(set: &[u8], starts: &[u32], head: Header, kmer: Kmer) -> Option<usize>
     requires { Ready set.now starts.now head × IsKmer head.k kmer × (kmer.unknown ≡ 0) }
     ensures { index_of result ≡ lookup (set_of set.now) kmer.code }
 {
     let place = look_up(set, starts, kmer, head.n, head.shift, head.finer);
-    if place < head.n {
-        Found::At(place)
-    } else {
-        Found::Nothing
-    }
+    if place < head.n { Some(place) } else { None }
 }
 
 // A k-mer asked: whether it is solid, and the lookups made.
@@ -215,6 +211,14 @@ impl KmerSet<'_> {
         ensures { result ≡ place_in self.now.head.n (lookup (set_of self.now.bytes.now) kmer.code) }
     {
         place_of(self.bytes, self.starts, self.head, kmer)
+    }
+
+    // The index of a k-mer's key, if there is one.
+    pub fn get(&self, kmer: Kmer) -> Option<usize>
+        requires { IsKmer self.now.head.k kmer × (kmer.unknown ≡ 0) }
+        ensures { index_of result ≡ lookup (set_of self.now.bytes.now) kmer.code }
+    {
+        get(self.bytes, self.starts, self.head, kmer)
     }
 
     // A k-mer asked: none is solid that holds an unknown letter, and no lookup is made for it.

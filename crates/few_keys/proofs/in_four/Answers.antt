@@ -6,7 +6,7 @@ use mathlib.Core.Bool.{Bool, true, false, ◌||◌, cond, false≢true}
 use mathlib.Core.List.{List}
 use lib.Dec.{eqb}
 use borrow.Author.Tests.{eqb-true, eq-eqb}
-use Rattle.few_keys.specs.declared.Found.TheVariants.{At, Nothing}
+use Rattle.std.specs.Prelude.{Option, Some, None}
 use Rattle.few_keys.specs.Find.{key_in, Answers}
 use Rattle.few_keys.proofs.Part.{key-room}
 use Rattle.few_keys.proofs.in_four.Goals as goal
@@ -45,7 +45,7 @@ module _ (skip : ℕ) (part : List ℕ) (x from end second third last : ℕ) (so
   is i = eqb x (key_in skip part i)
 
   few-at : (((is from || is second) || is third) || is last) ≡ true
-      → Answers skip part x from end (At (cond (is from) from (cond (is second) second (cond (is third) third last))))
+      → Answers skip part x from end (Some (cond (is from) from (cond (is second) second (cond (is third) third last))))
   few-at e =
       chosen (λ (i : ℕ). (from ≤ i) × (i < end) × (key_in skip part i ≡ x)) (is from) (is second) (is third) (is last) from second third last
       (λ d. (omega arith, omega arith, sym (eqb-true x _ d)))
@@ -54,7 +54,7 @@ module _ (skip : ℕ) (part : List ℕ) (x from end second third last : ℕ) (so
       (λ d. (omega arith, omega arith, sym (eqb-true x _ d)))
       e
 
-  few-none : (((is from || is second) || is third) || is last) ≡ false → Answers skip part x from end Nothing
+  few-none : (((is from || is second) || is third) || is last) ≡ false → Answers skip part x from end None
   few-none e i l h same = go (dec_lt i (from + 1)) (dec_lt i (from + 2)) (dec_lt i last)
     where
       not : (j : ℕ) → is j ≡ false → i ≡ j → ⊥

@@ -6,7 +6,7 @@ use mathlib.Core.Bool.{Bool, true, false, ◌||◌, cond, false≢true}
 use mathlib.Core.List.{List}
 use lib.Dec.{eqb}
 use borrow.Author.Tests.{eqb-true, eq-eqb}
-use Rattle.few_keys.specs.declared.Found.TheVariants.{At, Nothing}
+use Rattle.std.specs.Prelude.{Option, Some, None}
 use Rattle.few_keys.specs.Find.{key_in, Answers}
 use Rattle.few_keys.proofs.Part.{key-room}
 use borrow.Author.Rules.{rules}
@@ -16,12 +16,12 @@ module _ (skip : ℕ) (part : List ℕ) (x from end : ℕ) (some : from < end) (
   abbrev is : ℕ → Bool
   is i = eqb x (key_in skip part i)
 
-  two_at : (p q : Bool) → is from ≡ p → is (end - 1) ≡ q → (p || q) ≡ true → Answers skip part x from end (At (cond p from (end - 1)))
+  two_at : (p q : Bool) → is from ≡ p → is (end - 1) ≡ q → (p || q) ≡ true → Answers skip part x from end (Some (cond p from (end - 1)))
   two_at true q d e h = (omega arith, omega arith, sym (eqb-true x _ d))
   two_at false true d e h = (omega arith, omega arith, sym (eqb-true x _ e))
   two_at false false d e h = absurd (false≢true h)
 
-  two_none : (p q : Bool) → is from ≡ p → is (end - 1) ≡ q → (p || q) ≡ false → Answers skip part x from end Nothing
+  two_none : (p q : Bool) → is from ≡ p → is (end - 1) ≡ q → (p || q) ≡ false → Answers skip part x from end None
   two_none true q d e h i l g same = absurd (false≢true (sym h))
   two_none false true d e h i l g same = absurd (false≢true (sym h))
   two_none false false d e h i l g same = go (dec_lt from i)

@@ -1,8 +1,7 @@
 use native.Mathlib.Omega.{arith}
 use mathlib.Core.Path.{◌≡◌, ap, ◌∙◌}
 use Rattle.rules.specs.Set.{header_n, lookup, set_of}
-use Rattle.few_keys.specs.declared.Found.{Found}
-use Rattle.few_keys.specs.declared.Found.TheVariants.{Nothing}
+use Rattle.std.specs.Prelude.{ℕ, Option, None}
 use Rattle.few_keys.specs.Find.{Answers}
 use Rattle.few_keys.proofs.Bracket.{answers-all, answers-none}
 use Rattle.set.specs.Found.{index_of, place_in}
@@ -12,7 +11,7 @@ use Rattle.set.proofs.look_up.Goals.{After-range_of-range}
 use Rattle.set.proofs.look_up.Goals as goal
 
 -- What is answered about the key among all is what the lookup answers.
-lookup-is : (c : After-range_of-range) (r : Found) → let a = c.args in
+lookup-is : (c : After-range_of-range) (r : Option ℕ) → let a = c.args in
     Answers 0 a.set.now c.range_of-range.result.key 0 (header_n a.set.now) r
     → place_in a.n (index_of r) ≡ place_in a.n (lookup (set_of a.set.now) a.kmer.code)
 lookup-is c r h =
@@ -22,7 +21,7 @@ lookup-is c r h =
 
 pub returns-then-range : goal.returns-then-range
 returns-then-range c =
-    lookup-is (goal.at.returns-then-range c).After-range_of-range Nothing (answers-none (prefix-bracket c.range_of-range.ensures.1) c.if-range.true)
+    lookup-is (goal.at.returns-then-range c).After-range_of-range None (answers-none (prefix-bracket c.range_of-range.ensures.1) c.if-range.true)
 
 pub in_few-requires : goal.in_few-requires
 in_few-requires c =
