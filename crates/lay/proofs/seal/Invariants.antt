@@ -1,4 +1,4 @@
-use Prim.Native.Nat.{◌-◌, ◌≤◌}
+use Prim.Native.Nat.{◌≤◌}
 use Rattle.lay.specs.Lay.{Sealed}
 use Rattle.lay.proofs.seal.Given as goal
 
