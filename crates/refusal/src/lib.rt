@@ -4,8 +4,10 @@
 ghost use Rattle.std.specs.Prelude.{◌≡◌};
 ghost use Rattle.refusal.specs.Refusal.{refusal_of};
 
+use std::fmt;
+
 // In the order of their numbers, with the place of those that have one.
-#[derive(Clone, Copy)]
+#[derive(Clone, Copy, Debug, PartialEq, Eq)]
 pub enum Refusal {
     Long,
     Methods,
@@ -29,56 +31,56 @@ pub enum Refusal {
     NotSolid(usize),
 }
 
-pub fn number_of(refusal: Refusal) -> u64
-    ensures { result ≡ (refusal_of refusal).number }
-{
-    match refusal {
-        Refusal::Long => 1,
-        Refusal::Methods => 2,
-        Refusal::Method(_) => 3,
-        Refusal::Confirm(_) => 4,
-        Refusal::Buffers => 5,
-        Refusal::Batch => 6,
-        Refusal::Length => 7,
-        Refusal::Check(_) => 8,
-        Refusal::Header => 9,
-        Refusal::Key(_) => 10,
-        Refusal::NoRoom(_) => 11,
-        Refusal::Line(_) => 12,
-        Refusal::NotRising(_) => 13,
-        Refusal::TooShort => 14,
-        Refusal::Index => 15,
-        Refusal::Counts => 16,
-        Refusal::NotOne => 17,
-        Refusal::Sequence(_) => 18,
-        Refusal::Edit(_) => 19,
-        Refusal::NotSolid(_) => 20,
+impl Refusal {
+    pub fn number(self) -> u64
+        ensures { result ≡ (refusal_of self).number }
+    {
+        match self {
+            Refusal::Long => 1,
+            Refusal::Methods => 2,
+            Refusal::Method(_) => 3,
+            Refusal::Confirm(_) => 4,
+            Refusal::Buffers => 5,
+            Refusal::Batch => 6,
+            Refusal::Length => 7,
+            Refusal::Check(_) => 8,
+            Refusal::Header => 9,
+            Refusal::Key(_) => 10,
+            Refusal::NoRoom(_) => 11,
+            Refusal::Line(_) => 12,
+            Refusal::NotRising(_) => 13,
+            Refusal::TooShort => 14,
+            Refusal::Index => 15,
+            Refusal::Counts => 16,
+            Refusal::NotOne => 17,
+            Refusal::Sequence(_) => 18,
+            Refusal::Edit(_) => 19,
+            Refusal::NotSolid(_) => 20,
+        }
+    }
+
+    // The entry, block, word, line, edit or end that is refused; 0 where there is none.
+    pub fn place(self) -> u64
+        ensures { result ≡ (refusal_of self).place }
+    {
+        match self {
+            Refusal::Method(place)
+            | Refusal::Confirm(place)
+            | Refusal::Check(place)
+            | Refusal::Key(place)
+            | Refusal::NoRoom(place)
+            | Refusal::Line(place)
+            | Refusal::NotRising(place)
+            | Refusal::Sequence(place)
+            | Refusal::Edit(place)
+            | Refusal::NotSolid(place) => place as u64,
+            _ => 0,
+        }
     }
 }
 
-pub fn place_of(refusal: Refusal) -> u64
-    ensures { result ≡ (refusal_of refusal).place }
-{
-    match refusal {
-        Refusal::Method(entry) => entry as u64,
-        Refusal::Confirm(entry) => entry as u64,
-        Refusal::Check(block) => block as u64,
-        Refusal::Key(word) => word as u64,
-        Refusal::NoRoom(line) => line as u64,
-        Refusal::Line(line) => line as u64,
-        Refusal::NotRising(line) => line as u64,
-        Refusal::Sequence(line) => line as u64,
-        Refusal::Edit(edit) => edit as u64,
-        Refusal::NotSolid(end) => end as u64,
-        Refusal::Long => 0,
-        Refusal::Methods => 0,
-        Refusal::Buffers => 0,
-        Refusal::Batch => 0,
-        Refusal::Length => 0,
-        Refusal::Header => 0,
-        Refusal::TooShort => 0,
-        Refusal::Index => 0,
-        Refusal::Counts => 0,
-        Refusal::NotOne => 0,
+impl fmt::Display for Refusal {
+    fn fmt<W: fmt::Write>(&self, f: &mut fmt::Formatter<W>) -> fmt::Result {
+        write!(f, "refused {} place {}", self.number(), self.place())
     }
 }
