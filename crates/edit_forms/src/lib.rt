@@ -3,23 +3,31 @@
 
 ghost use Rattle.std.specs.Prelude.{◌≡◌, List, ℕ, ◌+◌, ◌*◌, ◌≤◌, ◌<◌, length};
 ghost use Rattle.rules_edits.specs.Edits as rules;
-ghost use Rattle.edit_forms.specs.Formed.{FormedIs, IsOffending};
+ghost use Rattle.edit_forms.specs.Formed.{EditIs, FormedIs};
 
-// How many edits there are and how many letters they give, where each is formed; else the first that offends.
+// An edit's three numbers: where in the read it begins, how many bases it takes, and how many letters it gives.
 #[derive(Clone, Copy)]
-pub enum Formed {
-    All(usize, usize),
-    Offends(usize),
+pub struct Edit {
+    pub position: u64,
+    pub taken: u64,
+    pub gives: u64,
 }
 
-// Three numbers an edit; the last may have fewer.
-fn count_of(numbers: usize) -> usize
-    ensures { (3 * result ≤ numbers + 2) × (numbers ≤ 3 * result) }
+// How many edits there are and how many letters they give, where each is formed.
+#[derive(Clone, Copy)]
+pub struct Formed {
+    pub edits: usize,
+    pub letters: usize,
+}
+
+pub fn edit_at(edits: &[u64], i: usize) -> Edit
+    requires { 3 * i + 3 ≤ length edits.now }
+    ensures { EditIs edits.now i result }
 {
-    if numbers % 3 == 0 {
-        numbers / 3
-    } else {
-        numbers / 3 + 1
+    Edit {
+        position: edits[3 * i],
+        taken: edits[3 * i + 1],
+        gives: edits[3 * i + 2],
     }
 }
 
@@ -31,13 +39,9 @@ fn is_behind(edits: &[u64], i: usize) -> bool
     if i == 0 {
         return true;
     }
-    let last = edits[3 * i - 3];
-    let taken = edits[3 * i - 2];
-    let position = edits[3 * i];
-    if position <= last {
-        return false;
-    }
-    taken <= position - last
+    let last = edit_at(edits, i - 1);
+    let edit = edit_at(edits, i);
+    last.position < edit.position && last.taken <= edit.position - last.position
 }
 
 // Edit i, before which the edits give so many letters.
@@ -49,47 +53,28 @@ fn is_formed(k: usize, read: &[u8], edits: &[u64], letters: &[u8], i: usize, giv
     if edits.len() - 3 * i < 3 {
         return false;
     }
-    let position = edits[3 * i];
-    let taken = edits[3 * i + 1];
-    let gives = edits[3 * i + 2];
+    let edit = edit_at(edits, i);
     let length = read.len() as u64;
-    if position < k as u64 {
+    if edit.position < k as u64 || length <= edit.position || length - edit.position <= edit.taken {
         return false;
     }
-    if length <= position {
-        return false;
-    }
-    if length - position <= taken {
-        return false;
-    }
-    if ((letters.len() - given) as u64) < gives {
-        return false;
-    }
-    is_behind(edits, i)
+    edit.gives <= (letters.len() - given) as u64 && is_behind(edits, i)
 }
 
-// All edits, in their order.
-pub fn judge_forms(k: usize, read: &[u8], edits: &[u64], letters: &[u8]) -> Formed
+// All edits, in their order; else the first that offends. The last may have fewer than three numbers.
+pub fn judge_forms(k: usize, read: &[u8], edits: &[u64], letters: &[u8]) -> Result<Formed, usize>
     ensures { (mended : List ℕ) → FormedIs k (rules.sheet read.now mended edits.now letters.now) result }
 {
-    let n = count_of(edits.len());
+    let n = edits.len().div_ceil(3);
     let mut given = 0;
     for i in 0..n {
         if !is_formed(k, read, edits, letters, i, given) {
-            return Formed::Offends(i);
+            return Err(i);
         }
-        given += edits[3 * i + 2] as usize;
+        given += edit_at(edits, i).gives as usize;
     }
-    Formed::All(n, given)
-}
-
-// The first edit that offends.
-pub fn offending(formed: Formed) -> usize
-    requires { IsOffending formed }
-    ensures { formed ≡ Formed.Offends result }
-{
-    match formed {
-        Formed::Offends(i) => i,
-        Formed::All(_, _) => 0,
-    }
+    Ok(Formed {
+        edits: n,
+        letters: given,
+    })
 }

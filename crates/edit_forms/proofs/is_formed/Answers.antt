@@ -1,36 +1,35 @@
-use mathlib.Core.Path.{sym}
+use Rattle.std.proofs.Common.{arith, rules}
+use borrow.Author.Tests.{lt-leb}
+use mathlib.Core.Path.{◌∙◌}
 use Rattle.rules_edits.specs.Edits.{sheet}
-use Rattle.edit_forms.proofs.Forms.{few-numbers, too-low, too-high, too_far, too_many, formed-by}
-use borrow.Author.Rules.{rules}
+use Rattle.edit_forms.proofs.Forms.{few-numbers, not-formed, formed-by}
+use Rattle.edit_forms.proofs.is_formed.Goals.{then-edit-k-via-then-edit-k, then-edit-k-via-else-edit-k+then-length-edit, then-edit-k-via-else-edit-k+else-length-edit+then-length-edit-2}
 use Rattle.edit_forms.proofs.is_formed.Goals as goal
 
 pub returns-then-edits-i-lt3 : goal.returns-then-edits-i-lt3
 returns-then-edits-i-lt3 c mended =
     let a = c.args in
-    sym (few-numbers a.k (sheet a.read.now mended a.edits.now a.letters.now) a.i a.given (c.requires.1 mended) (search rules))
+    few-numbers a.k (sheet a.read.now mended a.edits.now a.letters.now) a.i a.given (c.requires.1 mended) (search rules)
 
-pub returns-then-position-k : goal.returns-then-position-k
-returns-then-position-k c mended =
+pub returns-then-edit-k : goal.returns-then-edit-k
+returns-then-edit-k c mended =
     let a = c.args in
-    sym (too-low a.k (sheet a.read.now mended a.edits.now a.letters.now) a.i a.given (c.requires.1 mended) (search rules))
+    not-formed a.k (sheet a.read.now mended a.edits.now a.letters.now) a.i a.given (c.requires.1 mended) _ c.edit_at-edit.ensures (λ f. elim c.then-edit-k.branch [
+      | then-edit-k-via-then-edit-k w ↦ omega (arith, f.low, w.if-edit-k.true)
+      | then-edit-k-via-else-edit-k+then-length-edit w ↦ omega (arith, f.high, w.if-length-edit.true)
+      | then-edit-k-via-else-edit-k+else-length-edit+then-length-edit-2 w ↦ omega (arith, f.high, w.if-length-edit-2.true)
+    ])
 
-pub returns-then-length-position : goal.returns-then-length-position
-returns-then-length-position c mended =
+pub returns-then-edit-letters : goal.returns-then-edit-letters
+returns-then-edit-letters c mended =
     let a = c.args in
-    sym (too-high a.k (sheet a.read.now mended a.edits.now a.letters.now) a.i a.given (c.requires.1 mended) (search rules))
+    formed-by a.k (sheet a.read.now mended a.edits.now a.letters.now) a.i a.given (c.requires.1 mended) _ c.edit_at-edit.ensures (search rules)
+    (record { low = search rules; high = omega (arith, c.if-length-edit.false, c.if-length-edit-2.false); letters = omega (arith, c.requires.2, c.if-edit-letters.true) })
+    (c.is_behind.ensures a.read.now mended a.letters.now)
 
-pub returns-then-length-position-2 : goal.returns-then-length-position-2
-returns-then-length-position-2 c mended =
+pub returns-else-edit-letters : goal.returns-else-edit-letters
+returns-else-edit-letters c mended =
     let a = c.args in
-    sym (too_far a.k (sheet a.read.now mended a.edits.now a.letters.now) a.i a.given (c.requires.1 mended) (search rules) (search rules))
-
-pub returns-then-letters-given : goal.returns-then-letters-given
-returns-then-letters-given c mended =
-    let a = c.args in
-    sym (too_many a.k (sheet a.read.now mended a.edits.now a.letters.now) a.i a.given (c.requires.1 mended) (search rules) (search rules))
-
-pub returns : goal.returns
-returns c mended =
-    let a = c.args in
-    formed-by a.k (sheet a.read.now mended a.edits.now a.letters.now) a.i a.given (c.requires.1 mended) (search rules) (search rules) (search rules) (search rules)
-    (search rules) (c.is_behind.ensures a.read.now mended a.letters.now)
+    lt-leb _ _ c.if-edit-letters.false
+    ∙ not-formed a.k (sheet a.read.now mended a.edits.now a.letters.now) a.i a.given (c.requires.1 mended) _ c.edit_at-edit.ensures
+    (λ f. omega (arith, f.letters, c.requires.2, c.if-edit-letters.false))

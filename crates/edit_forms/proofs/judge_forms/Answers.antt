@@ -1,36 +1,23 @@
-use Prim.Native.Nat.{ℕ, ◌-◌}
-use native.Mathlib.Omega.{arith}
+use Rattle.std.proofs.Common.{◌≡◌, refl, sym, ap, ◌∙◌, ℕ, List, [], true, arith, rules}
 use native.Mathlib.Nat.{sub-zero}
-use mathlib.Core.Path.{◌≡◌, refl, sym, ap, ◌∙◌}
-use mathlib.Core.Bool.{true}
-use mathlib.Core.List.{List, []}
-use borrow.Author.Rules.{rules}
-use borrow.Author.Tests.{not-true, not-false}
 use Rattle.rules.specs.Refusal.{first_failing}
-use Rattle.rules_edits.specs.Edits.{Sheet, sheet, count, formed, letters_to}
+use Rattle.rules_edits.specs.Edits.{sheet, formed, letters_to}
 use Rattle.blocks.proofs.First.{passed, failed, ended}
-use Rattle.edit_forms.proofs.Forms.{count_is, letters-more, letters-fit}
-use Rattle.edit_forms.proofs.judge_forms.Goals.{After-count_of-n, Else-not-is_formed}
+use Rattle.edit_forms.proofs.Forms.{count_is, numbers-fit, letters-more, letters-fit}
+use Rattle.edit_forms.proofs.judge_forms.Goals.{Else-not-is_formed}
 use Rattle.edit_forms.proofs.judge_forms.Goals as goal
 
 pub loop-i-init : goal.loop-i-init
 unfolding letters_to
-loop-i-init c = (search rules, search rules, λ mended. (count-there c mended, refl, rw (sub-zero _)))
-  where
-    count-there : (c : After-count_of-n) (mended : List ℕ) → let a = c.args in
-        count (sheet a.read.now mended a.edits.now a.letters.now) ≡ c.count_of-n.result
-    count-there c mended = count_is _ c.count_of-n.result c.count_of-n.ensures.0 c.count_of-n.ensures.1
-
-pub is_formed-requires : goal.is_formed-requires
-is_formed-requires c =
-    let l = c.loop-i in
-    let r = c.count_of-n.ensures in
-    (omega (arith, r.0, c.loop-i-test.true), λ mended. (l.invariant.2 mended).1, search rules)
+loop-i-init c = (search rules, search rules, λ mended. (count_is _ _ c.div_ceil-n.ensures, refl, rw (sub-zero _)))
 
 -- An edit that is formed.
 formed-there : (c : Else-not-is_formed) (mended : List ℕ) → let a = c.args in
     formed a.k (sheet a.read.now mended a.edits.now a.letters.now) c.loop-i.i ≡ true
-formed-there c mended = sym (c.is_formed.ensures mended) ∙ not-false _ c.if-not-is_formed.false-raw
+formed-there c mended = sym (c.if-not-is_formed.ensures mended)
+
+pub is_formed-requires : goal.is_formed-requires
+is_formed-requires c = (omega (arith, c.div_ceil-n.ensures, c.loop-i-test.true), λ mended. (c.loop-i.invariant.2 mended).1, search rules)
 
 pub returns-then-not-is_formed : goal.returns-then-not-is_formed
 returns-then-not-is_formed c mended =
@@ -38,43 +25,31 @@ returns-then-not-is_formed c mended =
     let a = c.args in
     let s = sheet a.read.now mended a.edits.now a.letters.now in
     let v = l.invariant.2 mended in
-    let no = sym (c.is_formed.ensures mended) ∙ not-true _ c.if-not-is_formed.true-raw in
-    ap (λ (n : ℕ). first_failing (formed a.k s) 0 n) v.0 ∙ v.2 ∙ failed (formed a.k s) l.i _ (search rules) no
+    ap (λ (n : ℕ). first_failing (formed a.k s) 0 n) v.0 ∙ v.2 ∙ failed (formed a.k s) l.i _ (search rules) (sym (c.if-not-is_formed.ensures mended))
 
-pub bounds-edits-i : goal.bounds-edits-i
-bounds-edits-i c =
-    let l = c.loop-i in
-    let a = c.args in
-    let f = letters-fit a.k (sheet a.read.now [] a.edits.now a.letters.now) l.i (formed-there (goal.at.bounds-edits-i c).Else-not-is_formed []) in
-    omega (arith, f.0, f.1, (l.invariant.2 []).1)
+pub edit_at-requires : goal.edit_at-requires
+edit_at-requires c = numbers-fit _ _ _ (formed-there c [])
 
-pub overflow_add-given-in-loop-i : goal.overflow_add-given-in-loop-i
-overflow_add-given-in-loop-i c =
-    let l = c.loop-i in
-    let a = c.args in
-    let f = letters-fit a.k (sheet a.read.now [] a.edits.now a.letters.now) l.i (formed-there (goal.at.overflow_add-given-in-loop-i c).Else-not-is_formed []) in
-    omega (arith, f.0, f.1, (l.invariant.2 []).1)
+pub overflow_add-given : goal.overflow_add-given
+overflow_add-given c =
+    omega (arith, letters-fit _ _ _ (formed-there (goal.at.overflow_add-given c).Else-not-is_formed []) _ c.edit_at.ensures, (c.loop-i.invariant.2 []).1)
 
 pub loop-i-preserved : goal.loop-i-preserved
 loop-i-preserved c =
     let l = c.loop-i in
-    let a = c.args in
-    let s : List ℕ → Sheet = λ mended. sheet a.read.now mended a.edits.now a.letters.now in
-    let f = letters-fit a.k (s []) l.i (formed-there (goal.at.loop-i-preserved c).Else-not-is_formed []) in (
+    let f = formed-there (goal.at.loop-i-preserved c).Else-not-is_formed in (
       search rules,
-      omega (arith, f.1, (l.invariant.2 []).1),
+      omega (arith, letters-fit _ _ _ (f []) _ c.edit_at.ensures, (l.invariant.2 []).1),
       λ mended. let v = l.invariant.2 mended in (
         v.0,
-        omega (arith, letters-more a.k (s mended) l.i, v.1),
-        v.2 ∙ passed (formed a.k (s mended)) l.i _ (search rules) (formed-there (goal.at.loop-i-preserved c).Else-not-is_formed mended),
+        omega (arith, letters-more _ _ _ (f mended) _ c.edit_at.ensures, v.1),
+        v.2 ∙ passed _ l.i _ (search rules) (f mended),
       ),
     )
 
 pub returns : goal.returns
 returns c mended =
     let l = c.loop-i in
-    let a = c.args in
-    let s = sheet a.read.now mended a.edits.now a.letters.now in
     let v = l.invariant.2 mended in
-    let e : l.i ≡ c.count_of-n.result = search rules in
-    (v.0, v.2 ∙ ended (formed a.k s) l.i _ (search rules), v.1 ∙ ap (letters_to s) e)
+    let e : l.i ≡ c.div_ceil-n.result = search rules in
+    (v.0, v.2 ∙ ended _ l.i _ (search rules), v.1 ∙ ap (letters_to _) e)
