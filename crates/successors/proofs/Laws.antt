@@ -20,9 +20,8 @@ use Rattle.rules_laws.proofs.Scan.{ask-known, ask-is, ask-none, only_yes, sole-l
 use Rattle.rules_laws.proofs.Scan.{sole-is as only-is}
 use Rattle.kmer.specs.declared.Kmer.{Kmer as KmerOf}
 use Rattle.kmer.specs.Kmer.{kmer_of, IsKmer, HasLetters}
-use Rattle.kmer.proofs.Laws.{code_is, unknown-is}
-use Rattle.successors.specs.declared.Sole.{Sole}
-use Rattle.successors.specs.declared.Sole.TheVariants.{Nuc, Refused}
+use Rattle.kmer.proofs.Laws.{code_is}
+use Rattle.std.specs.Prelude.{Option as Maybe, Some, None}
 use Rattle.set.specs.Found.{place_in}
 use Rattle.set.proofs.Among.{place-solid}
 use Rattle.successors.specs.Successors.{nuc_of, place_at, places_of}
@@ -122,23 +121,23 @@ module _ (k : ℕ) (sol : ℕ → Bool) (y : Kmer) where
   alternative-known z e = ask-known sol z (only-is k sol (drop_last y) z e).solid_found
 
   -- the code's choice r among the answers f
-  module _ {f : List Bool} (r : Sole) (found : f ≡ successors k sol y) (choice-is : nuc_of r ≡ only (yes_from 0 f)) where
+  module _ {f : List Bool} (r : Maybe ℕ) (found : f ≡ successors k sol y) (choice-is : nuc_of r ≡ only (yes_from 0 f)) where
     by : only (yes_from 0 (successors k sol y)) ≡ nuc_of r
     by = ap (λ (l : List Bool). only (yes_from 0 l)) (sym found) ∙ sym choice-is
 
-    pub no-next : r ≡ Refused → (sole k sol y).answer ≡ none
+    pub no-next : r ≡ None → (sole k sol y).answer ≡ none
     unfolding sole_by next after refuse
     no-next e = ap (λ (t : Try Kmer). t.answer) (sole-is ∙ ap sole_by (by ∙ ap nuc_of e))
 
-    pub next-is : (a : ℕ) → r ≡ Nuc a → (sole k sol y).answer ≡ some (add k y a)
+    pub next-is : (a : ℕ) → r ≡ Some a → (sole k sol y).answer ≡ some (add k y a)
     unfolding sole_by next after give
     next-is a e = ap (λ (t : Try Kmer). t.answer) (sole-is ∙ ap sole_by (by ∙ ap nuc_of e))
 
     -- y' is y and that letter
-    pub next-kmer : (a : ℕ) {y' : KmerOf} → r ≡ Nuc a → HasLetters k (add k y a) y' → ((sole k sol y).answer ≡ some (kmer_of y')) × IsKmer k y'
+    pub next-kmer : (a : ℕ) {y' : KmerOf} → r ≡ Some a → HasLetters k (add k y a) y' → ((sole k sol y).answer ≡ some (kmer_of y')) × IsKmer k y'
     next-kmer a e h = (next-is a e ∙ ap {B = Option Kmer} some (sym h.is), h.kmer)
 
-    pub nuc-lt : (a : ℕ) → r ≡ Nuc a → a < 4
+    pub nuc-lt : (a : ℕ) → r ≡ Some a → a < 4
     unfolding successors
     nuc-lt a e = let w = only_yes 0 (successors k sol y) a (by ∙ ap nuc_of e) in omega (arith, w.1, w.2.inside)
 
@@ -162,11 +161,6 @@ module _ (k : ℕ) (y : Kmer) (low : 1 ≤ k) where
       go (suc j) n h = add-unknown j y a l ∙ sym (add-unknown j y 0 (lit< tt)) ∙ h
 
   module _ (sol : ℕ → Bool) where
-    -- p answers the successor by a, which is the code's z
-    pub successor-is : (a : ℕ) {z : KmerOf} {p : Bool} → HasLetters k (add k y a) z → z.unknown ≡ 0 → p ≡ sol z.code
-        → p ≡ (ask sol (add k y a)).answer
-    successor-is a h u e = e ∙ ap sol (code_is h) ∙ sym (ask-is sol (add k y a) (sym (unknown-is h) ∙ u))
-
     -- the successors of a k-mer without unknown letters cost 4
     pub known-four : Known y → (sole k sol y).lookups ≡ 4
     known-four h = go k low
@@ -289,8 +283,8 @@ module _ (set : KmerSet) (k : ℕ) (y z : Kmer) (a : ℕ) (e : (sole k (solid se
           f ∙ ap {B = Option ℕ} some (sym (at a l ∙ ap (λ (v : Kmer). place_in (length set.keys) (lookup set v.code)) (sym z-is) ∙ ap (place_in (length set.keys)) f))
 
 -- the code's choice r among the answers f of the alternatives, d being the bad k-mer without its last letter
-module _ (set : KmerSet) (k : ℕ) (y : Kmer) {f : List Bool} (r : Sole) (found : f ≡ successors k (solid set) (drop_last y)) (choice-is : nuc_of r ≡ only (yes_from 0 f)) where
-  pub alt-kmer : (a : ℕ) (d : KmerOf) {x : KmerOf} {ps : List ℕ} → r ≡ Nuc a → kmer_of d ≡ drop_last y → HasLetters k (add k (kmer_of d) a) x
+module _ (set : KmerSet) (k : ℕ) (y : Kmer) {f : List Bool} (r : Maybe ℕ) (found : f ≡ successors k (solid set) (drop_last y)) (choice-is : nuc_of r ≡ only (yes_from 0 f)) where
+  pub alt-kmer : (a : ℕ) (d : KmerOf) {x : KmerOf} {ps : List ℕ} → r ≡ Some a → kmer_of d ≡ drop_last y → HasLetters k (add k (kmer_of d) a) x
       → ps ≡ places_of set k (drop_last y)
       → ((alternative k (solid set) y).answer ≡ some (kmer_of x)) × IsKmer k x × (lookup set x.code ≡ some (get_or ps a 0))
   unfolding kmer_of

@@ -1,31 +1,27 @@
 -- What the answers of the successors mean by the rules.
-use Rattle.std.specs.Prelude.{ℕ, ◌≡◌, List, [], ◌∷◌, length}
-use Rattle.std.proofs.Math.Option.{Option, none, some}
+use Rattle.std.specs.Prelude.{ℕ, ◌≡◌, List, [], ◌∷◌, length, Option, Some, None}
+use Rattle.std.proofs.Math.Option.{Option as MaybeOf, none, some}
 use Rattle.rules.specs.Set.{KmerSet, lookup}
 use Rattle.rules.specs.Letters as letters
+use Rattle.kmer.specs.declared.Kmer.{Kmer}
 use Rattle.kmer.specs.Kmer.{kmer_of, IsKmer}
 use Rattle.set.specs.Found.{place_in}
-use Rattle.successors.specs.declared.Sole.{Sole}
-use Rattle.successors.specs.declared.Sole.TheVariants.{Nuc, Refused as NoNuc}
-use Rattle.successors.specs.declared.Next.{Next}
-use Rattle.successors.specs.declared.Next.TheVariants.{Kmer, Refused as NoKmer}
 use Rattle.successors.specs.declared.Alt.{Alt}
-use Rattle.successors.specs.declared.Alt.TheVariants.{Kmer as AltKmer, Refused as NoAlt}
 
 -- The letter's code, or a refusal.
-abbrev pub nuc_of : Sole → Option ℕ
-nuc_of (Nuc a) = some a
-nuc_of NoNuc = none
+abbrev pub nuc_of : Option ℕ → MaybeOf ℕ
+nuc_of (Some a) = some a
+nuc_of None = none
 
 -- The answer o, or a refusal.
-abbrev pub NextIs : ℕ → Option letters.Kmer → Next → Type 0
-NextIs k o (Kmer y) = (o ≡ some (kmer_of y)) × IsKmer k y
-NextIs k o NoKmer = o ≡ none
+abbrev pub NextIs : ℕ → MaybeOf letters.Kmer → Option Kmer → Type 0
+NextIs k o (Some y) = (o ≡ some (kmer_of y)) × IsKmer k y
+NextIs k o None = o ≡ none
 
 -- The answer o with the index of its key, or a refusal.
-abbrev pub AltIs : ℕ → KmerSet → Option letters.Kmer → Alt → Type 0
-AltIs k set o (AltKmer y place) = (o ≡ some (kmer_of y)) × IsKmer k y × (lookup set y.code ≡ some place)
-AltIs k set o NoAlt = o ≡ none
+abbrev pub AltIs : ℕ → KmerSet → MaybeOf letters.Kmer → Option Alt → Type 0
+AltIs k set o (Some x) = (o ≡ some (kmer_of x.kmer)) × IsKmer k x.kmer × (lookup set x.kmer.code ≡ some x.place)
+AltIs k set o None = o ≡ none
 
 -- The indices of the keys of y's four successors; the number of keys where there is none.
 abbrev pub place_at : KmerSet → ℕ → letters.Kmer → ℕ → ℕ

@@ -7,7 +7,7 @@ use Rattle.successors.proofs.alt_nucs.Goals as goal
 pub next_nucs-requires : goal.next_nucs-requires
 next_nucs-requires c =
     let d = c.drop_last-shifted.ensures in
-    (c.requires.0, d.kmer, ap (λ (y : Kmer). (add c.args.head.k y 0).unknown) d.is ∙ c.requires.2)
+    (d.kmer, ap (λ (y : Kmer). (add c.args.set.now.head.k y 0).unknown) d.is ∙ c.requires.1)
 
 pub returns : goal.returns
 returns c =

@@ -8,24 +8,24 @@ use Rattle.successors.proofs.sole_next.Goals as goal
 
 pub returns-then-next_cost-eq0 : goal.returns-then-next_cost-eq0
 returns-then-next_cost-eq0 c =
-    let sol = solid (set_of c.args.set.now) in
-    sole_none c.args.head.k (kmer_of c.args.kmer) c.requires.0.shifts.k_low sol (sym (c.next_cost.ensures sol) ∙ c.if-next_cost-eq0.true)
+    let sol = solid (set_of c.args.set.now.bytes.now) in
+    sole_none c.args.set.now.head.k (kmer_of c.args.kmer) c.args.set.now.head.shifts.k_low sol (sym (c.next_cost.ensures sol) ∙ c.if-next_cost-eq0.true)
 
 pub next_nucs-requires : goal.next_nucs-requires
 next_nucs-requires c =
-    let sol = solid (set_of c.args.set.now) in
-    let asked = four-asked c.args.head.k (kmer_of c.args.kmer) c.requires.0.shifts.k_low sol (λ z. c.if-next_cost-eq0.false (c.next_cost.ensures sol ∙ z)) in
-    (c.requires.0, c.requires.1, asked)
+    let sol = solid (set_of c.args.set.now.bytes.now) in
+    let asked = four-asked c.args.set.now.head.k (kmer_of c.args.kmer) c.args.set.now.head.shifts.k_low sol (λ z. c.if-next_cost-eq0.false (c.next_cost.ensures sol ∙ z)) in
+    (c.requires, asked)
 
-pub returns-in_default : goal.returns-in_default
-returns-in_default c =
-    no-next _ _ _ c.sole_nuc.result c.next_nucs.ensures.0 c.sole_nuc.ensures c.in_default.is
+pub returns-in_err-nuc : goal.returns-in_err-nuc
+returns-in_err-nuc c =
+    rw c.from_residual.ensures (no-next _ _ _ c.sole_nuc.result c.next_nucs.ensures.0 c.sole_nuc.ensures c.in_err-nuc.was)
 
-pub add_nuc_to_end-next-requires : goal.add_nuc_to_end-next-requires
-add_nuc_to_end-next-requires c =
-    let small = nuc-lt _ _ _ c.sole_nuc.result c.next_nucs.ensures.0 c.sole_nuc.ensures _ c.in-Nuc.is in
+pub add_nuc_to_end-requires : goal.add_nuc_to_end-requires
+add_nuc_to_end-requires c =
+    let small = nuc-lt _ _ _ c.sole_nuc.result c.next_nucs.ensures.0 c.sole_nuc.ensures _ c.in_ok-nuc.was in
     (search rules, search rules, omega (arith, small))
 
 pub returns : goal.returns
 returns c =
-    next-kmer _ _ _ c.sole_nuc.result c.next_nucs.ensures.0 c.sole_nuc.ensures _ c.in-Nuc.is c.add_nuc_to_end-next.ensures
+    next-kmer _ _ _ c.sole_nuc.result c.next_nucs.ensures.0 c.sole_nuc.ensures _ c.in_ok-nuc.was c.add_nuc_to_end.ensures
