@@ -25,9 +25,9 @@ use Rattle.correct.specs.declared.Counts.{Counts}
 use Rattle.report.specs.declared.Report.{Report}
 use Rattle.refusal.specs.declared.Refusal.{Refusal}
 use Rattle.refusal.specs.declared.Refusal.TheVariants.{NoRoom}
-use Rattle.report.specs.declared.Answer.{Answer}
-use Rattle.report.specs.declared.Answer.TheVariants.{Report as Reported, Refused}
+use Rattle.std.specs.Prelude.{Result, Ok, Err}
 use Rattle.refusal.specs.Refusal.{refusal_of}
+use Rattle.std.specs.Bool.{then_some}
 use Rattle.support.specs.Support.{support_of}
 use Rattle.correct.specs.Pass.{Tally, tally_of}
 use Rattle.report.specs.Answer.{support_told, report_of, answer_of, Exact, Ceiling}
@@ -50,7 +50,7 @@ through_all set es ending reads =
     }
 
 -- Refusals that change no lent byte.
-pub refused-exact : (g : Given) (after : After) (r : Refusal) → after ≡ unchanged g (refusal_of r) → Exact after (Refused r) g.output g.work
+pub refused-exact : (g : Given) (after : After) (r : Refusal) → after ≡ unchanged g (refusal_of r) → Exact after (Err r) g.output g.work
 unfolding unchanged
 refused-exact g after r e =
     record {
@@ -61,14 +61,14 @@ refused-exact g after r e =
 
 -- The support that is told is the rules': none where no counts are offered.
 support-is : (offered : Bool) (counts : List ℕ) (done : Counts) (o : Option ℕ) → offered ≡ ltb 0 (length counts) → support_of done.accepted done.support ≡ o
-    → support_told (supported_by offered done) done.support ≡ elim counts [ [] ↦ none | c ∷ cs ↦ o ]
+    → support_told (then_some (supported_by offered done) done.support) ≡ elim counts [ [] ↦ none | c ∷ cs ↦ o ]
 unfolding support_of
 support-is offered [] done o e h = rw e
 support-is offered (c ∷ cs) done o e h =
     let some-offered : ltb 0 (length (c ∷ cs)) ≡ true = lt-ltb 0 (length (c ∷ cs)) (omega arith) in
     rw (e ∙ some-offered) (go (ℕ_discrete done.accepted 0) ∙ h)
   where
-    go : Dec (done.accepted ≡ 0) → support_told (ltb 0 done.accepted) done.support ≡ support_of done.accepted done.support
+    go : Dec (done.accepted ≡ 0) → support_told (then_some (ltb 0 done.accepted) done.support) ≡ support_of done.accepted done.support
     go (yes z) = rw (le-ltb 0 done.accepted (omega arith), eq-eqb done.accepted 0 z, support_of)
     go (no z) = rw (lt-ltb 0 done.accepted (omega arith), ne_eqb done.accepted 0 z, support_of)
 
@@ -77,8 +77,8 @@ module _ (set : KmerSet) (es : List Entry) (ending : List ℕ) (g : Given) (read
   after = corrected set es ending g reads
 
   -- Refusal 11.
-  pub full-exact : (line : ℕ) {r : Answer} {o w : List ℕ} → too_long set es ending 0 (length g.output) reads ≡ some line
-      → (out : List ℕ) → length out ≡ length g.output → r ≡ Refused (NoRoom line) → Cleared 0 out (length g.work) o w → Exact after r o w
+  pub full-exact : (line : ℕ) {r : Result Report Refusal} {o w : List ℕ} → too_long set es ending 0 (length g.output) reads ≡ some line
+      → (out : List ℕ) → length out ≡ length g.output → r ≡ Err (NoRoom line) → Cleared 0 out (length g.work) o w → Exact after r o w
   unfolding no_room
   full-exact line e out same a h =
       let is = corrected-full set es ending g reads line e in
@@ -105,9 +105,9 @@ module _ (set : KmerSet) (es : List Entry) (ending : List ℕ) (g : Given) (read
   }
 
   -- Accepted: out holds the results when the rest is cleared.
-  pub fits-exact : (done : Counts) (offered : Bool) (out : List ℕ) {r : Answer} {o w : List ℕ} → offered ≡ ltb 0 (length set.counts) → too_long set es ending 0 (length g.output) reads ≡ none
+  pub fits-exact : (done : Counts) (offered : Bool) (out : List ℕ) {r : Result Report Refusal} {o w : List ℕ} → offered ≡ ltb 0 (length set.counts) → too_long set es ending 0 (length g.output) reads ≡ none
       → tally_of done out ≡ through_all set es ending reads → done.written ≤ length out
-      → length out ≡ length g.output → r ≡ Reported (report_on offered done) → Cleared done.written out (length g.work) o w → Exact after r o w
+      → length out ≡ length g.output → r ≡ Ok (report_on offered done) → Cleared done.written out (length g.work) o w → Exact after r o w
   unfolding through_all
   fits-exact done offered out f e s l same a h =
       let is = corrected-fits set es ending g reads e in
@@ -121,7 +121,7 @@ module _ (set : KmerSet) (es : List Entry) (ending : List ℕ) (g : Given) (read
       }
 
   -- An exact report is the rules'.
-  reported : (r : Report) {o w : List ℕ} → Exact after (Reported r) o w → report_of r ≡ report set es ending reads
+  reported : (r : Report) {o w : List ℕ} → Exact after (Ok r) o w → report_of r ≡ report set es ending reads
   unfolding no_room
   reported r e = go (too_long set es ending 0 (length g.output) reads) refl
     where
@@ -137,9 +137,9 @@ module _ (set : KmerSet) (es : List Entry) (ending : List ℕ) (g : Given) (read
 -- Demand 3, of an exact answer, whatever counts are offered and whatever index that passes 15.
 pub under-ceiling : (file : KmerSet) (es : List Entry) (ending : List ℕ) (g : Given) (reads : List (List ℕ)) (bytes : List ℕ) → opened bytes ≡ accepted file
     → (index counts : List ℕ) → index_check file index ≡ none → Confirmed es
-    → (r : Answer) {o w : List ℕ} → Exact (corrected (offering [] counts file) es ending g reads) r o w → Ceiling (offering index counts file) es reads r
+    → (r : Result Report Refusal) {o w : List ℕ} → Exact (corrected (offering [] counts file) es ending g reads) r o w → Ceiling (offering index counts file) es reads r
 unfolding report
-under-ceiling file es ending g reads bytes h index counts i l (Refused r) e = tt
-under-ceiling file es ending g reads bytes h index counts i l (Reported r) e =
+under-ceiling file es ending g reads bytes h index counts i l (Err r) e = tt
+under-ceiling file es ending g reads bytes h index counts i l (Ok r) e =
     let is = reported (offering [] counts file) es ending g reads r e ∙ sym (same-report bytes file h index counts i es ending reads) in
     rw (ap (λ (x : Reports.Report). x.turns) is, ap (λ (x : Reports.Report). x.lookups) is) (ceilings bytes file h index counts es l reads)

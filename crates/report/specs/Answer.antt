@@ -1,5 +1,5 @@
 -- What a call's answer means in the papers' terms, and what the calls promise.
-use Rattle.std.specs.Prelude.{ℕ, ◌≡◌, Bool, true, false, List}
+use Rattle.std.specs.Prelude.{ℕ, ◌≡◌, List, Option as Told, Some, None, Result, Ok, Err}
 use Rattle.std.proofs.Math.Option.{Option, none, some}
 use Rattle.rules.specs.Refusal.{Outcome, accepted, refused}
 use Rattle.rules.specs.Report as Reports
@@ -9,13 +9,12 @@ use Rattle.rules_ceiling.specs.Ceiling.{Demand3}
 use Rattle.rules.specs.Calls.{Given, After}
 use Rattle.refusal.specs.Refusal.{refusal_of}
 use Rattle.report.specs.declared.Report.{Report}
-use Rattle.report.specs.declared.Answer.{Answer}
-use Rattle.report.specs.declared.Answer.TheVariants.{Report as Reported, Refused}
+use Rattle.refusal.specs.declared.Refusal.{Refusal}
 
 -- A support as it is told, or none.
-abbrev pub support_told : Bool → ℕ → Option ℕ
-support_told true support = some support
-support_told false support = none
+abbrev pub support_told : Told ℕ → Option ℕ
+support_told (Some support) = some support
+support_told None = none
 
 abbrev pub report_of : Report → Reports.Report
 report_of r =
@@ -26,16 +25,16 @@ report_of r =
       attempts = r.attempts;
       accepted = r.accepted;
       yield = r.yield_;
-      support = support_told r.supported r.support;
+      support = support_told r.support;
       quotient = r.quotient;
       remainder = r.remainder;
       bases = r.bases;
     }
 
 -- The rules' outcome for each case.
-abbrev pub answer_of : Answer → Outcome Reports.Report
-answer_of (Reported r) = accepted (report_of r)
-answer_of (Refused r) = refused (refusal_of r)
+abbrev pub answer_of : Result Report Refusal → Outcome Reports.Report
+answer_of (Ok r) = accepted (report_of r)
+answer_of (Err r) = refused (refusal_of r)
 
 -- What a call is given.
 abbrev pub given : List ℕ → List ℕ → List ℕ → List ℕ → List ℕ → List ℕ → List ℕ → Given
@@ -43,12 +42,12 @@ given set index counts job input output work =
     record { set = set; index = index; counts = counts; job = job; input = input; output = output; work = work }
 
 -- Answer, report and each lent byte are those of the rules.
-pub record Exact (after : After) (r : Answer) (o w : List ℕ) : Type 0 where
+pub record Exact (after : After) (r : Result Report Refusal) (o w : List ℕ) : Type 0 where
   pub answer : answer_of r ≡ after.answer
   pub output : o ≡ after.output
   pub work : w ≡ after.work
 
 -- Demand 3, of an accepted call: one statement about the whole list of reads through the whole list of entries.
-abbrev pub Ceiling : KmerSet → List Entry → List (List ℕ) → Answer → Type 0
-Ceiling set es reads (Reported r) = Demand3 set es reads r.turns r.lookups
-Ceiling set es reads (Refused r) = Unit
+abbrev pub Ceiling : KmerSet → List Entry → List (List ℕ) → Result Report Refusal → Type 0
+Ceiling set es reads (Ok r) = Demand3 set es reads r.turns r.lookups
+Ceiling set es reads (Err r) = Unit

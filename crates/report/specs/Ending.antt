@@ -1,5 +1,6 @@
 -- What the end of a call leaves.
 use Rattle.std.specs.Prelude.{ℕ, ◌-◌, ◌≡◌, Bool, ◌&&◌, List, ◌++◌, length, take, replicate, ltb}
+use Rattle.std.specs.Bool.{then_some}
 use Rattle.rules.specs.Report.{yield_of, quotient_of, remainder_of}
 use Rattle.correct.specs.declared.Counts.{Counts}
 use Rattle.report.specs.declared.Report.{Report}
@@ -23,8 +24,7 @@ report_on offered n =
       attempts = n.attempts;
       accepted = n.accepted;
       yield_ = yield_of n.accepted n.attempts;
-      supported = supported_by offered n;
-      support = n.support;
+      support = then_some (supported_by offered n) n.support;
       quotient = quotient_of n.lookups n.bases;
       remainder = remainder_of n.lookups n.bases;
       bases = n.bases;
