@@ -1,23 +1,19 @@
 -- Laws of the shifts, the reverse complement and the parity that the code computes.
 use Prim.Native.Nat.{ℕ, zero, suc, ◌+◌, ◌*◌, ◌-◌, ◌/◌, ◌%◌, ◌^◌, ◌≤◌, ◌<◌}
 use native.Mathlib.Omega.{arith}
-use native.Mathlib.Numerals.{add-one}
 use native.Mathlib.Nat.{mod-eq_of_lt, mod-lt, one-le-pow, suc-mul, pow-suc, pow-le-pow_right, mul_comm, add_comm, div-lt_iff_lt-mul, div-add-mod', eq-or-lt_of_le}
 use mathlib.Core.Path.{◌≡◌, refl, sym, ap, ◌∙◌}
 use mathlib.Core.Bool.{Bool, true, false, ◌&&◌}
-use mathlib.Core.List.{List}
 use mathlib.Core.Logic.{◌⊎◌, inl, inr}
 use lib.Dec.{eqb, lit<, lit≤}
 use borrow.Author.Tests.{eqb-true, eq-eqb, ne_eqb}
-use lib.ListN.{length, get_or}
-use lib.Seq.{slice, slice-cons}
 use lib.Pow.{pow-add}
 use lib.Arith.{digits_div, digits_mod, mod-mul}
 use lib.Bits.{bit_and, bit_xor, and_mask, xor_shifted}
 use Rattle.rules.specs.Letters as rules
 use Rattle.rules.specs.Letters.{mask, same, push, add, add_all, has_code, code, complement, revcomp, even_ones, canonical}
 use Rattle.rules_laws.proofs.Opened.{both}
-use Rattle.rules_laws.proofs.Kmer.{known-true, ne-known, same_code, four-pos, push-is, complement-lt, revcomp-lt, revcomp-first, ones-in, two-four}
+use Rattle.rules_laws.proofs.Kmer.{four-pos, push-is, complement-lt, revcomp-lt, revcomp-first, ones-in, two-four}
 use Rattle.kmer.specs.declared.shifts.Header.{Header}
 use Rattle.kmer.specs.declared.Kmer.{Kmer}
 use Rattle.kmer.specs.Masked.{Masked}
@@ -201,27 +197,7 @@ pub canonical-odd : (k y : ℕ) → even_ones k y ≡ false → canonical k y �
 unfolding canonical
 canonical-odd k y e = rw (e, canonical)
 
--- ---- a k-mer of the bases of a read
-
-pub next-base : (k i : ℕ) (y : rules.Kmer) (seq : List ℕ) → i < k → k ≤ length seq
-    → add_all k y (slice i k seq) ≡ add_all k (add k y (code (get_or seq i 0))) (slice (i + 1) k seq)
-unfolding add_all
-next-base k i y seq l h = rw (slice-cons i k seq 0 l h, add-one)
-
 -- ---- a k-mer by the rules
-
-module _ (y z : Kmer) where
-  pub first-unknown : (y.unknown ≡ 0 → ⊥) → same (kmer_of y) (kmer_of z) ≡ false
-  unfolding kmer_of same
-  first-unknown n = rw (ne-known (kmer_of y) n)
-
-  pub second-unknown : y.unknown ≡ 0 → (z.unknown ≡ 0 → ⊥) → same (kmer_of y) (kmer_of z) ≡ false
-  unfolding kmer_of same
-  second-unknown h n = rw (known-true (kmer_of y) h, ne-known (kmer_of z) n)
-
-  pub both-known : y.unknown ≡ 0 → z.unknown ≡ 0 → same (kmer_of y) (kmer_of z) ≡ eqb y.code z.code
-  unfolding kmer_of
-  both-known h g = same_code (kmer_of y) (kmer_of z) h g
 
 module _ {k : ℕ} {y : rules.Kmer} {r : Kmer} (is : HasLetters k y r) where
   pub code_is : r.code ≡ y.code

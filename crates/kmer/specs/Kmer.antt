@@ -1,5 +1,5 @@
 -- What the functions over k-mers ask and give.
-use Rattle.std.specs.Prelude.{ℕ, ◌^◌, ◌≤◌, ◌<◌, ◌≡◌}
+use Rattle.std.specs.Prelude.{ℕ, ◌^◌, ◌<◌, ◌≡◌}
 use Rattle.rules.specs.Letters.{complement, revcomp}
 use Rattle.rules.specs.Letters as rules
 use Rattle.kmer.specs.Masked.{Masked}

@@ -19,42 +19,6 @@ pub struct Kmer {
     pub unknown: u64,
 }
 
-// Entry k is 4^k − 1.
-const MASK_LOOKUP: [u64; 32] = [
-    0,
-    3,
-    15,
-    63,
-    255,
-    1023,
-    4095,
-    16383,
-    65535,
-    262143,
-    1048575,
-    4194303,
-    16777215,
-    67108863,
-    268435455,
-    1073741823,
-    4294967295,
-    17179869183,
-    68719476735,
-    274877906943,
-    1099511627775,
-    4398046511103,
-    17592186044415,
-    70368744177663,
-    281474976710655,
-    1125899906842623,
-    4503599627370495,
-    18014398509481983,
-    72057594037927935,
-    288230376151711743,
-    1152921504606846975,
-    4611686018427387903,
-];
-
 // The letters that have a code, a bit for each: its number is the letter's last five bits, the same in upper and lower case.
 const LETTERS: u64 = 3145866;
 
@@ -110,7 +74,7 @@ pub fn mask(k: usize) -> u64
     requires { k < 32 }
     ensures { result ≡ Letters.mask k }
 {
-    MASK_LOOKUP[k]
+    (1 << (2 * k)) - 1
 }
 
 pub fn header_of(k: usize, n: usize, shift: u32, finer: u32) -> Header
@@ -128,7 +92,7 @@ pub fn header_of(k: usize, n: usize, shift: u32, finer: u32) -> Header
 
 // The first letter out at the mask, another in at the end.
 fn shift_in(code: u64, nuc: u64, head: Header) -> u64
-    requires { Shifts head × (code < 4 ^ head.k) × (nuc < 4) }
+    requires { (code < 4 ^ head.k) × (nuc < 4) }
     ensures { result ≡ Letters.push 4 head.k code nuc }
 {
     ((code << 2) & head.mask) ^ nuc
@@ -136,7 +100,7 @@ fn shift_in(code: u64, nuc: u64, head: Header) -> u64
 
 // The same with the letters' bits: 1 for an unknown one. Half of the mask's bits are one for each letter.
 fn mark_in(unknown: u64, bit: u64, head: Header) -> u64
-    requires { Shifts head × (unknown < 2 ^ head.k) × (bit < 2) }
+    requires { (unknown < 2 ^ head.k) × (bit < 2) }
     ensures { result ≡ Letters.push 2 head.k unknown bit }
 {
     (2 * unknown + bit) & (head.mask >> head.k)
@@ -144,7 +108,6 @@ fn mark_in(unknown: u64, bit: u64, head: Header) -> u64
 
 // What the first of k letters counts.
 fn top(head: Header) -> u64
-    requires { Shifts head }
     ensures { result ≡ 4 ^ (head.k - 1) }
 {
     head.mask / 4 + 1
@@ -152,7 +115,7 @@ fn top(head: Header) -> u64
 
 // An unknown letter, said by 4, has 0 in its place of the code.
 pub fn add_nuc_to_end(kmer: Kmer, nuc: u64, head: Header) -> Kmer
-    requires { Shifts head × IsKmer head.k kmer × (nuc ≤ 4) }
+    requires { IsKmer head.k kmer × (nuc ≤ 4) }
     ensures { HasLetters head.k (Letters.add head.k (kmer_of kmer) nuc) result }
 {
     let bits = nuc & 3;
@@ -165,7 +128,7 @@ pub fn add_nuc_to_end(kmer: Kmer, nuc: u64, head: Header) -> Kmer
 
 // The source's `kmer >>= 2`: an A comes in front, so its complement comes last on the other side.
 pub fn drop_last(kmer: Kmer, head: Header) -> Kmer
-    requires { Shifts head × IsKmer head.k kmer }
+    requires { IsKmer head.k kmer }
     ensures { HasLetters head.k (Letters.drop_last (kmer_of kmer)) result }
 {
     Kmer {
@@ -177,7 +140,6 @@ pub fn drop_last(kmer: Kmer, head: Header) -> Kmer
 
 // k letters A, turned k letters T: a third of the mask has a 1 for each letter.
 pub fn all_a(head: Header) -> Kmer
-    requires { Shifts head }
     ensures { HasLetters head.k (Letters.kmer head.k []) result }
 {
     Kmer {
@@ -188,13 +150,12 @@ pub fn all_a(head: Header) -> Kmer
 }
 
 pub fn seq2bit(seq: &[u8], head: Header) -> Kmer
-    requires { Shifts head × (head.k ≤ length seq.now) }
+    requires { head.k ≤ length seq.now }
     ensures { HasLetters head.k (Letters.kmer head.k (take head.k seq.now)) result }
 {
-    let k = head.k;
     let mut kmer = all_a(head);
-    for i in 0..k {
-        kmer = add_nuc_to_end(kmer, nuc2bit(seq[i]), head);
+    for nuc in &seq[..head.k] {
+        kmer = add_nuc_to_end(kmer, nuc2bit(*nuc), head);
     }
     kmer
 }
@@ -203,20 +164,14 @@ pub fn seq2bit(seq: &[u8], head: Header) -> Kmer
 pub fn same(a: Kmer, b: Kmer) -> bool
     ensures { result ≡ Letters.same (kmer_of a) (kmer_of b) }
 {
-    if a.unknown != 0 {
-        return false;
-    }
-    if b.unknown != 0 {
-        return false;
-    }
-    a.code == b.code
+    (a.unknown == 0) & (b.unknown == 0) & (a.code == b.code)
 }
 
 // Over all 64 bits; a k-mer has none above its own 2k.
 pub fn parity_even(code: u64) -> bool
     ensures { result ≡ Letters.even_ones 32 code }
 {
-    u64::count_ones(code) % 2 == 0
+    code.count_ones() % 2 == 0
 }
 
 // Without a branch: parity is as good as random.

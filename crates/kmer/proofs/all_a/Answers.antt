@@ -11,12 +11,12 @@ use Rattle.kmer.proofs.all_a.Goals as goal
 pub overflow_mul-result : goal.overflow_mul-result
 unfolding complement
 overflow_mul-result c =
-    rw (c.complement.ensures.0, c.requires.mask_is) (omega (arith, mask_fits c.args.head.k c.requires.k_high))
+    rw (c.complement.ensures.0, c.args.head.shifts.mask_is) (omega (arith, mask_fits c.args.head.k c.args.head.shifts.k_high))
 
 pub returns : goal.returns
 unfolding kmer_of kmer add_all
 returns c =
     record {
       is = refl;
-      kmer = record { small = four-pos _; turned = rw (c.complement.ensures.0, c.requires.mask_is) (revcomp-zero _); unknown_lt = one-le-pow _ 2 (lit< tt) };
+      kmer = record { small = four-pos _; turned = rw (c.complement.ensures.0, c.args.head.shifts.mask_is) (revcomp-zero _); unknown_lt = one-le-pow _ 2 (lit< tt) };
     }

@@ -8,7 +8,7 @@ use Rattle.kmer.proofs.drop_last.Goals as goal
 
 pub shift_in-requires : goal.shift_in-requires
 shift_in-requires c =
-    (c.requires.0, rw c.requires.1.turned (revcomp-lt _ _), rw c.complement.ensures.0 (complement-lt 0))
+    (rw c.requires.turned (revcomp-lt _ _), rw c.complement.ensures.0 (complement-lt 0))
 
 pub returns : goal.returns
 unfolding drop_last kmer_of
@@ -17,8 +17,8 @@ returns c =
       is = refl;
       kmer = record {
         small = search rules;
-        turned = rw (c.shift_in.ensures, c.complement.ensures.0, c.requires.1.turned)
-            (revcomp-drop _ _ c.requires.0.k_low c.requires.1.small);
+        turned = rw (c.shift_in.ensures, c.complement.ensures.0, c.requires.turned)
+            (revcomp-drop _ _ c.args.head.shifts.k_low c.requires.small);
         unknown_lt = search rules;
       };
     }

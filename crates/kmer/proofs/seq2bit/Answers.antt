@@ -1,33 +1,33 @@
-use mathlib.Core.Path.{◌≡◌, refl, sym, ◌∙◌}
-use lib.Seq.{slice_empty}
-use borrow.Author.Rules.{rules}
+use mathlib.Core.Path.{sym, ◌∙◌}
+use mathlib.Core.List.{List}
+use lib.ListN.{take}
+use Prim.Native.Nat.{ℕ}
+use native.Mathlib.Omega.{arith}
+use Rattle.std.proofs.lemmas.List.{at_drop_more, at_drop_all}
 use Rattle.rules.specs.Letters.{add_all, kmer}
+use Rattle.kmer.specs.Kmer.{kmer_of}
 use Rattle.rules_laws.proofs.Kmer.{code-le}
-use Rattle.kmer.proofs.Laws.{next-base}
 use Rattle.kmer.proofs.seq2bit.Goals as goal
 
-pub loop-i-init : goal.loop-i-init
+pub loop-nuc-init : goal.loop-nuc-init
 unfolding kmer add_all
-loop-i-init c = (refl, search rules, c.all_a-kmer.ensures.kmer, rw c.all_a-kmer.ensures.is)
+loop-nuc-init c = (c.all_a-kmer.ensures.kmer, rw c.all_a-kmer.ensures.is)
 
 pub add_nuc_to_end-kmer-requires : goal.add_nuc_to_end-kmer-requires
-add_nuc_to_end-kmer-requires c =
-    (c.requires.0, c.loop-i.invariant.2, rw c.nuc2bit.ensures (code-le _))
+add_nuc_to_end-kmer-requires c = (c.loop-nuc.invariant.0, rw c.nuc2bit.ensures (code-le _))
 
-pub loop-i-preserved : goal.loop-i-preserved
-loop-i-preserved c =
-    let i = c.loop-i.invariant in
-    let e = c.add_nuc_to_end-kmer.ensures in (
-      i.0,
-      search rules,
-      e.kmer,
-      rw (e.is, c.nuc2bit.ensures)
-          (sym (next-base c.args.head.k c.loop-i.i _ c.args.seq.now (search rules) c.requires.1) ∙ i.3),
-    )
+pub loop-nuc-preserved : goal.loop-nuc-preserved
+unfolding add_all
+loop-nuc-preserved c =
+    let i = c.loop-nuc.invariant in
+    let e = c.add_nuc_to_end-kmer.ensures in
+    let next = at_drop_more (add_all c.args.head.k (kmer_of c.loop-nuc.kmer)) _ _ 0 c.loop-nuc-test.true in
+    (e.kmer, rw (e.is, c.nuc2bit.ensures) (sym next ∙ i.1))
 
 pub returns : goal.returns
 unfolding add_all kmer
 returns c =
-    let i = c.loop-i.invariant in
-    let e : c.loop-i.i ≡ c.args.head.k = search rules in
-    record { is = rw (e, slice_empty) at i.3; kmer = i.2 }
+    let i = c.loop-nuc.invariant in
+    let items : List ℕ = take c.args.head.k c.args.seq.now in
+    let done = at_drop_all (add_all c.args.head.k (kmer_of c.loop-nuc.kmer)) items c.loop-nuc.nuc-index (omega (arith, c.loop-nuc-test.false)) in
+    record { is = sym done ∙ i.1; kmer = i.0 }
