@@ -1,13 +1,13 @@
 -- Laws of bases added and the scan in the code's terms.
 use Prim.Native.Nat.{ℕ, ◌+◌, ◌≤◌, ◌<◌}
 use native.Mathlib.Numerals.{add-one}
+use native.Mathlib.Omega.{arith}
 use mathlib.Core.Path.{◌≡◌, refl, sym, ap, ◌∙◌}
 use mathlib.Core.Bool.{Bool, true, false}
 use mathlib.Core.List.{List, [], ◌∷◌, ◌++◌}
 use lib.ListN.{length, drop, get_or, drop_of_length-le}
 use lib.Seq.{drop-cons}
 use Rattle.rules.specs.Letters.{Kmer, add_base, add_all}
-use Rattle.rules.specs.Set.{solid}
 use Rattle.rules.specs.Scan.{ask, scan_from}
 use Rattle.set.specs.declared.Asked.{Asked}
 use Rattle.set.specs.Asked.{AskedIs}
@@ -47,6 +47,6 @@ module _ (k : ℕ) (sol : ℕ → Bool) (l j : ℕ) (z : Kmer) (s : List ℕ) wh
     unfolding scan_from
     scan-on e = rw (drop-cons s j 0 h, scan_from, answered e, cost, add-one j, z-is)
 
-  pub scan-end : length s ≤ j → scan_from k sol l j z (drop j s) ≡ record { index = j; end = z; lookups = l }
+  pub scan-end : length s ≡ j → scan_from k sol l j z (drop j s) ≡ record { index = length s; end = z; lookups = l }
   unfolding scan_from
-  scan-end h = rw (drop_of_length-le s h)
+  scan-end h = let e : length s ≤ j = omega (arith, h) in rw (drop_of_length-le s e, h)

@@ -6,11 +6,11 @@ ghost use Rattle.std.specs.Prelude.{◌≡◌, ◌≤◌, length};
 ghost use Rattle.rules.specs.Letters.{add_base, add_all};
 ghost use Rattle.rules.specs.Set.{solid, set_of};
 ghost use Rattle.rules.specs.Scan as rules;
-ghost use Rattle.kmer.specs.Kmer.{Shifts, kmer_of, IsKmer, HasLetters};
-ghost use Rattle.set.specs.Ready.{Ready};
+ghost use Rattle.kmer.specs.Kmer.{kmer_of, IsKmer, HasLetters};
 ghost use Rattle.scan.specs.Scan.{scan_of};
 
 use kmer::{Header, Kmer};
+use set::KmerSet;
 
 // Where a scan ends: the index reached, the last k-mer T, and the lookups made.
 #[derive(Clone, Copy)]
@@ -31,34 +31,33 @@ pub enum Attempt {
 }
 
 pub fn add_base(kmer: Kmer, base: u8, head: Header) -> Kmer
-    requires { Shifts head × IsKmer head.k kmer }
+    requires { IsKmer head.k kmer }
     ensures { HasLetters head.k (add_base head.k (kmer_of kmer) base) result }
 {
     kmer::add_nuc_to_end(kmer, kmer::nuc2bit(base), head)
 }
 
 pub fn add_all(kmer: Kmer, bases: &[u8], head: Header) -> Kmer
-    requires { Shifts head × IsKmer head.k kmer }
+    requires { IsKmer head.k kmer }
     ensures { HasLetters head.k (add_all head.k (kmer_of kmer) bases.now) result }
 {
     let mut last = kmer;
-    for i in 0..bases.len() {
-        last = add_base(last, bases[i], head);
+    for &base in bases {
+        last = add_base(last, base, head);
     }
     last
 }
 
 // s is the rest of the read at its bad base s0, kmer the bad k-mer: s1, s2, .. are added up to the first solid k-mer or the end.
-pub fn error_len(set: &[u8], starts: &[u32], head: Header, kmer: Kmer, s: &[u8]) -> Scan
-    requires { Ready set.now starts.now head × IsKmer head.k kmer × (1 ≤ length s.now) }
-    ensures { scan_of result ≡ rules.error_len head.k (solid (set_of set.now)) (kmer_of kmer) s.now }
+pub fn error_len(set: &KmerSet, kmer: Kmer, s: &[u8]) -> Scan
+    requires { IsKmer set.now.head.k kmer × (1 ≤ length s.now) }
+    ensures { scan_of result ≡ rules.error_len set.now.head.k (solid (set_of set.now.bytes.now)) (kmer_of kmer) s.now }
 {
     let mut last = kmer;
     let mut lookups = 0;
-    let mut j = 1;
-    while j < s.len() {
-        last = add_base(last, s[j], head);
-        let asked = set::ask(set, starts, head, last);
+    for j in 1..s.len() {
+        last = add_base(last, s[j], set.head);
+        let asked = set.ask(last);
         lookups += asked.lookups;
         if asked.solid {
             return Scan {
@@ -67,47 +66,39 @@ pub fn error_len(set: &[u8], starts: &[u32], head: Header, kmer: Kmer, s: &[u8])
                 lookups,
             };
         }
-        j += 1;
     }
     Scan {
-        index: j,
+        index: s.len(),
         end: last,
         lookups,
     }
 }
 
 // The lines that lookups of the next k-mers read first, if each base is kept.
-fn first_lines(set: &[u8], starts: &[u32], head: Header, kmer: Kmer, next: &[u8]) -> [u32; 16]
-    requires { Ready set.now starts.now head × IsKmer head.k kmer × (length next.now ≤ 16) }
+fn first_lines(set: &KmerSet, kmer: Kmer, next: &[u8]) -> [u32; 16]
+    requires { IsKmer set.now.head.k kmer × (length next.now ≤ 16) }
 {
     let mut lines = [0u32; 16];
     let mut last = kmer;
-    for i in 0..next.len() {
-        last = add_base(last, next[i], head);
-        lines[i] = set::first_line(set, starts, head, last) as u32;
+    for (i, &base) in next.iter().enumerate() {
+        last = add_base(last, base, set.head);
+        lines[i] = set.first_line(last) as u32;
     }
     lines
 }
 
 // Reads the lines of the k-mers of the next 16 bases, all in one go: lookups one by one wait for memory much longer. It asks nothing, and
 // tells up to which base it has read: any number is right. No key is above the mask; the compiler does not know that, and keeps the reads.
-pub fn read_ahead(
-    set: &[u8],
-    starts: &[u32],
-    head: Header,
-    kmer: Kmer,
-    read: &[u8],
-    at: usize,
-) -> usize
-    requires { Ready set.now starts.now head × IsKmer head.k kmer × (at ≤ length read.now) }
+pub fn read_ahead(set: &KmerSet, kmer: Kmer, read: &[u8], at: usize) -> usize
+    requires { IsKmer set.now.head.k kmer × (at ≤ length read.now) }
 {
-    let end = at + number::lesser(16, read.len() - at);
-    let lines = first_lines(set, starts, head, kmer, &read[at..end]);
+    let end = at + (read.len() - at).min(16);
+    let lines = first_lines(set, kmer, &read[at..end]);
     let mut words: u64 = 0;
-    for i in 0..16usize {
-        words = words | keys::touch(set, lines[i]);
+    for &line in &lines {
+        words |= keys::touch(set.bytes, line);
     }
-    if head.mask < words { at } else { end }
+    if set.head.mask < words { at } else { end }
 }
 
 // From which base on to read ahead: from none if the set is small, for then its keys are near anyway.

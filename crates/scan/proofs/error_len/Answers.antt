@@ -1,4 +1,4 @@
-use Prim.Native.Nat.{◌≤◌, ◌-◌}
+use Prim.Native.Nat.{◌≤◌}
 use native.Mathlib.Omega.{arith}
 use mathlib.Core.Path.{refl, sym, ◌∙◌}
 use borrow.Author.Rules.{rules}
@@ -43,4 +43,4 @@ loop-j-preserved c =
 pub returns : goal.returns
 returns c =
     let l = c.loop-j in
-    sym (l.invariant.3 ∙ scan-end _ _ l.lookups l.j (kmer_of l.last) _ c.loop-j-test.false)
+    sym (l.invariant.3 ∙ scan-end _ _ l.lookups l.j (kmer_of l.last) _ (omega (arith, l.invariant.0, c.loop-j-test.false)))
