@@ -1,18 +1,17 @@
--- Checks 3 and 5.
-use Prim.Native.Nat.{ℕ, suc, ◌+◌, ◌*◌, ◌-◌, max, ◌≤◌, ◌<◌}
+-- Checks 1 to 5.
+use Prim.Native.Nat.{ℕ, suc, ◌+◌, ◌-◌, ◌≤◌, ◌<◌}
 use native.Mathlib.Omega.{arith}
 use native.Mathlib.Numerals.{add-one}
-use borrow.Author.Tests.{le-leb, lt-leb, leb-true, leb-false}
-use mathlib.Core.Path.{◌≡◌, refl, sym, ap, ◌∙◌}
+use mathlib.Core.Path.{◌≡◌, sym}
 use mathlib.Core.Bool.{Bool, true, false}
+use mathlib.Core.List.{List}
 use mathlib.Core.Option.{none, some}
-use lib.Dec.{leb}
-use Rattle.rules.specs.Refusal.{Check, ◌or_else◌, first_failing}
-use Rattle.rules.specs.Calls.{max_output, max_work, buffers_right}
-use Rattle.refusal.specs.declared.Refusal.{Refusal}
-use Rattle.input.specs.declared.Input.{Input}
-use Rattle.input.specs.declared.Input.TheVariants.{Fine, Refused}
-use Rattle.input.specs.Input.{check_of, IsRefused}
+use lib.Dec.{eqb, leb}
+use Rattle.rules.specs.Refusal.{◌or_else◌, unless, first_failing}
+use Rattle.rules.specs.Job.{entry_count}
+use Rattle.rules.specs.Calls.{max_read, buffers_right, job_check, input_check}
+use Rattle.rules_laws.proofs.Upward.{or_else-assoc}
+use Rattle.rules_needs.specs.Needs.{needs_check}
 
 -- The first failing index from i on, of n.
 module _ (ok : ℕ → Bool) (n i : ℕ) where
@@ -31,37 +30,15 @@ module _ (ok : ℕ → Bool) (n i : ℕ) where
   unfolding first_failing
   none_left h = let e : n - i ≡ 0 = omega arith in rw (e, first_failing)
 
-pub is-refused : {checked : Input} {r : Refusal} → checked ≡ Refused r → IsRefused checked
-is-refused e = rw e tt
+-- Both calls begin with checks 1 to 4.
+pub input-by-start : (input output work : ℕ) (job : List ℕ)
+    → input_check input job output work ≡ (unless (leb input max_read) 1 or_else job_check job) or_else unless (buffers_right input output work) 5
+unfolding input_check
+input-by-start input output work job = sym (or_else-assoc (unless (leb input max_read) 1) (job_check job) (unless (buffers_right input output work) 5))
 
--- A refusal stands whatever the later checks say.
-pub refuses : {checked : Input} {r : Refusal} (later : Check) → checked ≡ Refused r → check_of checked ≡ (check_of checked or_else later)
-unfolding ◌or_else◌
-refuses later e = rw e
-
--- A check that let pass.
-pub is-fine : {checked : Input} {check : Check} → check_of checked ≡ check → checked ≡ Fine → check ≡ none
-is-fine is e = sym is ∙ ap check_of e
-
-module _ (input output work : ℕ) where
-  pub long-output : max_output < output → buffers_right input output work ≡ false
-  unfolding buffers_right
-  long-output h = rw (lt-leb output max_output h)
-
-  module _ (o : output ≤ max_output) where
-    pub long-work : max_work < work → buffers_right input output work ≡ false
-    unfolding buffers_right
-    long-work h = rw (le-leb output max_output o, lt-leb work max_work h)
-
-    module _ (w : work ≤ max_work) where
-      pub short-work : work < 2 * output → buffers_right input output work ≡ false
-      unfolding buffers_right
-      short-work h = rw (le-leb output max_output o, le-leb work max_work w, lt-leb (2 * max output input) work (omega arith))
-
-      pub work-by-input : 2 * output ≤ work → leb (2 * input) work ≡ buffers_right input output work
-      unfolding buffers_right
-      work-by-input h = rw (le-leb output max_output o, le-leb work max_work w) (go (leb (2 * input) work) refl)
-        where
-          go : (b : Bool) → leb (2 * input) work ≡ b → b ≡ leb (2 * max output input) work
-          go true e = let l = leb-true (2 * input) work e in rw (le-leb (2 * max output input) work (omega arith))
-          go false e = let l = leb-false (2 * input) work e in rw (lt-leb (2 * max output input) work (omega arith))
+pub needs-by-start : (batch work : ℕ) (job : List ℕ)
+    → needs_check batch job work
+    ≡ (unless (leb batch max_read) 1 or_else job_check job) or_else (unless (eqb (entry_count job) 1) 17 or_else unless (leb batch work) 5)
+unfolding needs_check
+needs-by-start batch work job =
+    sym (or_else-assoc (unless (leb batch max_read) 1) (job_check job) (unless (eqb (entry_count job) 1) 17 or_else unless (leb batch work) 5))

@@ -1,69 +1,60 @@
--- The lines of a batch, byte by byte.
-use Prim.Native.Nat.{ℕ, suc, ◌+◌, ◌-◌, ◌≤◌, ◌<◌}
+-- The lines of a batch.
+use Prim.Native.Nat.{ℕ, zero, suc, ◌+◌, ◌-◌, ◌<◌}
 use native.Mathlib.Omega.{arith}
-use native.Mathlib.Numerals.{add-one}
 use borrow.Author.Tests.{eq-eqb, ne_eqb}
-use mathlib.Core.Path.{◌≡◌, refl, sym, ap, ◌∙◌}
-use mathlib.Core.Bool.{Bool, true, false}
-use mathlib.Core.List.{List, [], ◌∷◌, ◌++◌}
+use mathlib.Core.Path.{◌≡◌, refl, ap, ◌∙◌}
+use mathlib.Core.Bool.{Bool, true, false, cond}
+use mathlib.Core.List.{List, [], ◌∷◌, ◌++◌, append-nil, append_assoc}
 use lib.Dec.{eqb}
 use lib.ListN.{length, get_or, take, drop, length-drop}
-use lib.Seq.{drop-cons, take-suc, get_or-drop, drop-length}
+use lib.Seq.{drop-drop}
+use Rattle.std.specs.List.{filter}
 use Rattle.rules.specs.Job.{lines_from, lines}
 use Rattle.rules.specs.Calls.{batch_right}
+use Rattle.input.specs.Input.{LineAt}
 
--- How many lines there are does not hang on what the first begins with.
-count-from : (line bytes : List ℕ) → length (lines_from line bytes) ≡ length (lines_from [] bytes)
+abbrev pub is_end : ℕ → Bool
+is_end b = eqb b 10
+
+-- There are as many lines as bytes 10, whatever the first begins with.
+counted-from : (line bytes : List ℕ) → length (filter is_end bytes) ≡ length (lines_from line bytes)
 unfolding lines_from
-count-from line [] = refl
-count-from line (b ∷ bs) = go (eqb b 10) (count-from (line ++ (b ∷ [])) bs ∙ sym (count-from (b ∷ []) bs))
+counted-from line [] = refl
+counted-from line (b ∷ bs) = go (is_end b) (counted-from [] bs) (counted-from (line ++ (b ∷ [])) bs)
   where
-    go : (t : Bool) → length (lines_from (line ++ (b ∷ [])) bs) ≡ length (lines_from (b ∷ []) bs)
-        → length {A = List ℕ} (elim t [ true ↦ line ∷ lines_from [] bs | false ↦ lines_from (line ++ (b ∷ [])) bs ])
-        ≡ length {A = List ℕ} (elim t [ true ↦ [] ∷ lines_from [] bs | false ↦ lines_from (b ∷ []) bs ])
-    go true e = refl
-    go false e = e
+    go : (t : Bool) → length (filter is_end bs) ≡ length (lines_from [] bs) → length (filter is_end bs) ≡ length (lines_from (line ++ (b ∷ [])) bs)
+        → length (cond t (b ∷ filter is_end bs) (filter is_end bs))
+        ≡ length {A = List ℕ} (elim t [ true ↦ line ∷ lines_from [] bs | false ↦ lines_from (line ++ (b ∷ [])) bs ])
+    go true e f = ap suc e
+    go false e f = f
 
-module _ (batch : List ℕ) (i : ℕ) (h : i < length batch) where
-  next : drop i batch ≡ get_or batch i 0 ∷ drop (i + 1) batch
-  next = rw add-one (drop-cons batch i 0 h)
-
-  pub ends : (line : List ℕ) → get_or batch i 0 ≡ 10 → lines_from line (drop i batch) ≡ line ∷ lines (drop (i + 1) batch)
-  unfolding lines_from lines
-  ends line e = rw (next, lines_from, eq-eqb (get_or batch i 0) 10 e)
-
-  pub goes_on : (line : List ℕ) → (get_or batch i 0 ≡ 10 → ⊥)
-      → lines_from line (drop i batch) ≡ lines_from (line ++ (get_or batch i 0 ∷ [])) (drop (i + 1) batch)
-  unfolding lines_from
-  goes_on line ne = rw (next, lines_from, ne_eqb (get_or batch i 0) 10 ne)
-
-  pub count-ends : get_or batch i 0 ≡ 10 → length (lines (drop i batch)) ≡ suc (length (lines (drop (i + 1) batch)))
-  unfolding lines
-  count-ends e = ap length (ends [] e)
-
-  pub count-goes-on : (get_or batch i 0 ≡ 10 → ⊥) → length (lines (drop i batch)) ≡ length (lines (drop (i + 1) batch))
-  unfolding lines
-  count-goes-on ne = ap length (goes_on [] ne) ∙ count-from (get_or batch i 0 ∷ []) (drop (i + 1) batch)
+pub lines-counted : (bytes : List ℕ) → length (filter is_end bytes) ≡ length (lines bytes)
+unfolding lines
+lines-counted bytes = counted-from [] bytes
 
 pub no-batch : (batch : List ℕ) → length batch ≡ 0 → batch_right batch ≡ true
 unfolding batch_right lines lines_from
 no-batch [] e = refl
 no-batch (b ∷ bs) e = absurd (omega arith)
 
-pub count_none : (batch : List ℕ) → length (lines (drop (length batch) batch)) ≡ 0
-unfolding lines lines_from
-count_none batch = rw (drop-length batch)
+-- Up to the first byte 10 goes the first line.
+first-line : (line bytes : List ℕ) (i : ℕ) → i < length bytes → get_or bytes i 0 ≡ 10 → ((k : ℕ) → k < i → get_or bytes k 0 ≡ 10 → ⊥)
+    → lines_from line bytes ≡ (line ++ take i bytes) ∷ lines (drop (suc i) bytes)
+unfolding lines_from lines
+first-line line [] i h e before = absurd (omega arith)
+first-line line (b ∷ bs) zero h e before = rw (lines_from, eq-eqb b 10 e, append-nil)
+first-line line (b ∷ bs) (suc i) h e before =
+    let more = first-line (line ++ (b ∷ [])) bs i (omega arith) e (λ k l. before (suc k) (omega arith)) in
+    rw (lines_from, ne_eqb b 10 (before 0 (omega arith))) (more ∙ rw (append_assoc))
 
--- A batch that ends in byte 10 goes on behind any other byte.
-pub not_last : (batch : List ℕ) (i : ℕ) → i < length batch → get_or batch (length batch - 1) 0 ≡ 10 → (get_or batch i 0 ≡ 10 → ⊥) → i + 1 < length batch
-not_last batch i h last ne =
-    let other : i ≡ length batch - 1 → ⊥ = λ e. ne (ap (λ (j : ℕ). get_or batch j 0) e ∙ last) in
-    omega arith
-
--- The line from `from` on, up to i.
-pub line-more : (batch : List ℕ) (from i : ℕ) → from ≤ i → i < length batch
-    → take (i + 1 - from) (drop from batch) ≡ take (i - from) (drop from batch) ++ (get_or batch i 0 ∷ [])
-line-more batch from i h l =
-    let e : i + 1 - from ≡ suc (i - from) = omega arith in
-    let f : from + (i - from) ≡ i = omega arith in
-    rw (e, take-suc (drop from batch) (i - from) 0 (omega (arith, length-drop from batch)), get_or-drop, f)
+pub line-at : (batch : List ℕ) (from i : ℕ) → i < length (drop from batch) → get_or (drop from batch) i 0 ≡ 10
+    → ((k : ℕ) → k < i → get_or (drop from batch) k 0 ≡ 10 → ⊥) → LineAt batch from (from + i)
+unfolding lines
+line-at batch from i h e before =
+    let at : from + i - from ≡ i = omega arith in
+    let next : from + suc i ≡ from + i + 1 = omega arith in
+    record {
+      after = omega arith;
+      inside = omega (arith, h, length-drop from batch);
+      is = rw at (first-line [] (drop from batch) i h e before ∙ rw (drop-drop, next));
+    }

@@ -1,21 +1,16 @@
 -- What the answers mean in the rules' terms.
-use Rattle.std.specs.Prelude.{ℕ, ◌+◌, ◌*◌, ◌-◌, ◌≤◌, ◌<◌, ◌≡◌, List, ◌∷◌, length, take, drop}
+use Rattle.std.specs.Prelude.{ℕ, ◌+◌, ◌*◌, ◌-◌, ◌≤◌, ◌<◌, ◌≡◌, List, ◌∷◌, length, take, drop, Result, Ok, Err}
 use Rattle.std.proofs.Math.Option.{none, some}
 use Rattle.rules.specs.Refusal.{Check}
 use Rattle.rules.specs.Job.{entry_count, entries_of, Confirmed, lines}
 use Rattle.rules.specs.Calls.{max_read, max_methods, max_output}
 use Rattle.refusal.specs.Refusal.{refusal_of}
-use Rattle.input.specs.declared.Input.{Input}
-use Rattle.input.specs.declared.Input.TheVariants.{Fine, Refused}
+use Rattle.refusal.specs.declared.Refusal.{Refusal}
 
--- The rules' check.
-abbrev pub check_of : Input → Check
-check_of Fine = none
-check_of (Refused r) = some (refusal_of r)
-
-abbrev pub IsRefused : Input → Type 0
-IsRefused Fine = ⊥
-IsRefused (Refused r) = Unit
+-- The rules' check: none where it lets pass.
+abbrev pub check_of : {A : Type 0} → Result A Refusal → Check
+check_of (Ok a) = none
+check_of (Err r) = some (refusal_of r)
 
 -- The line from `from` on ends before `end`; the other lines follow.
 pub record LineAt (batch : List ℕ) (from end : ℕ) : Type 0 where

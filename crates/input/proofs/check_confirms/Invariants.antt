@@ -12,4 +12,6 @@ right job i = ltb 0 (confirm_byte job i)
 
 -- What is left to check from i on decides.
 abbrev pub invariant-loop-i : goal.invariant-loop-i
-invariant-loop-i l = (l.n ≡ entry_count l.job) × (l.i ≤ l.n) × (first_failing (right l.job) 0 (entry_count l.job) ≡ first_failing (right l.job) l.i (l.n - l.i))
+invariant-loop-i l =
+    (l.i-end ≡ entry_count l.job) × (l.i ≤ l.i-end)
+    × (first_failing (right l.job) 0 (entry_count l.job) ≡ first_failing (right l.job) l.i (l.i-end - l.i))

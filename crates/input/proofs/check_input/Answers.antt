@@ -1,42 +1,26 @@
-use mathlib.Core.Path.{◌≡◌, sym, ap, ◌∙◌}
-use mathlib.Core.Bool.{Bool}
-use borrow.Author.Tests.{leb-true, not-true, not-false}
+use mathlib.Core.Path.{sym}
+use borrow.Author.Tests.{leb-true}
+use Rattle.std.proofs.lemmas.Result.{err_from_is_err_and}
 use Rattle.rules.specs.Refusal.{◌or_else◌, unless}
-use Rattle.rules.specs.Calls.{input_check}
-use Rattle.rules_laws.proofs.Opened.{unless-passed}
-use Rattle.input.proofs.Checks.{refuses, is-fine}
-use Rattle.input.proofs.check_input.Goals.{After-buffers_right}
+use Rattle.rules_laws.proofs.Opened.{passed, unless-passed}
+use Rattle.input.proofs.Checks.{input-by-start}
 use Rattle.input.proofs.check_input.Goals as goal
 
-pub returns-in_default : goal.returns-in_default
-unfolding input_check
-returns-in_default c = rw (← c.check_length-length_checked.ensures) (refuses _ c.in_default.is)
-
-pub returns-in_default-job_checked : goal.returns-in_default-job_checked
-unfolding input_check ◌or_else◌
-returns-in_default-job_checked c =
-    rw (is-fine c.check_length-length_checked.ensures c.in-Fine.is, ← c.check_job-job_checked.ensures) (refuses _ c.in_default-job_checked.is)
+pub returns-in_err-check_start : goal.returns-in_err-check_start
+unfolding ◌or_else◌
+returns-in_err-check_start c =
+    let p = err_from_is_err_and c.from_residual.result c.from_residual.ensures.1 in
+    rw (p.1, p.2, input-by-start, ← c.in_err-check_start.ensures)
 
 pub buffers_right-requires : goal.buffers_right-requires
-buffers_right-requires c =
-    leb-true _ _ (unless-passed _ 1 (is-fine c.check_length-length_checked.ensures c.in-Fine.is))
-
--- Checks 1 to 4 let pass.
-by-buffers : (c : After-buffers_right) →
-    let a = c.args in
-    input_check a.input a.job.now a.output a.work ≡ unless c.buffers_right.result 5
-unfolding input_check ◌or_else◌
-by-buffers c =
-    rw (
-      is-fine c.check_length-length_checked.ensures c.in-Fine.is,
-      is-fine c.check_job-job_checked.ensures c.in-Fine-job_checked.is,
-      ← c.buffers_right.ensures,
-    )
+buffers_right-requires c = leb-true _ _ (unless-passed _ 1 (passed _ _ (sym c.in_ok-check_start.ensures)).0)
 
 pub returns-then-not-buffers_right : goal.returns-then-not-buffers_right
-unfolding unless
-returns-then-not-buffers_right c = sym (by-buffers (goal.at.returns-then-not-buffers_right c).After-buffers_right ∙ ap (λ (t : Bool). unless t 5) (not-true c.buffers_right.result c.if-not-buffers_right.true-raw))
+unfolding ◌or_else◌ unless
+returns-then-not-buffers_right c =
+    rw (input-by-start, ← c.in_ok-check_start.ensures, ← c.buffers_right.ensures, c.if-not-buffers_right.true)
 
 pub returns : goal.returns
-unfolding unless
-returns c = sym (by-buffers (goal.at.returns c).After-buffers_right ∙ ap (λ (t : Bool). unless t 5) (not-false c.buffers_right.result c.if-not-buffers_right.false-raw))
+unfolding ◌or_else◌ unless
+returns c =
+    rw (input-by-start, ← c.in_ok-check_start.ensures, ← c.buffers_right.ensures, c.if-not-buffers_right.false)
