@@ -5,7 +5,7 @@ use Rattle.rules_laws.proofs.Kmer.{code-le}
 use Rattle.scan.proofs.add_base.Goals as goal
 
 pub add_nuc_to_end-requires : goal.add_nuc_to_end-requires
-add_nuc_to_end-requires c = (search rules, search rules, rw c.nuc2bit.ensures (code-le _))
+add_nuc_to_end-requires c = (search rules, rw c.nuc2bit.ensures (code-le _))
 
 pub returns : goal.returns
 returns c =

@@ -42,7 +42,7 @@ bounds-places-nuc c =
 pub add_nuc_to_end-requires : goal.add_nuc_to_end-requires
 add_nuc_to_end-requires c =
     let small = nuc-lt _ _ _ c.sole_nuc.result c.alt_nucs.ensures.0 c.sole_nuc.ensures _ c.in_ok-nuc.was in
-    (search rules, search rules, omega (arith, small))
+    (search rules, omega (arith, small))
 
 pub returns : goal.returns
 returns c =
