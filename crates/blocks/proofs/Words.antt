@@ -1,9 +1,9 @@
 -- Laws of words and check words.
-use Rattle.std.proofs.Common.{◌≡◌, ℕ, zero, suc, ◌+◌, ◌-◌, ◌*◌, ◌/◌, ◌%◌, ◌^◌, ◌<◌, ◌≤◌, List, get_or, drop, refl, ap, ◌∙◌, add-zero, add_assoc, add-one, arith, get_or-drop, drop-drop}
+use Rattle.std.proofs.Common.{◌≡◌, ℕ, zero, suc, ◌+◌, ◌-◌, ◌*◌, ◌/◌, ◌%◌, ◌^◌, ◌<◌, ◌≤◌, List, [], ◌∷◌, get_or, drop, refl, ap, ◌∙◌, add-zero, add_assoc, add-one, arith, get_or-drop, drop-drop}
 use native.Mathlib.Nat.{mod-add-mod}
 use native.Mathlib.Numerals.{towards_suc}
 use Rattle.rules.specs.Set.{little, block_word, key_word, sum_words, check}
-use Rattle.blocks.specs.Flat.{flat}
+use Rattle.std.specs.Int.{from_le_bytes, w64}
 
 -- a little-endian number of m bytes from i on
 little_at : ℕ → List ℕ → ℕ → ℕ
@@ -15,9 +15,11 @@ unfolding little little_at
 little-at zero s i = refl
 little-at (suc m) s i = rw (get_or-drop, add-zero, drop-drop, add-one, little-at m s (suc i))
 
-pub flat-little : (s : List ℕ) (i : ℕ) → flat s i ≡ little 8 (drop i s)
+-- eight bytes, as a little-endian word
+pub word-little : (s : List ℕ) (i : ℕ)
+    → from_le_bytes w64 (get_or s i 0 ∷ get_or s (i + 1) 0 ∷ get_or s (i + 2) 0 ∷ get_or s (i + 3) 0 ∷ get_or s (i + 4) 0 ∷ get_or s (i + 5) 0 ∷ get_or s (i + 6) 0 ∷ get_or s (i + 7) 0 ∷ []) ≡ little 8 (drop i s)
 unfolding little_at
-flat-little s i = rw (little-at 8 s i) (simp towards_suc (omega arith))
+word-little s i = rw (little-at 8 s i) (simp towards_suc (omega arith))
 
 pub block-place : (s : List ℕ) (b i : ℕ) → little 8 (drop (512 * b + 8 * i) s) ≡ block_word s b i
 unfolding block_word

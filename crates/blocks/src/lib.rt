@@ -3,28 +3,22 @@
 
 ghost use Rattle.std.specs.Prelude.{◌≡◌, ◌+◌, ◌-◌, ◌*◌, ◌<◌, ◌≤◌, length, drop};
 ghost use Rattle.rules.specs.Set as Rules;
-ghost use Rattle.blocks.specs.Flat.{flat};
 
-// Written flat, this compiles to one load.
-fn flat_word(set: &[u8], at: usize) -> u64
-    requires { at + 8 ≤ length set.now }
-    ensures { result ≡ flat set.now at }
-{
-    number::wide(set[at])
-        + number::wide(set[at + 1]) * 256
-        + number::wide(set[at + 2]) * 65536
-        + number::wide(set[at + 3]) * 16777216
-        + number::wide(set[at + 4]) * 4294967296
-        + number::wide(set[at + 5]) * 1099511627776
-        + number::wide(set[at + 6]) * 281474976710656
-        + number::wide(set[at + 7]) * 72057594037927936
-}
-
+// Byte by byte, for this compiles to one load; a slice turned into an array would be asked its length again.
 pub fn word_at(set: &[u8], at: usize) -> u64
     requires { at + 8 ≤ length set.now }
     ensures { result ≡ Rules.little 8 (drop at set.now) }
 {
-    flat_word(set, at)
+    u64::from_le_bytes([
+        set[at],
+        set[at + 1],
+        set[at + 2],
+        set[at + 3],
+        set[at + 4],
+        set[at + 5],
+        set[at + 6],
+        set[at + 7],
+    ])
 }
 
 pub fn block_word(set: &[u8], block: usize, i: usize) -> u64
@@ -40,9 +34,9 @@ pub fn check_word(set: &[u8], block: usize) -> u64
 {
     let mut sum: u64 = 0;
     for i in 0..63usize {
-        sum = std::num::wrapping_add_u64(sum, block_word(set, block, i));
+        sum = sum.wrapping_add(block_word(set, block, i));
     }
-    std::num::wrapping_add_u64(std::num::wrapping_add_u64(sum, block as u64), 1)
+    sum.wrapping_add(block as u64).wrapping_add(1)
 }
 
 pub fn key_at(set: &[u8], i: usize) -> u64

@@ -10,10 +10,10 @@ loop-i-init c = (search rules, refl)
 pub loop-i-preserved : goal.loop-i-preserved
 loop-i-preserved c =
     let l = c.loop-i in
-    (search rules, rw (c.wrapping_add_u64-sum.ensures.value, c.block_word.ensures) (sum_more _ _ l.i l.sum l.invariant.1))
+    (search rules, rw c.block_word-sum.ensures (sum_more _ _ l.i l.sum l.invariant.1))
 
 pub returns : goal.returns
 returns c =
     let l = c.loop-i in
     let e : l.i ≡ 63 = search rules in
-    rw (c.wrapping_add_u64-2.ensures.value, c.wrapping_add_u64.ensures.value) (sum-end _ _ l.sum (rw e at l.invariant.1))
+    sum-end _ _ l.sum (rw e at l.invariant.1)
