@@ -9,11 +9,10 @@ use mathlib.Core.List.{List, ◌∷◌}
 use lib.ListN.{length, get_or, drop, drop_of_length-le}
 use lib.Seq.{drop-cons}
 use lib.Dec.{ltb}
+use Rattle.std.specs.Prelude.{Result}
 use Rattle.rules.specs.Letters.{Kmer, add_base}
 use Rattle.edit_walk.specs.declared.Walk.{Walk}
-use Rattle.edit_walk.specs.declared.Step.{Step}
-use Rattle.edit_walk.specs.declared.Step.TheVariants as Steps
-use Rattle.edit_walk.specs.Walk.{Stand, Walked, on, offends, next, stepped, and_then, yes, pass_over, at_edit, over_edit, left_of, stand_of, Sound, StepIs, IsOffending}
+use Rattle.edit_walk.specs.Walk.{Stand, Walked, on, offends, next, stepped, and_then, yes, pass_over, at_edit, over_edit, left_of, StepIs}
 
 -- ---- the next base
 
@@ -29,9 +28,10 @@ module _ (mended : List ℕ) (at b : ℕ) where
   there : {same : Bool} → same ≡ true → at < length mended → next b (left_of mended at same) ≡ next b (some (get_or mended at 0 ∷ drop (suc at) mended))
   there e h = ap (λ (t : Bool). next b (left_of mended at t)) e ∙ ap (λ (l : List ℕ). next b (some l)) (drop-cons mended at 0 h)
 
-  pub left-on : {same : Bool} → same ≡ true → at < length mended → get_or mended at 0 ≡ b → some (drop (at + 1) mended) ≡ next b (left_of mended at same)
+  pub left-on : {same : Bool} → same ≡ true → at < length mended → get_or mended at 0 ≡ b → left_of mended (at + 1) same ≡ next b (left_of mended at same)
   left-on e h f =
-      ap (λ (n : ℕ). some (drop n mended)) (add-one at) ∙ sym (there e h ∙ next-same b (get_or mended at 0) (drop (suc at) mended) (sym f))
+      ap (left_of mended (at + 1)) e ∙ ap (λ (n : ℕ). some (drop n mended)) (add-one at)
+      ∙ sym (there e h ∙ next-same b (get_or mended at 0) (drop (suc at) mended) (sym f))
 
   pub left_other : {same : Bool} → same ≡ true → at < length mended → (get_or mended at 0 ≡ b → ⊥) → none ≡ next b (left_of mended at same)
   left_other e h f = sym (there e h ∙ next-other b (get_or mended at 0) (drop (suc at) mended) (λ g. f (sym g)))
@@ -116,19 +116,7 @@ module _ (k : ℕ) (sol : ℕ → Bool) (n i : ℕ) (bases letters : List ℕ) (
     unfolding over_edit and_then at_edit
     edit-on m g f = rw (e, f, at_edit, g)
 
--- ---- steps
+-- ---- answers
 
-pub is-offending : {r : Step} {i : ℕ} → r ≡ Steps.Offends i → IsOffending r
-is-offending e = rw e tt
-
-pub went_on : (k : ℕ) (mended : List ℕ) {a : Walked} (r : Step) (w : Walk) → r ≡ Steps.On w → StepIs k mended a r
-    → (a ≡ on (stand_of mended w)) × Sound k mended w
-went_on k mended {a} r w e h = subst (StepIs k mended a) e h
-
-module _ (k : ℕ) (sol : ℕ → Bool) (n i : ℕ) (bases letters : List ℕ) (w : Stand) (mended : List ℕ) where
-  pub stopped-edit : (r : Step) → IsOffending r → StepIs k mended (pass_over k sol n n bases w) r → StepIs k mended (over_edit k sol n i bases letters w) r
-  stopped-edit (Steps.On v) o h = absurd o
-  stopped-edit (Steps.Offends j) o h = edit-stopped k sol n i bases letters w h
-
-pub same_step : (k : ℕ) (mended : List ℕ) {a b : Walked} (r : Step) → a ≡ b → StepIs k mended b r → StepIs k mended a r
+pub same_step : (k : ℕ) (mended : List ℕ) {a b : Walked} (r : Result Walk ℕ) → a ≡ b → StepIs k mended b r → StepIs k mended a r
 same_step k mended r e h = subst (λ (x : Walked). StepIs k mended x r) (sym e) h

@@ -1,6 +1,6 @@
 -- One walk over the pieces of the read with all edits made, by lists.
 use Prim.Native.Nat.{ℕ, zero, suc, ◌≤◌, min}
-use Rattle.std.specs.Prelude.{◌≡◌, Bool, cond, ◌&&◌, length, drop, eqb, ltb}
+use Rattle.std.specs.Prelude.{◌≡◌, Bool, cond, ◌&&◌, length, drop, eqb, ltb, Result, Ok, Err}
 use Rattle.std.proofs.Math.Bool.{true, false, not}
 use Rattle.std.proofs.Math.Option.{Option, none, some}
 use mathlib.Core.List.{List, [], ◌∷◌}
@@ -9,8 +9,6 @@ use Rattle.rules.specs.Scan.{ask}
 use Rattle.rules_edits.specs.Edits.{Sheet, count, kept, letters_of, rest}
 use Rattle.kmer.specs.Kmer.{kmer_of, IsKmer}
 use Rattle.edit_walk.specs.declared.Walk.{Walk}
-use Rattle.edit_walk.specs.declared.Step.{Step}
-use Rattle.edit_walk.specs.declared.Step.TheVariants as Steps
 
 -- Where a walk stands.
 pub record Stand : Type 0 where
@@ -99,10 +97,7 @@ pub record Sound (k : ℕ) (mended : List ℕ) (w : Walk) : Type 0 where
   pub kmer : IsKmer k w.kmer
   pub within : w.at ≤ length mended
 
-abbrev pub StepIs : ℕ → List ℕ → Walked → Step → Type 0
-StepIs k mended s (Steps.On w) = (s ≡ on (stand_of mended w)) × Sound k mended w
-StepIs k mended s (Steps.Offends i) = s ≡ offends i
-
-abbrev pub IsOffending : Step → Type 0
-IsOffending (Steps.On w) = ⊥
-IsOffending (Steps.Offends i) = Unit
+-- Where the walk stands, or the edit that offends.
+abbrev pub StepIs : ℕ → List ℕ → Walked → Result Walk ℕ → Type 0
+StepIs k mended s (Ok w) = (s ≡ on (stand_of mended w)) × Sound k mended w
+StepIs k mended s (Err i) = s ≡ offends i
