@@ -26,9 +26,7 @@ use Rattle.kmer.specs.declared.Kmer.{Kmer as KmerOf}
 use Rattle.kmer.specs.Kmer.{kmer_of, IsKmer, HasLetters}
 use Rattle.set.specs.Counted.{set_with}
 use Rattle.set.proofs.Counted.{with-count}
-use Rattle.scan.specs.declared.Scan.{Scan}
-use Rattle.successors.specs.declared.Sole.{Sole}
-use Rattle.successors.specs.declared.Sole.TheVariants.{Nuc}
+use Rattle.std.specs.Prelude.{Option as Maybe, Some}
 use Rattle.successors.specs.Successors.{nuc_of, places_of}
 use Rattle.scan.specs.Attempt.{MendIs}
 use Rattle.scan.proofs.Laws.{add_all-snoc}
@@ -75,8 +73,8 @@ unfolding weakest weaker
 weakest-snoc count ys z w e = weakest-append count ys (z ∷ []) ∙ ap (λ (o : Option ℕ). weaker o (some (count z))) e
 
 -- The move from y by the code's choice r among the answers f, to y': the count at its letter's place is that of y'.
-pub move-count : (bytes counts : List ℕ) (k : ℕ) (y : Kmer) {f : List Bool} (r : Sole) → f ≡ successors k (solid (set_of bytes)) y
-    → nuc_of r ≡ only (yes_from 0 f) → (a : ℕ) (y' : KmerOf) {ps : List ℕ} {c : ℕ} → r ≡ Nuc a → HasLetters k (add k y a) y'
+pub move-count : (bytes counts : List ℕ) (k : ℕ) (y : Kmer) {f : List Bool} (r : Maybe ℕ) → f ≡ successors k (solid (set_of bytes)) y
+    → nuc_of r ≡ only (yes_from 0 f) → (a : ℕ) (y' : KmerOf) {ps : List ℕ} {c : ℕ} → r ≡ Some a → HasLetters k (add k y a) y'
     → ps ≡ places_of (set_of bytes) k y → c ≡ get_or counts (get_or ps a 0) 0 → c ≡ count_of (set_with bytes counts) (kmer_of y')
 move-count bytes counts k y r found choice-is a y' {ps} {c} e h ps-is c-is =
     let sol : ℕ → Bool = solid (set_of bytes) in

@@ -8,15 +8,14 @@ ghost use Rattle.rules.specs.Letters.{last_letter, in_place};
 ghost use Rattle.rules.specs.Set.{solid, set_of, count_of};
 ghost use Rattle.rules.specs.Counted.{after};
 ghost use Rattle.kmer.specs.Kmer.{kmer_of, IsKmer};
-ghost use Rattle.set.specs.Ready.{Ready};
 ghost use Rattle.set.specs.Counted.{set_with};
 ghost use Rattle.scan.specs.Scan.{scan_of};
 ghost use Rattle.scan.specs.Attempt.{Attempted};
 ghost use Rattle.walk.specs.Walk.{walk_mend};
 
-use kmer::{Header, Kmer};
+use kmer::Kmer;
 use scan::{Attempt, Scan};
-use successors::Sole;
+use set::KmerSet;
 
 // The last letter of a k-mer, written where there is room.
 pub fn write_last(out: &mut [u8], at: usize, kmer: Kmer)
@@ -29,21 +28,12 @@ pub fn write_last(out: &mut [u8], at: usize, kmer: Kmer)
 
 // The walk from x, which has that count and stands in the place of the bad k-mer, to the last k-mer of the scan, after all lookups up to x.
 // Letters beyond the room are only counted.
-pub fn walk(
-    set: &[u8],
-    starts: &[u32],
-    head: Header,
-    counts: &[u32],
-    scan: Scan,
-    x: Kmer,
-    count: u32,
-    out: &mut [u8],
-) -> Attempt
-    requires { Ready set.now starts.now head × IsKmer head.k x × (x.unknown ≡ 0) × (scan.index < 2 ^ 63) × (scan.lookups < 2 ^ 63)
-        × (count ≡ count_of (set_with set.now counts.now) (kmer_of x)) }
-    ensures { (y : letters.Kmer) → in_place head.k y (last_letter (kmer_of x) ∷ []) ≡ kmer_of x →
-        Attempted head.k y (count_of (set_with set.now counts.now)) scan.index out.old out.new
-        (after (scan.lookups + 4) (walk_mend head.k head.n (solid (set_of set.now)) (scan_of scan) (kmer_of x)))
+pub fn walk(set: &KmerSet, scan: Scan, x: Kmer, count: u32, out: &mut [u8]) -> Attempt
+    requires { IsKmer set.now.head.k x × (x.unknown ≡ 0) × (scan.index < 2 ^ 63) × (scan.lookups < 2 ^ 63)
+        × (count ≡ count_of (set_with set.now.bytes.now set.now.counts.now) (kmer_of x)) }
+    ensures { (y : letters.Kmer) → in_place set.now.head.k y (last_letter (kmer_of x) ∷ []) ≡ kmer_of x →
+        Attempted set.now.head.k y (count_of (set_with set.now.bytes.now set.now.counts.now)) scan.index out.old out.new
+        (after (scan.lookups + 4) (walk_mend set.now.head.k set.now.head.n (solid (set_of set.now.bytes.now)) (scan_of scan) (kmer_of x)))
         result }
 {
     let end = scan.end;
@@ -59,20 +49,15 @@ pub fn walk(
     let mut mark = x;
     let mut marks_at = 1;
     // It never runs out (the rules' theorem walk-moves).
-    let fuel = 6 * head.n;
+    let fuel = 6 * set.head.n;
     for moves in 0..fuel {
         lookups += 4;
-        let Sole::Nuc(nuc) = successors::sole_nuc(successors::next_nucs(
-            set,
-            starts,
-            head,
-            at,
-            &mut places,
-        )) else {
+        let nucs = successors::next_nucs(set, at, &mut places);
+        let Some(nuc) = successors::sole_nuc(nucs) else {
             return Attempt::Refused(lookups);
         };
-        let next = kmer::add_nuc_to_end(at, nuc, head);
-        weakest = support::lower(weakest, support::count_at(counts, places[nuc as usize]));
+        let next = kmer::add_nuc_to_end(at, nuc, set.head);
+        weakest = weakest.min(support::count_at(set.counts, places[nuc as usize]));
         write_last(out, moves + 1, next);
         if kmer::same(next, end) {
             let letters = moves + 2;

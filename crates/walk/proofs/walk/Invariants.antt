@@ -1,4 +1,4 @@
-use Prim.Native.Nat.{◌+◌, ◌-◌, ◌*◌, ◌≤◌}
+use Prim.Native.Nat.{◌+◌, ◌*◌, ◌≤◌}
 use mathlib.Core.Path.{◌≡◌}
 use lib.ListN.{length}
 use Rattle.rules.specs.Set.{solid, set_of, count_of}
@@ -15,6 +15,6 @@ invariant-loop-moves l =
     × (l.marks_at ≤ 2 * l.moves + 1)
     × (l.lookups ≡ l.initial.lookups + 4 * l.moves)
     × (length l.out ≡ length l.initial.out)
-    × IsKmer l.head.k l.at
+    × IsKmer l.set.head.k l.at
     × Known (kmer_of l.at)
-    × Going l.head.k l.head.n (solid (set_of l.set)) (count_of (set_with l.set l.counts)) (kmer_of l.end) (kmer_of l.initial.at) (kmer_of l.at) (kmer_of l.mark) l.moves l.marks_at l.weakest l.out
+    × Going l.set.head.k l.set.head.n (solid (set_of l.set.bytes.now)) (count_of (set_with l.set.bytes.now l.set.counts.now)) (kmer_of l.end) (kmer_of l.initial.at) (kmer_of l.at) (kmer_of l.mark) l.moves l.marks_at l.weakest l.out
