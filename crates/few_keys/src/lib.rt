@@ -53,8 +53,8 @@ fn in_four(part: &[u8], skip: usize, key: u64, from: usize, end: usize) -> Optio
     ensures { Answers skip part.now key from end result }
 {
     let last = end - 1;
-    let second = number::lesser(from + 1, last);
-    let third = number::lesser(from + 2, last);
+    let second = (from + 1).min(last);
+    let third = (from + 2).min(last);
     let is_first = key == key_at(part, skip, from);
     let is_second = key == key_at(part, skip, second);
     let is_third = key == key_at(part, skip, third);
@@ -99,7 +99,7 @@ pub fn in_eight(part: &[u8], skip: usize, key: u64, from: usize, end: usize) -> 
     }
     let middle = from + (end - from) / 2;
     let start = number::pick(key_at(part, skip, middle) <= key, middle, from);
-    in_four(part, skip, key, start, number::lesser(start + 4, end))
+    in_four(part, skip, key, start, (start + 4).min(end))
 }
 
 // A plain bisection, for the keys at the ends of the part, where no three whole lines are.

@@ -24,7 +24,7 @@ fn on(low: usize, high: usize, step: usize) -> usize
     if high <= low {
         return low;
     }
-    low + number::lesser(step, (high - low) / 2)
+    low + step.min((high - low) / 2)
 }
 
 fn back(low: usize, high: usize, step: usize) -> usize
@@ -33,7 +33,7 @@ fn back(low: usize, high: usize, step: usize) -> usize
     if high <= low {
         return low;
     }
-    high - 1 - number::lesser(step, (high - low) / 2)
+    high - 1 - step.min((high - low) / 2)
 }
 
 // Whether one of three lines is not wholly within the keys from `first` on and before `last`.
@@ -75,7 +75,7 @@ fn search(
             let found = cache_line::window_line(part, skip, key, first, last, line);
             return cache_line::in_line(part, skip, key, first, last, found);
         }
-        step = number::lesser(2 * step, 16777216);
+        step = (2 * step).min(16777216);
         if key < cache_line::line_key(part, skip, line, 0) {
             high = cache_line::first_key(line);
             i = back(low, high, step);
@@ -108,8 +108,7 @@ fn inside(i: usize, first: usize, last: usize) -> usize
     requires { (first + 31 ≤ last) × (last ≤ max_keys) }
     ensures { (first + 15 ≤ result) × (result + 16 ≤ last) }
 {
-    let least = first + 15;
-    number::lesser(number::pick(i < least, least, i), last - 16)
+    i.max(first + 15).min(last - 16)
 }
 
 // The first of the three lines about the guess, or of the nearest three within the range. No branch goes by that: at the ends of a short range
@@ -140,7 +139,7 @@ pub fn first_line(key: u64, shift: u32, first: usize, last: usize, from: usize, 
 
 // Reads what a search reads of three lines, if they are there, so that they are near when it comes.
 pub fn touch(set: &[u8], line: u32) -> u64 {
-    let at = 512 + 64 * number::index(line);
+    let at = 512 + 64 * line as usize;
     if set.len() < at + 192 {
         return 0;
     }

@@ -25,7 +25,7 @@ fn start(starts: &[u32], prefix: usize) -> usize
     requires { prefix < length starts.now }
     ensures { result ≡ get_or starts.now prefix 0 }
 {
-    number::index(starts[prefix])
+    starts[prefix] as usize
 }
 
 // A key's prefix: what stands above its lowest bits.

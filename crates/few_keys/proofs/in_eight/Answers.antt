@@ -27,11 +27,11 @@ overflow_add-start c = omega (arith, (half c).1, c.requires.0.few)
 
 pub in_four-requires : goal.in_four-requires
 in_four-requires c = (
-  rw c.lesser.ensures (fewer c.requires.0 _ _ (half (goal.at.in_four-requires c).After-pick-start).0 (half (goal.at.in_four-requires c).After-pick-start).2.within.1),
-  omega (arith, c.lesser.ensures, (half (goal.at.in_four-requires c).After-pick-start).1),
-  omega (arith, c.lesser.ensures),
+  rw c.min.ensures (fewer c.requires.0 _ _ (half (goal.at.in_four-requires c).After-pick-start).0 (half (goal.at.in_four-requires c).After-pick-start).2.within.1),
+  omega (arith, c.min.ensures, (half (goal.at.in_four-requires c).After-pick-start).1),
+  omega (arith, c.min.ensures),
 )
 
 pub returns : goal.returns
 returns c =
-    answers-all (half (goal.at.returns c).After-pick-start).2 c.in_four.result (rw c.lesser.ensures at c.in_four.ensures)
+    answers-all (half (goal.at.returns c).After-pick-start).2 c.in_four.result (rw c.min.ensures at c.in_four.ensures)

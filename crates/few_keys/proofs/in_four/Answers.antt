@@ -73,13 +73,13 @@ pub returns-then-is_first-is_second : goal.returns-then-is_first-is_second
 returns-then-is_first-is_second c =
     let a = c.args in
     rw (c.pick-then-is_first-is_second-2.ensures, c.pick-then-is_first-is_second.ensures, c.pick.ensures, c.key_at.ensures, c.key_at-2.ensures, c.key_at-3.ensures)
-    (few-at a.skip a.part.now a.key a.from a.end c.lesser-second.result c.lesser-third.result (a.end - 1)
-    c.requires.1 c.requires.2 c.lesser-second.ensures c.lesser-third.ensures refl
+    (few-at a.skip a.part.now a.key a.from a.end c.min-second.result c.min-third.result (a.end - 1)
+    c.requires.1 c.requires.2 c.min-second.ensures c.min-third.ensures refl
     (rw (c.key_at.ensures, c.key_at-2.ensures, c.key_at-3.ensures, c.key_at-4.ensures) at c.if-is_first-is_second.true))
 
 pub returns : goal.returns
 returns c =
     let a = c.args in
-    few-none a.skip a.part.now a.key a.from a.end c.lesser-second.result c.lesser-third.result (a.end - 1)
-    c.requires.1 c.requires.2 c.lesser-second.ensures c.lesser-third.ensures refl
+    few-none a.skip a.part.now a.key a.from a.end c.min-second.result c.min-third.result (a.end - 1)
+    c.requires.1 c.requires.2 c.min-second.ensures c.min-third.ensures refl
     (rw (c.key_at.ensures, c.key_at-2.ensures, c.key_at-3.ensures, c.key_at-4.ensures) at c.if-is_first-is_second.false)

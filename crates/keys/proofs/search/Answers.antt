@@ -56,7 +56,7 @@ loop-low-preserved-then-key-line_key c =
         above = rw c.first_key-high.ensures (higher-from p _ _ (full (goal.at.loop-low-preserved-then-key-line_key c).Else-beyond).0 (rw (c.line_key.ensures, add-zero) at c.if-key-line_key.true));
       },
       c.back-i.ensures,
-      omega (arith, c.lesser-step.ensures),
+      omega (arith, c.min-step.ensures),
     )
 
 pub loop-low-smaller : goal.loop-low-smaller
@@ -73,7 +73,7 @@ loop-low-preserved c =
         above = c.loop-low.invariant.0.above;
       },
       c.on-i.ensures,
-      omega (arith, c.lesser-step.ensures),
+      omega (arith, c.min-step.ensures),
     )
 
 pub returns : goal.returns
