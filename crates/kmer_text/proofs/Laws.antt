@@ -1,37 +1,29 @@
 -- Laws of a text's bytes and lines.
 use Prim.Native.Nat.{ℕ, zero, suc, ◌+◌, ◌*◌, ◌-◌, ◌^◌, ◌≤◌, ◌<◌}
 use native.Mathlib.Omega.{arith}
-use native.Mathlib.Nat.{pow-suc, pow-le-pow_right, eq-or-lt_of_le}
+use native.Mathlib.Nat.{pow-suc, pow-le-pow_right}
 use native.Mathlib.Numerals.{add-one}
 use borrow.Author.Tests.{eq-eqb, ne_eqb, leb-true, le-leb, lt-leb}
 use mathlib.Core.Path.{◌≡◌, refl, sym, ap, ◌∙◌}
 use mathlib.Core.Bool.{Bool, true, false, ◌&&◌}
-use mathlib.Core.Logic.{◌⊎◌, inl, inr}
+use mathlib.Core.Logic.{inl, inr}
 use mathlib.Core.List.{List, [], ◌∷◌}
 use types.Run.{OneOf}
-use lib.Dec.{leb, lit≤}
+use lib.Dec.{eqb, leb, lit≤}
 use lib.ListN.{length, get_or, take, drop, length-take, length-drop, drop_of_length-le}
-use lib.Seq.{slice, drop-cons, get_or-drop, drop-drop, take_all, take-nil}
+use lib.Seq.{slice, drop-cons, drop-drop, take_all, take-nil}
+use Rattle.std.specs.List.{list_all}
 use Rattle.rules_laws.proofs.Opened.{both}
 use Rattle.rules_make.specs.MakeSet.{in_front, text_lines, is_letter, is_digit, all, digits, number, form_right}
 use Rattle.kmer_text.specs.Text.{TextLine}
 
 -- ---- all bytes
 
-module _ (ok : ℕ → Bool) (s : List ℕ) (i : ℕ) where
-  step : i < length s → all ok (drop i s) ≡ (ok (get_or s i 0) && all ok (drop (i + 1) s))
-  unfolding all
-  step h = rw (drop-cons s i 0 h, add-one)
-
-  pub all_more : i < length s → ok (get_or s i 0) ≡ true → all ok (drop i s) ≡ all ok (drop (i + 1) s)
-  all_more h e = step h ∙ rw e
-
-  pub all-fails : i < length s → ok (get_or s i 0) ≡ false → all ok (drop i s) ≡ false
-  all-fails h e = step h ∙ rw e
-
-  pub all_end : length s ≤ i → all ok (drop i s) ≡ true
-  unfolding all
-  all_end h = rw (drop_of_length-le s {i = i} h)
+-- As the standard library says it.
+pub all-list : (ok : ℕ → Bool) (s : List ℕ) → list_all ok s ≡ all ok s
+unfolding all
+all-list ok [] = refl
+all-list ok (b ∷ bs) = ap (λ (t : Bool). ok b && t) (all-list ok bs)
 
 pub all-at : (ok : ℕ → Bool) (s : List ℕ) → all ok s ≡ true → (i : ℕ) → i < length s → ok (get_or s i 0) ≡ true
 unfolding all
@@ -96,45 +88,31 @@ unfolding text_lines in_front
 line-open b [] f = rw (ne_eqb b 10 (f 0 (omega arith)), text_lines)
 line-open b (b' ∷ s) f = rw (ne_eqb b 10 (f 0 (omega arith)), text_lines, line-open b' s (λ j l. f (suc j) (omega arith)))
 
-module _ (text : List ℕ) (from end : ℕ) (l : from ≤ end) (none_before : (j : ℕ) → from ≤ j → j < end → get_or text j 0 ≡ 10 → ⊥) where
-  pub ended-line : end < length text → get_or text end 0 ≡ 10 → TextLine text from (end + 1)
-  ended-line h e = record {
+module _ (text : List ℕ) (from : ℕ) where
+  pub ended-line : (i : ℕ) → i < length (drop from text) → get_or (drop from text) i 0 ≡ 10 → ((j : ℕ) → j < i → get_or (drop from text) j 0 ≡ 10 → ⊥)
+      → TextLine text from (from + i + 1)
+  ended-line i h e none_before = record {
     after = omega arith;
+    within = omega (arith, length-drop from text);
+    is =
+        let count : from + i + 1 - from ≡ suc i = omega arith in
+        let next : from + i + 1 ≡ from + suc i = omega arith in
+        rw (count, next, ← (drop-drop (suc i) from text)) (line-ended (drop from text) i h none_before e);
+  }
+
+  pub open-line : from < length text → ((j : ℕ) → j < length (drop from text) → get_or (drop from text) j 0 ≡ 10 → ⊥) → TextLine text from (length text)
+  unfolding text_lines
+  open-line h none_there = record {
+    after = h;
     within = omega arith;
     is =
-        let size = length-drop from text in
-        let count : end + 1 - from ≡ suc (end - from) = omega arith in
-        let next : from + suc (end - from) ≡ end + 1 = omega arith in
-        let at : from + (end - from) ≡ end = omega arith in
-        rw (count, ← next, ← (drop-drop (suc (end - from)) from text))
-        (line-ended (drop from text) (end - from) (omega arith)
-        (λ j h' q. none_before (from + j) (omega arith) (omega arith) (sym (get_or-drop from text j 0) ∙ q))
-        (get_or-drop from text (end - from) 0 ∙ ap (λ (i : ℕ). get_or text i 0) at ∙ e));
-  }
-
-  pub open-line : from < length text → end ≡ length text → TextLine text from end
-  unfolding text_lines
-  open-line h e = record {
-    after = omega arith;
-    within = omega arith;
-    is = rw (take_all (end - from) (drop from text) (omega (arith, length-drop from text)), drop_of_length-le text {i = end} (omega arith)) (go (drop from text) refl);
+        rw (take_all (length text - from) (drop from text) (omega (arith, length-drop from text)), drop_of_length-le text {i = length text} (omega arith))
+        (go (drop from text) (omega (arith, length-drop from text)) none_there);
   }
     where
-      go : (s : List ℕ) → drop from text ≡ s → text_lines s ≡ s ∷ text_lines []
-      go [] q = absurd (let z : length (drop from text) ≡ 0 = ap length q in omega (arith, length-drop from text))
-      go (b ∷ s) q =
-          line-open b s (λ j l' p. none_before (from + j) (omega arith)
-          (let z : length (drop from text) ≡ suc (length s) = ap length q in omega (arith, length-drop from text))
-          (sym (get_or-drop from text j 0) ∙ ap (λ (a : List ℕ). get_or a j 0) q ∙ p))
-
--- One byte more that is no line's end.
-pub still_open : (text : List ℕ) (from end : ℕ) → ((j : ℕ) → from ≤ j → j < end → get_or text j 0 ≡ 10 → ⊥) → (get_or text end 0 ≡ 10 → ⊥)
-    → (j : ℕ) → from ≤ j → j < end + 1 → get_or text j 0 ≡ 10 → ⊥
-still_open text from end f here j l h e = go (eq-or-lt_of_le {n = j} {m = end} (omega arith))
-  where
-    go : (j ≡ end) ⊎ (j < end) → ⊥
-    go (inl q) = here (rw q at e)
-    go (inr g) = f j l g e
+      go : (s : List ℕ) → 0 < length s → ((j : ℕ) → j < length s → get_or s j 0 ≡ 10 → ⊥) → text_lines s ≡ s ∷ text_lines []
+      go [] l f = absurd (omega arith)
+      go (b ∷ s) l f = line-open b s f
 
 -- ---- a line's form
 
@@ -158,6 +136,19 @@ module _ (k : ℕ) (line : List ℕ) where
 
   pub few-digits : length line ≤ k + 12 → leb (length (digits k line)) 10 ≡ true
   few-digits h = le-leb (length (digits k line)) 10 (omega (arith, digits-length k line))
+
+  pub form-short : length line < k + 3 → form_right k line ≡ false
+  unfolding form_right
+  form-short h = rw (no_digit h)
+
+  pub form-long : k + 12 < length line → form_right k line ≡ false
+  unfolding form_right
+  form-long h = rw (a-digit (omega arith), many-digits h)
+
+  pub form-sized : k + 3 ≤ length line → length line ≤ k + 12
+      → form_right k line ≡ (all is_letter (take k line) && eqb (get_or line k 0) 44 && all is_digit (digits k line) && eqb (get_or line (length line - 1) 0) 10)
+  unfolding form_right
+  form-sized h l = rw (a-digit h, few-digits l)
 
   sized-low : 1 ≤ length (digits k line) → k + 3 ≤ length line
   sized-low h = omega (arith, digits-length k line)

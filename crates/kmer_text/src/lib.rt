@@ -5,7 +5,6 @@
 ghost use Rattle.std.specs.Prelude.{◌≡◌, true, ◌≤◌, ◌<◌, min, length};
 ghost use Rattle.rules.specs.Set.{max_k};
 ghost use Rattle.rules_make.specs.MakeSet as Rules;
-ghost use Rattle.kmer.specs.Kmer.{Shifts};
 ghost use Rattle.kmer_text.specs.Text.{TextLine};
 
 use kmer::Header;
@@ -15,47 +14,34 @@ const MAX_COUNT: u64 = 4294967295;
 fn is_letter(b: u8) -> bool
     ensures { result ≡ Rules.is_letter b }
 {
-    match b {
-        b'A' | b'C' | b'G' | b'T' => true,
-        _ => false,
-    }
+    matches!(b, b'A' | b'C' | b'G' | b'T')
 }
 
 fn is_digit(b: u8) -> bool
     ensures { result ≡ Rules.is_digit b }
 {
-    b'0' <= b && b <= b'9'
+    b.is_ascii_digit()
 }
 
 fn all_letters(part: &[u8]) -> bool
     ensures { result ≡ Rules.all Rules.is_letter part.now }
 {
-    for i in 0..part.len() {
-        if !is_letter(part[i]) {
-            return false;
-        }
-    }
-    true
+    part.iter().all(|b| is_letter(*b))
 }
 
 fn all_digits(part: &[u8]) -> bool
     ensures { result ≡ Rules.all Rules.is_digit part.now }
 {
-    for i in 0..part.len() {
-        if !is_digit(part[i]) {
-            return false;
-        }
-    }
-    true
+    part.iter().all(|b| is_digit(*b))
 }
 
 fn number_of(digits: &[u8]) -> u64
     requires { (Rules.all Rules.is_digit digits.now ≡ true) × (length digits.now ≤ 10) }
     ensures { result ≡ Rules.number 0 digits.now }
 {
-    let mut sum: u64 = 0;
-    for i in 0..digits.len() {
-        sum = 10 * sum + (number::wide(digits[i]) - 48);
+    let mut sum = 0;
+    for digit in digits {
+        sum = 10 * sum + u64::from(digit - b'0');
     }
     sum
 }
@@ -66,24 +52,15 @@ pub fn form_right(line: &[u8], k: usize) -> bool
     ensures { result ≡ Rules.form_right k line.now }
 {
     let length = line.len();
-    if length < k + 3 {
-        return false;
-    }
-    if k + 12 < length {
+    if length < k + 3 || k + 12 < length {
         return false;
     }
     let first = k + 1;
     let last = length - 1;
-    if !all_letters(&line[..k]) {
-        return false;
-    }
-    if line[k] != b',' {
-        return false;
-    }
-    if !all_digits(&line[first..last]) {
-        return false;
-    }
-    line[last] == 10
+    all_letters(&line[..k])
+        && line[k] == b','
+        && all_digits(&line[first..last])
+        && line[last] == b'\n'
 }
 
 pub fn line_count(line: &[u8], k: usize) -> u64
@@ -99,10 +76,7 @@ pub fn line_count(line: &[u8], k: usize) -> u64
 pub fn held(count: u64) -> u32
     ensures { result ≡ min count Rules.max_count }
 {
-    if MAX_COUNT < count {
-        return MAX_COUNT as u32;
-    }
-    count as u32
+    count.min(MAX_COUNT) as u32
 }
 
 // A line whose count is below the least is passed over.
@@ -114,7 +88,7 @@ pub fn is_kept(line: &[u8], k: usize, least: u64) -> bool
 }
 
 pub fn line_key(line: &[u8], head: Header) -> u64
-    requires { Shifts head × (Rules.form_right head.k line.now ≡ true) }
+    requires { Rules.form_right head.k line.now ≡ true }
     ensures { result ≡ Rules.line_key head.k line.now }
 {
     kmer::canonical(kmer::seq2bit(line, head))
@@ -125,12 +99,8 @@ pub fn line_end(text: &[u8], from: usize) -> usize
     requires { from < length text.now }
     ensures { TextLine text.now from result }
 {
-    let mut end = from;
-    while end < text.len() {
-        if text[end] == 10 {
-            return end + 1;
-        }
-        end += 1;
+    match text[from..].iter().position(|b| *b == b'\n') {
+        Some(i) => from + i + 1,
+        None => text.len(),
     }
-    end
 }

@@ -1,11 +1,7 @@
-use borrow.Author.Tests.{le-leb, lt-leb}
+use borrow.Author.Rules.{rules}
 use Rattle.rules_make.specs.MakeSet.{is_digit}
 use Rattle.kmer_text.proofs.is_digit.Goals as goal
 
-pub returns-then-b-ge48 : goal.returns-then-b-ge48
+pub returns : goal.returns
 unfolding is_digit
-returns-then-b-ge48 c = rw (le-leb _ _ c.if-b-ge48.true)
-
-pub returns-else-b-ge48 : goal.returns-else-b-ge48
-unfolding is_digit
-returns-else-b-ge48 c = rw (lt-leb _ _ c.if-b-ge48.false)
+returns c = let h = c.is_ascii_digit.ensures in search rules
