@@ -13,10 +13,6 @@ use Rattle.rules_make.proofs.MakeSet.{least_after, rises-least, line-key-lt}
 use Rattle.kmer.proofs.Laws.{bound}
 use Rattle.kmer_text.specs.Text.{TextLine}
 use Rattle.kmer_text.proofs.Keys.{keys_of, key-kept, key-passed}
-use Rattle.refusal.specs.declared.Refusal.{Refusal}
-use Rattle.judge_text.specs.declared.Judged.{Judged}
-use Rattle.judge_text.specs.declared.Judged.TheVariants.{Refused}
-use Rattle.judge_text.specs.Judged.{IsRefused}
 
 -- ---- checks 12 and 13, a line at a time
 
@@ -121,6 +117,3 @@ module _ {text : List ℕ} {k least at line count floor end : ℕ} (j : Judging 
 -- A key has room for one more.
 pub key_fits : (k key : ℕ) (line : List ℕ) → k ≤ 31 → key ≡ line_key k line → key + 1 < 2 ^ 64
 key_fits k key line h e = omega (arith, e, line-key-lt k line, bound k h)
-
-pub is-refused : {judged : Judged} {r : Refusal} → judged ≡ Refused r → IsRefused judged
-is-refused e = rw e tt

@@ -1,23 +1,13 @@
 // Document 02, W3: the lines of a text of k-mer counts judged, refusals 12 and 13.
 #![tactic(auto)]
 
-ghost use Rattle.std.specs.Prelude.{◌≡◌};
-ghost use Rattle.kmer.specs.Kmer.{Shifts};
-ghost use Rattle.judge_text.specs.Judged.{JudgedAs, IsRefused};
+ghost use Rattle.judge_text.specs.Judged.{JudgedAs};
 
 use kmer::Header;
 use refusal::Refusal;
 
-// How many lines are kept, or the first refusal of a line.
-#[derive(Clone, Copy)]
-pub enum Judged {
-    Kept(usize),
-    Refused(Refusal),
-}
-
-// Refusals 12 and 13, line by line.
-pub fn judge(text: &[u8], head: Header, least: u64) -> Judged
-    requires { Shifts head }
+// Refusals 12 and 13, line by line: how many lines are kept, or the first refusal of a line.
+pub fn judge(text: &[u8], head: Header, least: u64) -> Result<usize, Refusal>
     ensures { JudgedAs text.now head.k least result }
 {
     let mut at = 0;
@@ -28,12 +18,12 @@ pub fn judge(text: &[u8], head: Header, least: u64) -> Judged
     while at < text.len() {
         let end = kmer_text::line_end(text, at);
         if !kmer_text::form_right(&text[at..end], head.k) {
-            return Judged::Refused(Refusal::Line(line));
+            return Err(Refusal::Line(line));
         }
         if kmer_text::is_kept(&text[at..end], head.k, least) {
             let key = kmer_text::line_key(&text[at..end], head);
             if key < floor {
-                return Judged::Refused(Refusal::NotRising(line));
+                return Err(Refusal::NotRising(line));
             }
             floor = key + 1;
             kept += 1;
@@ -41,16 +31,5 @@ pub fn judge(text: &[u8], head: Header, least: u64) -> Judged
         line += 1;
         at = end;
     }
-    Judged::Kept(kept)
-}
-
-// Why the text was refused.
-pub fn refused(judged: Judged) -> Refusal
-    requires { IsRefused judged }
-    ensures { judged ≡ Judged.Refused result }
-{
-    match judged {
-        Judged::Refused(refusal) => refusal,
-        Judged::Kept(_) => Refusal::Header,
-    }
+    Ok(kept)
 }

@@ -3,7 +3,6 @@ use native.Mathlib.Omega.{arith}
 use mathlib.Core.Path.{◌≡◌, sym, ◌∙◌}
 use mathlib.Core.Bool.{true}
 use lib.ListN.{take, drop}
-use borrow.Author.Rules.{rules}
 use borrow.Author.Tests.{not-true, not-false}
 use Rattle.rules_make.specs.MakeSet.{form_right}
 use Rattle.judge_text.proofs.Judging.{judging-starts, judging-ends, judged-breaks, judged-falls, judged-kept, judged-passed, key_fits}
@@ -22,10 +21,10 @@ right : (c : Else-not-form_right) → form_right c.args.head.k (take (c.line_end
 right c = sym c.form_right.ensures ∙ not-false _ c.if-not-form_right.false-raw
 
 pub is_kept-requires : goal.is_kept-requires
-is_kept-requires c = (search rules, right (goal.at.is_kept-requires c).Else-not-form_right)
+is_kept-requires c = (c.args.head.shifts.k_high, right (goal.at.is_kept-requires c).Else-not-form_right)
 
 pub line_key-key-requires : goal.line_key-key-requires
-line_key-key-requires c = (search rules, right (goal.at.line_key-key-requires c).Else-not-form_right)
+line_key-key-requires c = right (goal.at.line_key-key-requires c).Else-not-form_right
 
 pub returns-then-key-floor : goal.returns-then-key-floor
 returns-then-key-floor c =
@@ -33,7 +32,7 @@ returns-then-key-floor c =
 
 pub overflow_add-floor : goal.overflow_add-floor
 overflow_add-floor c =
-    let room = key_fits _ _ _ c.requires.k_high c.line_key-key.ensures in
+    let room = key_fits _ _ _ c.args.head.shifts.k_high c.line_key-key.ensures in
     record { fits = omega (arith, room) }
 
 pub loop-at-preserved : goal.loop-at-preserved
