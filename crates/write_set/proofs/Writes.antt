@@ -6,9 +6,10 @@ use borrow.Author.Tests.{le-leb, lt-leb}
 use mathlib.Core.Path.{◌≡◌, refl, sym, ap, ap₂, ◌∙◌}
 use mathlib.Core.Bool.{true, false}
 use mathlib.Core.Option.{Option, none}
-use mathlib.Core.List.{List, [], ◌∷◌, ◌++◌}
-use lib.ListN.{length, get_or, take, drop, set, replicate, length-set, length-drop, drop_of_length-le}
+use mathlib.Core.List.{List, [], ◌∷◌, ◌++◌, append-nil}
+use lib.ListN.{length, get_or, take, drop, set, replicate, length-replicate, length-take, length-set, length-drop, drop_of_length-le}
 use lib.Seq.{drop-cons, take-suc, take_all, take_at, length-take-le, paste, paste-zero, paste-suc}
+use borrow.Rule.Slice.PartMut.{put_mid}
 use Rattle.rules.specs.Blocks.{blocks_for, blocks_from, set_words, set_blocks}
 use Rattle.rules_make.specs.MakeSet.{text_check, text_lines, text_keys, text_counts, form_right, kept, line_count, line_key, max_count, lines_check, line_check, unless_at, last_kept, kept_lines, line_keys, line_counts}
 use Rattle.rules_laws.proofs.Opened.{passed}
@@ -16,7 +17,7 @@ use Rattle.rules_laws.proofs.Blocks.{Bytes, zeros-at}
 use Rattle.rules_laws.proofs.SetBlocks.{set-length, set_words_lem}
 use Rattle.rules_make.proofs.MakeSet.{unless-at, text-keys, text-counts-length}
 use Rattle.lay.specs.Lay.{Put, Sealed, Holds, Extended}
-use Rattle.lay.proofs.Laws.{extended_none, extended-more, holds-none, holds_more, holds_same, sealed-is, cleared-length}
+use Rattle.lay.proofs.Laws.{extended_none, extended-more, holds-none, holds_more, holds_same, sealed-is}
 use Rattle.kmer_text.specs.Text.{TextLine}
 use Rattle.kmer_text.proofs.Keys.{keys_of, key-kept, key-passed}
 
@@ -179,22 +180,25 @@ still-room n m a b e h l = omega arith
 -- ---- both buffers whole
 
 -- The counts, and zeros behind them.
-pub counts-written : (text : List ℕ) (k least n : ℕ) (c₀ c₁ c₂ : List ℕ) → n ≡ length (text_keys k least text) → n ≤ length c₀ → length c₁ ≡ length c₀
-    → c₁ ≡ text_counts k least text ++ drop (length (text_keys k least text)) c₀ → c₂ ≡ take n c₁ ++ replicate (length c₁ - n) 0
-    → c₂ ≡ text_counts k least text ++ replicate (length c₀ - n) 0
-counts-written text k least n c₀ c₁ c₂ n_is room long e f =
-    f ∙ ap₂ (λ (l : List ℕ) (m : ℕ). l ++ replicate (m - n) 0)
-    (ap (take n) e ∙ take_at (text_counts k least text) (drop (length (text_keys k least text)) c₀) n (text-counts-length k least text ∙ sym n_is)) long
+pub counts-written : (text : List ℕ) (k least n : ℕ) (c₀ c₁ zeros : List ℕ) → n ≡ length (text_keys k least text) → n ≤ length c₀ → length c₁ ≡ length c₀
+    → c₁ ≡ text_counts k least text ++ drop (length (text_keys k least text)) c₀ → zeros ≡ replicate (length (take (length c₁ - n) (drop n c₁))) 0
+    → put_mid n (length c₁ - n) c₁ zeros ≡ text_counts k least text ++ replicate (length c₀ - n) 0
+counts-written text k least n c₀ c₁ zeros n_is room long e z =
+    let counts : take n c₁ ≡ text_counts k least text =
+    ap (take n) e ∙ take_at (text_counts k least text) (drop (length (text_keys k least text)) c₀) n (text-counts-length k least text ∙ sym n_is) in
+    let behind : drop (length c₁ - n) (drop n c₁) ≡ [] = drop_of_length-le (drop n c₁) {i = length c₁ - n} (omega (arith, length-drop n c₁)) in
+    let size : length (take (length c₁ - n) (drop n c₁)) ≡ length c₀ - n = omega (arith, length-take (length c₁ - n) (drop n c₁), length-drop n c₁) in
+    rw (counts, behind, z, size, append-nil)
 
 module _ (text : List ℕ) (k least n : ℕ) (right : text_check text k least ≡ none) (n_is : n ≡ length (text_keys k least text)) where
   keys : List ℕ
   keys = text_keys k least text
 
   -- A cleared buffer, then k and n: a header of 63 words.
-  pub header-held : (b₀ b₁ b₂ b₃ : List ℕ) → b₁ ≡ take 0 b₀ ++ replicate (length b₀ - 0) 0 → Put b₁ (0 + 0 / 63) k b₂ → Put b₂ (1 + 1 / 63) n b₃
+  pub header-held : (b₀ b₁ b₂ b₃ : List ℕ) → b₁ ≡ replicate (length b₀) 0 → Put b₁ (0 + 0 / 63) k b₂ → Put b₂ (1 + 1 / 63) n b₃
       → Holds b₃ (k ∷ n ∷ replicate 61 0)
   header-held b₀ b₁ b₂ b₃ e p q =
-      let zeros : Holds b₁ [] = rw e (holds-none (length b₀ - 0)) in
+      let zeros : Holds b₁ [] = rw e (holds-none (length b₀)) in
       let one : Holds b₂ (k ∷ []) = holds_more b₁ [] 0 k b₂ zeros refl p in
       let two : Holds b₃ (k ∷ n ∷ []) = holds_more b₂ (k ∷ []) 1 n b₃ one refl q in
       holds_same b₃ (k ∷ n ∷ []) (k ∷ n ∷ replicate 61 0) two same
@@ -204,12 +208,12 @@ module _ (text : List ℕ) (k least n : ℕ) (right : text_check text k least �
       same (suc zero) = refl
       same (suc (suc i)) = zeros-at 61 i
 
-  pub all-written : (b₀ b₁ b₂ b₃ b₄ b₅ : List ℕ) → 512 * (1 + blocks_for n) ≤ length b₀ → b₁ ≡ take 0 b₀ ++ replicate (length b₀ - 0) 0
+  pub all-written : (b₀ b₁ b₂ b₃ b₄ b₅ : List ℕ) → 512 * (1 + blocks_for n) ≤ length b₀ → b₁ ≡ replicate (length b₀) 0
       → Put b₁ (0 + 0 / 63) k b₂ → Put b₂ (1 + 1 / 63) n b₃ → Extended b₃ 63 (text_keys k least text) b₄ → Sealed b₄ (1 + (n + 62) / 63) b₅ → Bytes b₅
       → b₅ ≡ set_blocks k (text_keys k least text) ++ replicate (length b₀ - 512 * (1 + blocks_for n)) 0
   unfolding set_blocks set_words
   all-written b₀ b₁ b₂ b₃ b₄ b₅ room e p q x y bytes =
-      let size₁ : length b₁ ≡ length b₀ = cleared-length b₀ b₁ e in
+      let size₁ : length b₁ ≡ length b₀ = ap length e ∙ length-replicate {A = ℕ} (length b₀) 0 in
       let size : length b₄ ≡ length b₀ = x.same_length ∙ q.same_length ∙ p.same_length ∙ size₁ in
       let words : List ℕ = set_words k (text_keys k least text) in
       let held : Holds b₄ words = rw n_is at (x.holds (k ∷ n ∷ replicate 61 0) refl (header-held b₀ b₁ b₂ b₃ e p q)) in

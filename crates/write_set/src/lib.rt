@@ -1,19 +1,18 @@
 // Document 02, W3 and W8: the blocks and the counts of a text whose lines were judged.
 #![tactic(auto)]
 
-ghost use Rattle.std.specs.Prelude.{◌≡◌, ◌++◌, ◌+◌, ◌*◌, ◌-◌, ◌≤◌, length, take, drop, replicate};
+ghost use Rattle.std.specs.Prelude.{◌≡◌, ◌++◌, ◌+◌, ◌*◌, ◌-◌, ◌≤◌, length, drop, replicate};
 ghost use Rattle.std.proofs.Math.Option.{none};
 ghost use Rattle.rules.specs.Set.{max_keys};
 ghost use Rattle.rules.specs.Blocks.{blocks_for, set_blocks};
 ghost use Rattle.rules_make.specs.MakeSet as Rules;
-ghost use Rattle.kmer.specs.Kmer.{Shifts};
 ghost use Rattle.lay.specs.Lay.{Extended};
 
 use kmer::Header;
 
 // The kept lines' codes as the words behind the header's 63, and their counts. Every line has been judged.
 fn write_lines(text: &[u8], head: Header, least: u64, blocks: &mut [u8], counts: &mut [u32])
-    requires { Shifts head × (Rules.lines_check head.k least 0 none (Rules.text_lines text.now) ≡ none)
+    requires { (Rules.lines_check head.k least 0 none (Rules.text_lines text.now) ≡ none)
         × (length (Rules.text_keys head.k least text.now) ≤ max_keys)
         × (512 * (1 + blocks_for (length (Rules.text_keys head.k least text.now))) ≤ length blocks.old)
         × (length (Rules.text_keys head.k least text.now) ≤ length counts.old) }
@@ -37,28 +36,18 @@ fn write_lines(text: &[u8], head: Header, least: u64, blocks: &mut [u8], counts:
     }
 }
 
-// Zeros from `from` to the end.
-fn clear_counts(counts: &mut [u32], from: usize)
-    requires { from ≤ length counts.old }
-    ensures { counts.new ≡ take from counts.old ++ replicate (length counts.old - from) 0 }
-{
-    for i in from..counts.len() {
-        counts[i] = 0;
-    }
-}
-
 // The blocks and the counts of a text that was judged, and zeros behind them.
 pub fn write(text: &[u8], head: Header, least: u64, n: usize, blocks: &mut [u8], counts: &mut [u32])
-    requires { Shifts head × (Rules.text_check text.now head.k least ≡ none) × (n ≡ length (Rules.text_keys head.k least text.now))
+    requires { (Rules.text_check text.now head.k least ≡ none) × (n ≡ length (Rules.text_keys head.k least text.now))
         × (512 * (1 + blocks_for n) ≤ length blocks.old) × (n ≤ length counts.old) }
     ensures { (blocks.new ≡ set_blocks head.k (Rules.text_keys head.k least text.now)
         ++ replicate (length blocks.old - 512 * (1 + blocks_for n)) 0)
         × (counts.new ≡ Rules.text_counts head.k least text.now ++ replicate (length counts.old - n) 0) }
 {
-    input::clear(blocks, 0);
+    blocks.fill(0);
     lay::put(blocks, 0, head.k as u64);
     lay::put(blocks, 1, n as u64);
     write_lines(text, head, least, blocks, counts);
     lay::seal(blocks, 1 + (n + 62) / 63);
-    clear_counts(counts, n);
+    counts[n..].fill(0);
 }

@@ -7,7 +7,7 @@ use Rattle.kmer_text.proofs.Laws.{formed}
 use Rattle.kmer_text.proofs.line_key.Goals as goal
 
 pub seq2bit-requires : goal.seq2bit-requires
-seq2bit-requires c = (c.args.head.shifts, omega (arith, (formed _ _ c.requires).long))
+seq2bit-requires c = omega (arith, (formed _ _ c.requires).long)
 
 pub returns : goal.returns
 unfolding line_key
