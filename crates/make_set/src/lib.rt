@@ -6,34 +6,32 @@ ghost use Rattle.std.specs.Prelude.{◌≡◌};
 ghost use Rattle.rules_make.specs.MakeSet as Rules;
 ghost use Rattle.make_set.specs.Make.{set_made_of};
 
-use judge_text::Judged;
-use lay::Made;
 use refusal::Refusal;
 
 const MAX_KEYS: usize = 16777216;
 
-pub fn make_set(text: &[u8], k: u64, least: u64, blocks: &mut [u8], counts: &mut [u32]) -> Made
+pub fn make_set(
+    text: &[u8],
+    k: u64,
+    least: u64,
+    blocks: &mut [u8],
+    counts: &mut [u32],
+) -> Result<usize, Refusal>
     ensures { set_made_of result blocks.new counts.new
         ≡ Rules.make_set text.now k least blocks.old counts.old }
 {
-    if k % 2 == 0 {
-        return Made::Refused(Refusal::Header);
-    }
-    if 31 < k {
-        return Made::Refused(Refusal::Header);
+    if k % 2 == 0 || 31 < k {
+        return Err(Refusal::Header);
     }
     let head = kmer::header_of(k as usize, 0, 0, 0);
-    let judged = judge_text::judge(text, head, least);
-    let Judged::Kept(n) = judged else {
-        return Made::Refused(judge_text::refused(judged));
-    };
+    let n = judge_text::judge(text, head, least)?;
     if MAX_KEYS < n {
-        return Made::Refused(Refusal::Header);
+        return Err(Refusal::Header);
     }
     let length = 512 * (1 + (n + 62) / 63);
     if blocks.len() < length || counts.len() < n {
-        return Made::Refused(Refusal::TooShort);
+        return Err(Refusal::TooShort);
     }
     write_set::write(text, head, least, n, blocks, counts);
-    Made::Blocks(length)
+    Ok(length)
 }
