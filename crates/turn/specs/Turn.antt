@@ -1,8 +1,8 @@
 -- One turn, and what the functions that make it ask and give.
-use Rattle.std.specs.Prelude.{ℕ, ◌+◌, ◌≤◌, ◌<◌, ◌^◌, min, ◌≡◌, Bool, true, false, List, ◌++◌, length, get_or, take, drop}
-use Rattle.std.proofs.Math.Option.{some}
+use Rattle.std.specs.Prelude.{ℕ, ◌+◌, ◌≤◌, ◌<◌, ◌^◌, min, ◌≡◌, Bool, true, false, List, ◌++◌, length, get_or, take, drop, Result, Ok, Err}
 use Rattle.rules.specs.Letters as letters
 use Rattle.rules.specs.Letters.{add_base}
+use Rattle.rules.specs.Set as rules_set
 use Rattle.rules.specs.Set.{set_of, solid, count_of}
 use Rattle.rules.specs.Counted.{Try}
 use Rattle.rules.specs.Scan.{ask}
@@ -11,31 +11,58 @@ use Rattle.rules.specs.Driver as rules
 use Rattle.rules.specs.Driver.{State}
 use Rattle.rules.specs.Job.{method_of, correct_error}
 use Rattle.rules_laws.proofs.Driver.{finish}
-use Rattle.kmer.specs.declared.shifts.Header.{Header}
 use Rattle.kmer.specs.declared.Kmer.{Kmer}
 use Rattle.kmer.specs.Kmer.{kmer_of, IsKmer, HasLetters}
-use Rattle.set.specs.Ready.{Ready}
+use Rattle.set.specs.declared.ready.KmerSet.{KmerSet}
 use Rattle.set.specs.Counted.{set_with}
 use Rattle.support.specs.Support.{support_of}
+use Rattle.turn.specs.declared.Counts.{Counts}
 use Rattle.turn.specs.declared.Place.{Place}
-use Rattle.turn.specs.declared.Turned.{Turned}
-use Rattle.turn.specs.declared.Turned.TheVariants.{To, Full}
+use Rattle.turn.specs.declared.Full.{Full}
 
--- What is done at a place, as the rules' pass so far; put are the bytes put out.
-abbrev pub done_of : Place → List ℕ → rules.Pass
-done_of p put =
+-- Sums that fit.
+pub record Fits (a b : Counts) : Type 0 where
+  pub written : a.written + b.written < 2 ^ 64
+  pub turns : a.turns + b.turns < 2 ^ 64
+  pub lookups : a.lookups + b.lookups < 2 ^ 64
+  pub attempts : a.attempts + b.attempts < 2 ^ 64
+  pub accepted : a.accepted + b.accepted < 2 ^ 64
+  pub bases : a.bases + b.bases < 2 ^ 64
+
+-- Counts added, with a support s.
+abbrev pub summed : Counts → Counts → ℕ → Counts
+summed a b s =
+    record {
+      written = a.written + b.written;
+      turns = a.turns + b.turns;
+      lookups = a.lookups + b.lookups;
+      attempts = a.attempts + b.attempts;
+      accepted = a.accepted + b.accepted;
+      support = s;
+      bases = a.bases + b.bases;
+    }
+
+-- r is the sum of a and b, its support the weaker of theirs.
+pub record Summed (a b r : Counts) : Type 0 where
+  pub is : r ≡ summed a b r.support
+  pub weaker_is : support_of (a.accepted + b.accepted) r.support
+      ≡ rules.weaker (support_of a.accepted a.support) (support_of b.accepted b.support)
+
+-- What is done, as the rules' pass so far; put are the bytes put out.
+abbrev pub done_of : Counts → List ℕ → rules.Pass
+done_of n put =
     record {
       bytes = put;
-      turns = p.turns;
-      lookups = p.lookups;
-      attempts = p.attempts;
-      accepted = p.accepted;
-      support = support_of p.accepted p.support;
+      turns = n.turns;
+      lookups = n.lookups;
+      attempts = n.attempts;
+      accepted = n.accepted;
+      support = support_of n.accepted n.support;
     }
 
 -- A place as the rules' state.
 unfoldable pub state_of : Place → List ℕ → List ℕ → State
-state_of p read put = record { kmer = kmer_of p.kmer; previous = p.previous; rest = drop p.at read; done = done_of p put }
+state_of p read put = record { kmer = kmer_of p.kmer; previous = p.previous; rest = drop p.at read; done = done_of p.done put }
 
 -- A place has a k-mer, and is inside the read.
 pub record Stands (k : ℕ) (p : Place) (read : List ℕ) : Type 0 where
@@ -50,76 +77,65 @@ pub record Countable (n : rules.Pass) : Type 0 where
   pub attempts : n.attempts < 2 ^ 63
   pub accepted : n.accepted < 2 ^ 63
 
--- The rules' attempt, turn and end of a pass, under a set's bytes, its keys' counts, a method byte and a confirm.
-abbrev pub attempt_of : List ℕ → List ℕ → ℕ → ℕ → List ℕ → letters.Kmer → Try Mend
-attempt_of bytes counts method c = correct_error (set_with bytes counts) c (method_of method)
+-- A set as the rules have it, with its keys' counts.
+abbrev pub offered : KmerSet → rules_set.KmerSet
+offered set = set_with set.bytes.now set.counts.now
 
-abbrev pub turn_of : List ℕ → Header → List ℕ → ℕ → ℕ → State → ℕ → List ℕ → State
-turn_of bytes head counts method c =
-    rules.turn head.k (solid (set_with bytes counts)) (count_of (set_with bytes counts)) (attempt_of bytes counts method c)
+-- The rules' attempt, turn and end of a pass, under a set, a method byte and a confirm.
+abbrev pub attempt_of : KmerSet → ℕ → ℕ → List ℕ → letters.Kmer → Try Mend
+attempt_of set method c = correct_error (offered set) c (method_of method)
 
-abbrev pub end_of : List ℕ → Header → List ℕ → ℕ → ℕ → State → rules.Pass
-end_of bytes head counts method c st =
-    (finish head.k (solid (set_with bytes counts)) (count_of (set_with bytes counts)) (attempt_of bytes counts method c) st).done
+abbrev pub turn_of : KmerSet → ℕ → ℕ → State → ℕ → List ℕ → State
+turn_of set method c = rules.turn set.head.k (solid (offered set)) (count_of (offered set)) (attempt_of set method c)
 
--- One turn more: where it leads, what it adds: w bytes written, l lookups, a attempts made and b accepted, and the support from there on.
-abbrev pub place_of : Place → Kmer → Bool → ℕ → ℕ → ℕ → ℕ → ℕ → ℕ → Place
-place_of p kmer previous at w l a b support =
-    record {
-      kmer = kmer;
-      previous = previous;
-      at = at;
-      written = p.written + w;
-      turns = p.turns + 1;
-      lookups = p.lookups + l;
-      attempts = p.attempts + a;
-      accepted = p.accepted + b;
-      support = support;
-    }
+abbrev pub end_of : KmerSet → ℕ → ℕ → State → rules.Pass
+end_of set method c st = (finish set.head.k (solid (offered set)) (count_of (offered set)) (attempt_of set method c) st).done
 
--- What it adds fits.
-pub record Fits (p : Place) (w l a b : ℕ) : Type 0 where
-  pub written : p.written + w < 2 ^ 64
-  pub turns : p.turns < 2 ^ 63
-  pub lookups : p.lookups + l < 2 ^ 64
-  pub attempts : p.attempts + a < 2 ^ 64
-  pub accepted : p.accepted + b < 2 ^ 64
+-- What a turn adds that keeps its base, and one that accepts an attempt, which puts out w letters and rests on a smallest count v.
+abbrev pub kept_by : ℕ → ℕ → Counts
+kept_by attempts lookups =
+    record { written = 1; turns = 1; lookups = lookups; attempts = attempts; accepted = 0; support = 0; bases = 0 }
+
+abbrev pub mended_by : ℕ → ℕ → ℕ → Counts
+mended_by w lookups v = record { written = w; turns = 1; lookups = lookups; attempts = 1; accepted = 1; support = v; bases = 0 }
+
+-- A base kept: its k-mer becomes the pass's.
+abbrev pub kept : Place → Kmer → Bool → ℕ → ℕ → Place
+kept p kmer solid attempts lookups =
+    record { kmer = kmer; previous = solid; at = p.at + 1; done = summed p.done (kept_by attempts lookups) p.done.support }
 
 -- An accepted attempt, as `mend_base` of the rules has it, in a read of length n: kmer is the bad k-mer with that many letters in place of its
 -- last one, v the smallest count that it rests on.
 pub record Mended (p : Place) (kmer : Kmer) (letters resume l v n : ℕ) (r : Place) : Type 0 where
-  pub support : ℕ
-  pub weighed : support_of (p.accepted + 1) support ≡ rules.weaker (support_of p.accepted p.support) (some v)
-  pub is : r ≡ place_of p kmer true (min (p.at + resume) n) letters l 1 1 support
+  pub done : Summed p.done (mended_by letters l v) r.done
+  pub is : r ≡ record { kmer = kmer; previous = true; at = min (p.at + resume) n; done = r.done }
 
 -- What a turn asks: a base is left, and the counts of the whole pass fit.
-pub record Turning (bytes starts : List ℕ) (head : Header) (counts : List ℕ) (method c : ℕ) (p : Place) (read : List ℕ) : Type 0 where
-  pub ready : Ready bytes starts head
+pub record Turning (set : KmerSet) (method c : ℕ) (p : Place) (read : List ℕ) : Type 0 where
   pub confirm : 1 ≤ c
-  pub stands : Stands head.k p read
+  pub stands : Stands set.head.k p read
   pub more : p.at < length read
   pub put : List ℕ
-  pub many : length put ≡ p.written
-  pub countable : Countable (end_of bytes head counts method c (state_of p read put))
+  pub many : length put ≡ p.done.written
+  pub countable : Countable (end_of set method c (state_of p read put))
 
 -- The next base gives the k-mer `bad`, which is not solid, by that many lookups, while the previous one counts as solid.
-pub record BadAt (bytes : List ℕ) (head : Header) (p : Place) (bad : Kmer) (asked : ℕ) (read : List ℕ) : Type 0 where
-  pub kmer : HasLetters head.k (add_base head.k (kmer_of p.kmer) (get_or read p.at 0)) bad
-  pub weak : (ask (solid (set_of bytes)) (kmer_of bad)).answer ≡ false
-  pub cost : asked ≡ (ask (solid (set_of bytes)) (kmer_of bad)).lookups
+pub record BadAt (set : KmerSet) (p : Place) (bad : Kmer) (asked : ℕ) (read : List ℕ) : Type 0 where
+  pub kmer : HasLetters set.head.k (add_base set.head.k (kmer_of p.kmer) (get_or read p.at 0)) bad
+  pub weak : (ask (solid (set_of set.bytes.now)) (kmer_of bad)).answer ≡ false
+  pub cost : asked ≡ (ask (solid (set_of set.bytes.now)) (kmer_of bad)).lookups
   pub previous : p.previous ≡ true
 
 -- A turn of the code leads where one of the rules does. It puts out `more`, which stands at the start of out if that has room for it.
-pub record Went (bytes : List ℕ) (head : Header) (counts : List ℕ) (method c : ℕ) (p : Place) (read put out : List ℕ) (r : Place) : Type 0 where
+pub record Went (set : KmerSet) (method c : ℕ) (p : Place) (read put out : List ℕ) (r : Place) : Type 0 where
   pub more : List ℕ
-  pub is : state_of r read (put ++ more) ≡ turn_of bytes head counts method c (state_of p read put) (get_or read p.at 0) (drop (p.at + 1) read)
-  pub many : r.written ≡ p.written + length more
+  pub is : state_of r read (put ++ more) ≡ turn_of set method c (state_of p read put) (get_or read p.at 0) (drop (p.at + 1) read)
+  pub many : r.done.written ≡ p.done.written + length more
   pub written : length more ≤ length out → take (length more) out ≡ more
 
 -- What a turn answers, whatever bytes were put out before it; out at entry, out' at exit. Full: out is shorter than the read, and the pass
 -- puts out more than it has room for.
-abbrev pub TurnIs : List ℕ → Header → List ℕ → ℕ → ℕ → Place → List ℕ → List ℕ → List ℕ → Turned → Type 0
-TurnIs bytes head counts method c p read out out' (To r) =
-    ((put : List ℕ) → Went bytes head counts method c p read put out' r) × Stands head.k r read
-TurnIs bytes head counts method c p read out out' Full =
-    ((put : List ℕ) → length put + length out < length (end_of bytes head counts method c (state_of p read put)).bytes) × (length out < length read)
+abbrev pub TurnIs : KmerSet → ℕ → ℕ → Place → List ℕ → List ℕ → List ℕ → Result Place Full → Type 0
+TurnIs set method c p read out out' (Ok r) = ((put : List ℕ) → Went set method c p read put out' r) × Stands set.head.k r read
+TurnIs set method c p read out out' (Err full) =
+    ((put : List ℕ) → length put + length out < length (end_of set method c (state_of p read put)).bytes) × (length out < length read)

@@ -6,87 +6,74 @@ ghost use Rattle.std.specs.Prelude.{◌≡◌, ◌+◌, ◌≤◌, ◌<◌, ◌^
 ghost use Rattle.rules.specs.Set.{set_of, solid, count_of};
 ghost use Rattle.rules.specs.Scan.{error_len};
 ghost use Rattle.kmer.specs.Kmer.{kmer_of, IsKmer};
-ghost use Rattle.set.specs.Ready.{Ready};
-ghost use Rattle.set.specs.Counted.{set_with};
 ghost use Rattle.scan.specs.Attempt.{Attempted};
-ghost use Rattle.turn.specs.Turn.{attempt_of, Fits, place_of, Mended, Turning, BadAt, TurnIs};
+ghost use Rattle.turn.specs.Turn.{Fits, Summed, offered, attempt_of, kept_by, mended_by, kept, Mended, Turning, BadAt, TurnIs};
 
-use kmer::{Header, Kmer};
+use kmer::Kmer;
 use scan::Attempt;
+use set::KmerSet;
 
-// Where a pass stands: the k-mer, whether the previous one counts as solid, the index of the next base, and what is done: the bytes put out
-// are counted here, and written where there is room; support is the smallest count behind the accepted corrections, if there are any.
-#[derive(Clone, Copy)]
-pub struct Place {
-    pub kmer: Kmer,
-    pub previous: bool,
-    pub at: usize,
+// What was written and counted, the smallest count behind the accepted corrections, if there are any, and the bases beyond the first k (W).
+#[derive(Clone, Copy, Default)]
+pub struct Counts {
     pub written: usize,
     pub turns: u64,
     pub lookups: u64,
     pub attempts: u64,
     pub accepted: u64,
     pub support: u32,
+    pub bases: u64,
 }
 
-// Full: GapSize has no room to look back at its letters.
-#[derive(Clone, Copy)]
-pub enum Turned {
-    To(Place),
-    Full,
-}
-
-// An attempt under a method, kmer being the bad k-mer and s the rest of the read at its bad base.
-fn correct_error(
-    set: &[u8],
-    starts: &[u32],
-    head: Header,
-    counts: &[u32],
-    method: u8,
-    c: u8,
-    kmer: Kmer,
-    s: &[u8],
-    out: &mut [u8],
-) -> Attempt
-    requires { Ready set.now starts.now head × IsKmer head.k kmer × (1 ≤ length s.now) × (1 ≤ c) }
-    ensures { Attempted head.k (kmer_of kmer) (count_of (set_with set.now counts.now))
-        (error_len head.k (solid (set_of set.now)) (kmer_of kmer) s.now).index out.old out.new
-        (attempt_of set.now counts.now method c s.now (kmer_of kmer))
-        result }
-{
-    match method {
-        1 => exist::correct_error(set, starts, head, counts, false, c, 0, kmer, s, out),
-        2 => exist::correct_error(set, starts, head, counts, true, c, 0, kmer, s, out),
-        3 => graph::correct_error(set, starts, head, counts, kmer, s, out),
-        _ => gap_size::correct_error(set, starts, head, counts, c, kmer, s, out),
+impl Counts {
+    // The sums of these and more, and the smaller support.
+    pub fn plus(self, more: Counts) -> Counts
+        requires { Fits self more }
+        ensures { Summed self more result }
+    {
+        Counts {
+            written: self.written + more.written,
+            turns: self.turns + more.turns,
+            lookups: self.lookups + more.lookups,
+            attempts: self.attempts + more.attempts,
+            accepted: self.accepted + more.accepted,
+            support: support::weaker(self.accepted, self.support, more.accepted, more.support),
+            bases: self.bases + more.bases,
+        }
     }
 }
 
-// One turn more: where it leads, what it adds: bytes written, lookups, attempts made and accepted, and the support from there on.
-fn moved(
-    p: Place,
-    kmer: Kmer,
-    previous: bool,
-    at: usize,
-    written: usize,
-    lookups: u64,
-    attempts: u64,
-    accepted: u64,
-    support: u32,
-) -> Place
-    requires { Fits p written lookups attempts accepted }
-    ensures { result ≡ place_of p kmer previous at written lookups attempts accepted support }
+// Where a pass stands: the k-mer, whether the previous one counts as solid, the index of the next base, and what is done: the bytes put out
+// are counted there, and written where there is room; its bases are told at the end.
+#[derive(Clone, Copy)]
+pub struct Place {
+    pub kmer: Kmer,
+    pub previous: bool,
+    pub at: usize,
+    pub done: Counts,
+}
+
+// The buffer is too short: for the result, or for GapSize to look back at its letters.
+#[derive(Clone, Copy)]
+pub struct Full;
+
+// An attempt under a method, kmer being the bad k-mer and s the rest of the read at its bad base.
+fn correct_error(set: &KmerSet, method: u8, c: u8, kmer: Kmer, s: &[u8], out: &mut [u8]) -> Attempt
+    requires { IsKmer set.now.head.k kmer × (1 ≤ length s.now) × (1 ≤ c) }
+    ensures { Attempted set.now.head.k (kmer_of kmer) (count_of (offered set.now))
+        (error_len set.now.head.k (solid (set_of set.now.bytes.now)) (kmer_of kmer) s.now).index out.old out.new
+        (attempt_of set.now method c s.now (kmer_of kmer))
+        result }
 {
-    Place {
-        kmer,
-        previous,
-        at,
-        written: p.written + written,
-        turns: p.turns + 1,
-        lookups: p.lookups + lookups,
-        attempts: p.attempts + attempts,
-        accepted: p.accepted + accepted,
-        support,
+    match method {
+        1 => exist::correct_error(
+            set.bytes, set.starts, set.head, set.counts, false, c, 0, kmer, s, out,
+        ),
+        2 => exist::correct_error(
+            set.bytes, set.starts, set.head, set.counts, true, c, 0, kmer, s, out,
+        ),
+        3 => graph::correct_error(set.bytes, set.starts, set.head, set.counts, kmer, s, out),
+        _ => gap_size::correct_error(set.bytes, set.starts, set.head, set.counts, c, kmer, s, out),
     }
 }
 
@@ -100,13 +87,24 @@ fn keep(
     lookups: u64,
     out: &mut [u8],
 ) -> Place
-    requires { (p.at < 2 ^ 63) × Fits p 1 lookups attempts 0 }
-    ensures { (result ≡ place_of p kmer solid (p.at + 1) 1 lookups attempts 0 p.support) × (out.new ≡ put out.old 0 base) }
+    requires { (p.at < 2 ^ 63) × Fits p.done (kept_by attempts lookups) }
+    ensures { (result ≡ kept p kmer solid attempts lookups) × (out.new ≡ put out.old 0 base) }
 {
     if 0 < out.len() {
         out[0] = base;
     }
-    moved(p, kmer, solid, p.at + 1, 1, lookups, attempts, 0, p.support)
+    Place {
+        kmer,
+        previous: solid,
+        at: p.at + 1,
+        done: Counts {
+            written: p.done.written + 1,
+            turns: p.done.turns + 1,
+            lookups: p.done.lookups + lookups,
+            attempts: p.done.attempts + attempts,
+            ..p.done
+        },
+    }
 }
 
 // An accepted attempt: the bad k-mer with its letters in place of the last one becomes the pass's, which goes on `resume` bases further or
@@ -120,23 +118,29 @@ fn mend(
     support: u32,
     len: usize,
 ) -> Place
-    requires { (p.at ≤ len) × Fits p letters lookups 1 1 }
+    requires { (p.at ≤ len) × Fits p.done (mended_by letters lookups support) }
     ensures { Mended p kmer letters resume lookups support len result }
 {
-    let mut at = len;
-    if resume < len - p.at {
-        at = p.at + resume;
+    let more = Counts {
+        written: letters,
+        turns: 1,
+        lookups,
+        attempts: 1,
+        accepted: 1,
+        support,
+        bases: 0,
+    };
+    Place {
+        kmer,
+        previous: true,
+        at: p.at + resume.min(len - p.at),
+        done: p.done.plus(more),
     }
-    let weakest = support::weaker(p.accepted, p.support, 1, support);
-    moved(p, kmer, true, at, letters, lookups, 1, 1, weakest)
 }
 
 // A turn at a base whose k-mer, asked by that many lookups, is not solid while the previous was.
 fn bad_base(
-    set: &[u8],
-    starts: &[u32],
-    head: Header,
-    counts: &[u32],
+    set: &KmerSet,
     method: u8,
     c: u8,
     p: Place,
@@ -144,67 +148,47 @@ fn bad_base(
     asked: u64,
     read: &[u8],
     out: &mut [u8],
-) -> Turned
-    requires turning { Turning set.now starts.now head counts.now method c p read.now }
-    requires bad_at { BadAt set.now head p bad asked read.now }
-    ensures { TurnIs set.now head counts.now method c p read.now out.old out.new result }
+) -> Result<Place, Full>
+    requires turning { Turning set.now method c p read.now }
+    requires bad_at { BadAt set.now p bad asked read.now }
+    ensures { TurnIs set.now method c p read.now out.old out.new result }
 {
     let at = p.at;
-    let tried = correct_error(set, starts, head, counts, method, c, bad, &read[at..], out);
-    let Attempt::Mend(letters, resume, lookups, support, kmer) = tried else {
-        let Attempt::Refused(lookups) = tried else {
-            return Turned::Full;
-        };
-        return Turned::To(keep(p, read[at], bad, false, 1, asked + lookups, out));
-    };
-    Turned::To(mend(
-        p,
-        kmer,
-        letters,
-        resume,
-        asked + lookups,
-        support,
-        read.len(),
-    ))
+    match correct_error(set, method, c, bad, &read[at..], out) {
+        Attempt::Mend(letters, resume, lookups, support, kmer) => Ok(mend(
+            p,
+            kmer,
+            letters,
+            resume,
+            asked + lookups,
+            support,
+            read.len(),
+        )),
+        Attempt::Refused(lookups) => Ok(keep(p, read[at], bad, false, 1, asked + lookups, out)),
+        Attempt::Full => Err(Full),
+    }
 }
 
 // One turn. What it puts out stands at the start of `out` if there is room for it, and is counted.
 pub fn turn(
-    set: &[u8],
-    starts: &[u32],
-    head: Header,
-    counts: &[u32],
+    set: &KmerSet,
     method: u8,
     c: u8,
     p: Place,
     read: &[u8],
     out: &mut [u8],
-) -> Turned
-    requires { Turning set.now starts.now head counts.now method c p read.now }
-    ensures { TurnIs set.now head counts.now method c p read.now out.old out.new result }
+) -> Result<Place, Full>
+    requires { Turning set.now method c p read.now }
+    ensures { TurnIs set.now method c p read.now out.old out.new result }
 {
-    let at = p.at;
-    let base = read[at];
-    let next = scan::add_base(p.kmer, base, head);
-    let asked = set::ask(set, starts, head, next);
+    let base = read[p.at];
+    let next = scan::add_base(p.kmer, base, set.head);
+    let asked = set.ask(next);
     if asked.solid {
-        return Turned::To(keep(p, base, next, true, 0, asked.lookups, out));
+        return Ok(keep(p, base, next, true, 0, asked.lookups, out));
     }
-    let previous = p.previous;
-    if !previous {
-        return Turned::To(keep(p, base, next, false, 0, asked.lookups, out));
+    if !p.previous {
+        return Ok(keep(p, base, next, false, 0, asked.lookups, out));
     }
-    bad_base(
-        set,
-        starts,
-        head,
-        counts,
-        method,
-        c,
-        p,
-        next,
-        asked.lookups,
-        read,
-        out,
-    )
+    bad_base(set, method, c, p, next, asked.lookups, read, out)
 }

@@ -1,4 +1,4 @@
-use Prim.Native.Nat.{ℕ, ◌+◌}
+use Prim.Native.Nat.{ℕ, ◌+◌, ◌<◌, ◌^◌}
 use native.Mathlib.Omega.{arith}
 use borrow.Author.Tests.{not-true, not-false}
 use mathlib.Core.Path.{◌≡◌, sym, ◌∙◌}
@@ -11,20 +11,19 @@ use Rattle.rules.specs.Scan.{ask}
 use Rattle.rules.specs.Driver.{keep_base}
 use Rattle.kmer.specs.Kmer.{kmer_of}
 use Rattle.set.specs.Asked.{AskedIs}
-use Rattle.set.specs.Counted.{set_with}
 use Rattle.set.proofs.Counted.{with-solid}
-use Rattle.turn.specs.Turn.{state_of, turn_of}
+use Rattle.turn.specs.Turn.{offered, state_of, turn_of}
 use Rattle.turn.proofs.Turns.{solid-turn, quiet-turn, kept-lookups, keep-fits, kept-went}
-use Rattle.turn.proofs.turn.Goals.{After-ask-asked, Then-asked, Then-not-previous}
+use Rattle.turn.proofs.turn.Goals.{After-ask-asked, Then-asked, Then-not-p}
 use Rattle.turn.proofs.turn.Goals as goal
 
 -- The next k-mer asked.
 answer : (c : After-ask-asked)
     → let a = c.args in
-    AskedIs (ask (solid (set_with a.set.now a.counts.now)) (add_base a.head.k (kmer_of a.p.kmer) (get_or a.read.now a.p.at 0))) c.ask-asked.result
+    AskedIs (ask (solid (offered a.set.now)) (add_base a.set.now.head.k (kmer_of a.p.kmer) (get_or a.read.now a.p.at 0))) c.ask-asked.result
 answer c =
-    let a = c.args in
-    rw (with-solid a.set.now a.counts.now, ← c.add_base-next.ensures.is) c.ask-asked.ensures
+    let set = c.args.set.now in
+    rw (with-solid set.bytes.now set.counts.now, ← c.add_base-next.ensures.is) c.ask-asked.ensures
 
 -- a solid k-mer's base
 solid-kept : (c : Then-asked) (put : List ℕ)
@@ -32,50 +31,46 @@ solid-kept : (c : Then-asked) (put : List ℕ)
     let st = state_of a.p a.read.now put in
     let b = get_or a.read.now a.p.at 0 in
     let rest = drop (a.p.at + 1) a.read.now in
-    turn_of a.set.now a.head a.counts.now a.method a.c st b rest
-    ≡ keep_base st b rest (add_base a.head.k (kmer_of a.p.kmer) b) true 0 c.ask-asked.result.lookups
-solid-kept c put = solid-turn _ _ _ _ _ _ _ _ c.requires put c.ask-asked.result (answer (goal.at.Then-asked c).After-ask-asked) c.if-asked.true
+    turn_of a.set.now a.method a.c st b rest ≡ keep_base st b rest (add_base a.set.now.head.k (kmer_of a.p.kmer) b) true 0 c.ask-asked.result.lookups
+solid-kept c put = solid-turn c.requires put c.ask-asked.result (answer (goal.at.Then-asked c).After-ask-asked) c.if-asked.true
 
 -- the base of a k-mer that is not solid, after one that did not count as solid
-quiet-kept : (c : Then-not-previous) (put : List ℕ)
+quiet-kept : (c : Then-not-p) (put : List ℕ)
     → let a = c.args in
     let st = state_of a.p a.read.now put in
     let b = get_or a.read.now a.p.at 0 in
     let rest = drop (a.p.at + 1) a.read.now in
-    turn_of a.set.now a.head a.counts.now a.method a.c st b rest
-    ≡ keep_base st b rest (add_base a.head.k (kmer_of a.p.kmer) b) false 0 c.ask-asked.result.lookups
+    turn_of a.set.now a.method a.c st b rest ≡ keep_base st b rest (add_base a.set.now.head.k (kmer_of a.p.kmer) b) false 0 c.ask-asked.result.lookups
 quiet-kept c put =
-    quiet-turn _ _ _ _ _ _ _ _ c.requires put c.ask-asked.result (answer (goal.at.Then-not-previous c).After-ask-asked) c.if-asked.false (not-true _ c.if-not-previous.true-raw)
+    quiet-turn c.requires put c.ask-asked.result (answer (goal.at.Then-not-p c).After-ask-asked) c.if-asked.false (not-true _ c.if-not-p.true)
 
 pub keep-requires : goal.keep-requires
 keep-requires c =
     let t = c.requires in
-    let e = solid-kept (goal.at.keep-requires c).Then-asked t.put in (
-      omega (arith, c.well_formed, t.more),
-      keep-fits _ _ _ _ _ _ _ _ t t.put t.many t.countable true 0 _ e _ (omega (arith, kept-lookups _ _ _ _ _ _ _ _ t t.put t.many t.countable true 0 _ e)),
-    )
+    let e = solid-kept (goal.at.keep-requires c).Then-asked t.put in
+    let w : c.args.p.done.bases < 2 ^ 64 = omega (arith, c.well_formed) in
+    (omega (arith, c.well_formed, t.more), keep-fits t t.put t.many t.countable w true 0 _ e _ (omega (arith, kept-lookups t t.put t.many t.countable w true 0 _ e)))
 
 pub returns-then-asked : goal.returns-then-asked
 returns-then-asked c =
     let e = c.keep.ensures in
     let h = c.add_base-next.ensures in (
-      λ put. rw e.1 (kept-went _ _ _ _ _ _ _ _ c.requires put _ true 0 _ c.args.out.now c.keep.result h (solid-kept (goal.at.returns-then-asked c).Then-asked put) e.0),
+      λ put. rw e.1 (kept-went c.requires put _ true 0 _ c.args.out.now c.keep.result h (solid-kept (goal.at.returns-then-asked c).Then-asked put) e.0),
       record { kmer = rw e.0 h.kmer; at = rw e.0 (omega (arith, c.requires.more)) },
     )
 
-pub keep-requires-then-not-previous : goal.keep-requires-then-not-previous
-keep-requires-then-not-previous c =
+pub keep-requires-then-not-p : goal.keep-requires-then-not-p
+keep-requires-then-not-p c =
     let t = c.requires in
-    let e = quiet-kept (goal.at.keep-requires-then-not-previous c).Then-not-previous t.put in (
-      omega (arith, c.well_formed, t.more),
-      keep-fits _ _ _ _ _ _ _ _ t t.put t.many t.countable false 0 _ e _ (omega (arith, kept-lookups _ _ _ _ _ _ _ _ t t.put t.many t.countable false 0 _ e)),
-    )
+    let e = quiet-kept (goal.at.keep-requires-then-not-p c).Then-not-p t.put in
+    let w : c.args.p.done.bases < 2 ^ 64 = omega (arith, c.well_formed) in
+    (omega (arith, c.well_formed, t.more), keep-fits t t.put t.many t.countable w false 0 _ e _ (omega (arith, kept-lookups t t.put t.many t.countable w false 0 _ e)))
 
-pub returns-then-not-previous : goal.returns-then-not-previous
-returns-then-not-previous c =
-    let e = c.keep-then-not-previous.ensures in
+pub returns-then-not-p : goal.returns-then-not-p
+returns-then-not-p c =
+    let e = c.keep-then-not-p.ensures in
     let h = c.add_base-next.ensures in (
-      λ put. rw e.1 (kept-went _ _ _ _ _ _ _ _ c.requires put _ false 0 _ c.args.out.now c.keep-then-not-previous.result h (quiet-kept (goal.at.returns-then-not-previous c).Then-not-previous put) e.0),
+      λ put. rw e.1 (kept-went c.requires put _ false 0 _ c.args.out.now c.keep-then-not-p.result h (quiet-kept (goal.at.returns-then-not-p c).Then-not-p put) e.0),
       record { kmer = rw e.0 h.kmer; at = rw e.0 (omega (arith, c.requires.more)) },
     )
 
@@ -86,6 +81,6 @@ bad_base-requires c = record {
     kmer = c.add_base-next.ensures;
     weak = sym c.ask-asked.ensures.solid ∙ c.if-asked.false;
     cost = c.ask-asked.ensures.lookups;
-    previous = not-false _ c.if-not-previous.false-raw;
+    previous = not-false _ c.if-not-p.false;
   };
 }
