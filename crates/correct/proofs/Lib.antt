@@ -1,4 +1,3 @@
-pub mod Copies
 pub mod Drives
 pub mod Limits
 pub mod Passes

@@ -15,9 +15,10 @@ use Rattle.rules_laws.proofs.Driver.{drive-turns}
 use Rattle.rules_laws.proofs.Lookups.{drive-lookups, drive-short}
 use Rattle.rules_ceiling.proofs.Demands.{fair, steady}
 use Rattle.rules_laws.proofs.Growth.{pass-within}
-use Rattle.set.specs.Counted.{set_with}
+use Rattle.set.specs.declared.ready.KmerSet as Opened
 use Rattle.set.proofs.Opened.{opened-k-low, opened-k-high, opened-n-le, set-count}
 use Rattle.rules.specs.Calls.{max_read}
+use Rattle.turn.specs.Turn.{offered}
 use Rattle.correct.specs.Pass.{max_f, with_bases, Small}
 use Rattle.correct.proofs.Drives.{drive-fewer}
 
@@ -29,9 +30,15 @@ pub record Limited (w : ℕ) (p : Pass) : Type 0 where
   pub attempts : p.attempts ≤ 2 * w
   pub accepted : p.accepted ≤ 2 * w
 
-module _ (bytes counts : List ℕ) (opens : set_check bytes ≡ none) (c : ℕ) (c-low : 1 ≤ c) (c-high : c < 256) where
+module _ (opened : Opened.KmerSet) (c : ℕ) (c-low : 1 ≤ c) (c-high : c < 256) where
   abbrev set : KmerSet
-  set = set_with bytes counts
+  set = offered opened
+
+  abbrev bytes : List ℕ
+  bytes = opened.bytes.now
+
+  opens : set_check bytes ≡ none
+  opens = opened.ready.table.opens
 
   F-le : (m : Method) → F set c m ≤ max_f
   unfolding F offering set_of

@@ -6,50 +6,61 @@ use lib.ListN.{length, length-append, take, drop_of_length-le}
 use Rattle.rules.specs.Set.{solid, count_of}
 use Rattle.rules.specs.Driver.{Pass, State}
 use Rattle.rules_laws.proofs.Driver.{finish-end}
-use Rattle.kmer.specs.declared.shifts.Header.{Header}
-use Rattle.set.specs.Counted.{set_with}
+use Rattle.set.specs.declared.ready.KmerSet.{KmerSet}
+use Rattle.turn.specs.declared.Counts.{Counts}
 use Rattle.turn.specs.declared.Place.{Place}
-use Rattle.turn.specs.Turn.{state_of, attempt_of, end_of, Turning, Went}
+use Rattle.turn.specs.Turn.{state_of, offered, attempt_of, end_of, Turning, Went}
 use Rattle.turn.proofs.Turns.{same_end}
-use Rattle.correct.specs.declared.Counts.{Counts}
-use Rattle.correct.specs.Pass.{counts_of, Tally, with_bases, tally_of}
+use Rattle.correct.specs.Pass.{Tally, with_bases, tally_of}
 use Rattle.correct.specs.Drive.{CountsAre}
 
--- put are the bytes put out by now, which stand in out where they are no more than the limit: the end from here is `end`.
-pub record Reached (bytes : List ℕ) (head : Header) (counts : List ℕ) (method c : ℕ) (p : Place) (read : List ℕ) (limit : ℕ) (out : List ℕ) (end : Pass) : Type 0 where
-  pub put : List ℕ
-  pub many : length put ≡ p.written
-  pub here : p.written ≤ limit → take p.written out ≡ put
-  pub same : end_of bytes head counts method c (state_of p read put) ≡ end
+-- what is done, with so many bases
+abbrev pub ended : Counts → ℕ → Counts
+ended n w =
+    record {
+      written = n.written;
+      turns = n.turns;
+      lookups = n.lookups;
+      attempts = n.attempts;
+      accepted = n.accepted;
+      support = n.support;
+      bases = w;
+    }
 
-module _ {bytes : List ℕ} {head : Header} {counts : List ℕ} {method c : ℕ} {p : Place} {read : List ℕ} {limit : ℕ} {out : List ℕ} {end : Pass}
-    (r : Reached bytes head counts method c p read limit out end) where
+-- put are the bytes put out by now, which stand in out where they are no more than the limit: the end from here is `end`.
+pub record Reached (set : KmerSet) (method c : ℕ) (p : Place) (read : List ℕ) (limit : ℕ) (out : List ℕ) (end : Pass) : Type 0 where
+  pub put : List ℕ
+  pub many : length put ≡ p.done.written
+  pub here : p.done.written ≤ limit → take p.done.written out ≡ put
+  pub same : end_of set method c (state_of p read put) ≡ end
+
+module _ {set : KmerSet} {method c : ℕ} {p : Place} {read : List ℕ} {limit : ℕ} {out : List ℕ} {end : Pass}
+    (r : Reached set method c p read limit out end) where
   -- a turn further, to an output out' in which what it put out stands behind the rest
-  pub reached-next : {starts : List ℕ} → Turning bytes starts head counts method c p read → {part out' : List ℕ} {p' : Place}
-      → (went : (put : List ℕ) → Went bytes head counts method c p read put part p')
-      → (p'.written ≤ limit → take p'.written out' ≡ r.put ++ (went r.put).more) → Reached bytes head counts method c p' read limit out' end
+  pub reached-next : Turning set method c p read → {part out' : List ℕ} {p' : Place}
+      → (went : (put : List ℕ) → Went set method c p read put part p')
+      → (p'.done.written ≤ limit → take p'.done.written out' ≡ r.put ++ (went r.put).more) → Reached set method c p' read limit out' end
   reached-next t went here =
       let w = went r.put in
       record {
         put = r.put ++ w.more;
         many = length-append r.put w.more ∙ ap (λ (n : ℕ). n + length w.more) r.many ∙ sym w.many;
         here = here;
-        same = same_end _ _ _ _ _ _ _ _ t r.put _ _ w ∙ r.same;
+        same = same_end t r.put _ _ w ∙ r.same;
       }
 
   -- no base is left
   at-end : length read ≤ p.at → end ≡ (state_of p read r.put).done
   unfolding state_of
   at-end over =
-      let set = set_with bytes counts in
       let left = drop_of_length-le read {i = p.at} over in
-      sym r.same ∙ ap (λ (q : State). q.done) (finish-end head.k (solid set) (count_of set) (attempt_of bytes counts method c) (state_of p read r.put) left)
+      sym r.same ∙ ap (λ (q : State). q.done) (finish-end set.head.k (solid (offered set)) (count_of (offered set)) (attempt_of set method c) (state_of p read r.put) left)
 
-  pub reached-end : (w : ℕ) → length read ≤ p.at → CountsAre (with_bases end w) (counts_of p w)
+  pub reached-end : (w : ℕ) → length read ≤ p.at → CountsAre (with_bases end w) (ended p.done w)
   unfolding state_of
   reached-end w over = rw (at-end over) (record { bytes = r.many; turns = refl; lookups = refl; attempts = refl; accepted = refl; support = refl; bases = refl })
 
-  pub reached-bytes : length read ≤ p.at → p.written ≤ limit → take p.written out ≡ end.bytes
+  pub reached-bytes : length read ≤ p.at → p.done.written ≤ limit → take p.done.written out ≡ end.bytes
   unfolding state_of
   reached-bytes over e = r.here e ∙ ap (λ (n : Pass). n.bytes) (sym (at-end over))
 

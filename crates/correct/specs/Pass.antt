@@ -1,5 +1,5 @@
 -- A pass: what its answer means by the rules.
-use Rattle.std.specs.Prelude.{ℕ, ◌+◌, ◌*◌, ◌≤◌, ◌<◌, ◌≡◌, List, length, take}
+use Rattle.std.specs.Prelude.{ℕ, ◌+◌, ◌*◌, ◌≤◌, ◌<◌, ◌≡◌, List, length, take, Result, Ok, Err}
 use Rattle.std.proofs.Math.Option.{Option, none}
 use Rattle.rules.specs.Letters as letters
 use Rattle.rules.specs.Set.{KmerSet, set_of, solid}
@@ -8,47 +8,28 @@ use Rattle.rules.specs.Driver as rules
 use Rattle.rules.specs.Job.{Entry, pass}
 use Rattle.rules.specs.Counts.{w_of}
 use Rattle.rules.specs.Calls.{max_read}
-use Rattle.kmer.specs.declared.shifts.Header.{Header}
 use Rattle.kmer.specs.declared.Kmer.{Kmer}
 use Rattle.kmer.specs.Kmer.{kmer_of, HasLetters}
+use Rattle.set.specs.declared.ready.KmerSet as opened
 use Rattle.set.specs.declared.Asked.{Asked}
 use Rattle.set.specs.Asked.{AskedIs}
 use Rattle.support.specs.Support.{support_of}
+use Rattle.turn.specs.declared.Counts.{Counts}
 use Rattle.turn.specs.declared.Place.{Place}
-use Rattle.correct.specs.declared.Counts.{Counts}
-use Rattle.correct.specs.declared.Pass.{Pass}
-use Rattle.correct.specs.declared.Pass.TheVariants.{Done, Full}
+use Rattle.turn.specs.declared.Full.{Full}
 
 -- The first k-mer of the read, asked; as the rules' `begin`.
-pub record Begun (bytes : List ℕ) (head : Header) (read : List ℕ) (r : Place) : Type 0 where
+pub record Begun (set : opened.KmerSet) (read : List ℕ) (r : Place) : Type 0 where
   pub kmer : Kmer
-  pub letters : HasLetters head.k (letters.kmer head.k (take head.k read)) kmer
+  pub letters : HasLetters set.head.k (letters.kmer set.head.k (take set.head.k read)) kmer
   pub asked : Asked
-  pub answer : AskedIs (ask (solid (set_of bytes)) (kmer_of kmer)) asked
+  pub answer : AskedIs (ask (solid (set_of set.bytes.now)) (kmer_of kmer)) asked
   pub is : r ≡ record {
     kmer = kmer;
     previous = asked.solid;
-    at = head.k;
-    written = head.k;
-    turns = 0;
-    lookups = asked.lookups;
-    attempts = 0;
-    accepted = 0;
-    support = 0;
+    at = set.head.k;
+    done = record { written = set.head.k; turns = 0; lookups = asked.lookups; attempts = 0; accepted = 0; support = 0; bases = 0 };
   }
-
--- What is done at a place, of a pass with so many bases beyond the first k.
-abbrev pub counts_of : Place → ℕ → Counts
-counts_of p w =
-    record {
-      written = p.written;
-      turns = p.turns;
-      lookups = p.lookups;
-      attempts = p.attempts;
-      accepted = p.accepted;
-      support = p.support;
-      bases = w;
-    }
 
 -- Nothing done to a read of that length.
 abbrev pub unchanged_by : ℕ → Counts
@@ -99,10 +80,10 @@ tally_of n out =
 abbrev pub returned : List ℕ → rules.Pass
 returned read = record { bytes = read; turns = 0; lookups = 0; attempts = 0; accepted = 0; support = none }
 
--- The answer to a pass n: its counts, and its bytes at the front of the output; Full where they are more than its room.
-abbrev pub PassIs : ℕ → List ℕ → Tally → Pass → Type 0
-PassIs room out n (Done r) = (tally_of r out ≡ n) × (r.written ≤ length out)
-PassIs room out n Full = room < length n.bytes
+-- The answer to a pass n: its counts, and its bytes at the front of the output; full where they are more than its room.
+abbrev pub PassIs : ℕ → List ℕ → Tally → Result Counts Full → Type 0
+PassIs room out n (Ok r) = (tally_of r out ≡ n) × (r.written ≤ length out)
+PassIs room out n (Err full) = room < length n.bytes
 
 -- The largest F of demand 3: GapSize's, at k = 31, confirm 255 and 16,777,216 keys.
 abbrev pub max_f : ℕ
@@ -116,7 +97,7 @@ pub record Small (i : ℕ) (p : Tally) : Type 0 where
   pub accepted : p.accepted ≤ i * (2 * max_read)
   pub bases : p.bases ≤ i * max_read
 
-pub record Passed (out out' : List ℕ) (n : Tally) (r : Pass) : Type 0 where
+pub record Passed (out out' : List ℕ) (n : Tally) (r : Result Counts Full) : Type 0 where
   pub is : PassIs (length out) out' n r
   pub room : length out' ≡ length out
   pub small : Small 1 n

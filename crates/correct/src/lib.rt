@@ -4,76 +4,40 @@
 
 ghost use Rattle.std.specs.Prelude.{◌≡◌, ◌≤◌, length, take};
 ghost use Rattle.rules.specs.Job.{entry};
-ghost use Rattle.set.specs.Ready.{Ready};
-ghost use Rattle.set.specs.Counted.{set_with};
 ghost use Rattle.rules.specs.Calls.{max_read};
-ghost use Rattle.correct.specs.Pass.{Begun, counts_of, unchanged_by, with_bases, one_pass, returned, PassIs, Passed};
+ghost use Rattle.turn.specs.Turn.{offered};
+ghost use Rattle.correct.specs.Pass.{Begun, unchanged_by, with_bases, one_pass, returned, PassIs, Passed};
 ghost use Rattle.correct.specs.Drive.{Driving, Driven};
 
-use kmer::{Header, Kmer};
-use turn::{Place, Turned};
-
-// What was written and counted, the smallest count behind the accepted corrections, if there are any, and the bases beyond the first k (W).
-#[derive(Clone, Copy)]
-pub struct Counts {
-    pub written: usize,
-    pub turns: u64,
-    pub lookups: u64,
-    pub attempts: u64,
-    pub accepted: u64,
-    pub support: u32,
-    pub bases: u64,
-}
-
-// Full: the result is longer than the output.
-#[derive(Clone, Copy)]
-pub enum Pass {
-    Done(Counts),
-    Full,
-}
+use kmer::Kmer;
+use set::KmerSet;
+use turn::Place;
+pub use turn::{Counts, Full};
 
 pub fn copy(src: &[u8], dst: &mut [u8])
     requires { length src.now ≤ length dst.old }
     ensures { take (length src.now) dst.new ≡ src.now }
 {
-    for i in 0..src.len() {
-        dst[i] = src[i];
-    }
+    dst[..src.len()].copy_from_slice(src);
 }
 
 // The first k-mer, asked. Its letters count as put out.
-pub fn begin(set: &[u8], starts: &[u32], head: Header, read: &[u8]) -> Place
-    requires { Ready set.now starts.now head × (head.k ≤ length read.now) }
-    ensures { Begun set.now head read.now result }
+pub fn begin(set: &KmerSet, read: &[u8]) -> Place
+    requires { set.now.head.k ≤ length read.now }
+    ensures { Begun set.now read.now result }
 {
-    let k = head.k;
-    let kmer = kmer::seq2bit(read, head);
-    let asked = set::ask(set, starts, head, kmer);
+    let k = set.head.k;
+    let kmer = kmer::seq2bit(read, set.head);
+    let asked = set.ask(kmer);
     Place {
         kmer,
         previous: asked.solid,
         at: k,
-        written: k,
-        turns: 0,
-        lookups: asked.lookups,
-        attempts: 0,
-        accepted: 0,
-        support: 0,
-    }
-}
-
-// What is done at the end of a pass with so many bases beyond the first k.
-fn counts_of(p: Place, bases: u64) -> Counts
-    ensures { result ≡ counts_of p bases }
-{
-    Counts {
-        written: p.written,
-        turns: p.turns,
-        lookups: p.lookups,
-        attempts: p.attempts,
-        accepted: p.accepted,
-        support: p.support,
-        bases,
+        done: Counts {
+            written: k,
+            lookups: asked.lookups,
+            ..Counts::default()
+        },
     }
 }
 
@@ -83,12 +47,7 @@ pub fn unchanged(len: usize) -> Counts
 {
     Counts {
         written: len,
-        turns: 0,
-        lookups: 0,
-        attempts: 0,
-        accepted: 0,
-        support: 0,
-        bases: 0,
+        ..Counts::default()
     }
 }
 
@@ -97,22 +56,19 @@ pub fn unchanged(len: usize) -> Counts
 // beyond the limit are counted on. One loop for both, so that the turn becomes part of it: its stack frame has GapSize's filters, too much
 // to lay out anew for every base.
 pub fn turns_of(
-    set: &[u8],
-    starts: &[u32],
-    head: Header,
-    counts: &[u32],
+    set: &KmerSet,
     method: u8,
     c: u8,
     first: Place,
     read: &[u8],
     limit: usize,
     out: &mut [u8],
-) -> Pass
-    requires { Driving set.now starts.now head counts.now method c first read.now limit out.old }
-    ensures { Driven set.now head counts.now method c first read.now limit out.old out.new result }
+) -> Result<Counts, Full>
+    requires { Driving set.now method c first read.now limit out.old }
+    ensures { Driven set.now method c first read.now limit out.old out.new result }
 {
     let mut p = first;
-    let mut ahead = scan::first_ahead(head.n, read.len());
+    let mut ahead = scan::first_ahead(set.head.n, read.len());
     while p.at < read.len() {
         if ahead <= p.at {
             // A copy: what is lent to a call lies in memory, and the pass's own k-mer need not.
@@ -121,69 +77,50 @@ pub fn turns_of(
                 rev: p.kmer.rev,
                 unknown: p.kmer.unknown,
             };
-            ahead = scan::read_ahead(set, starts, head, kmer, read, p.at);
+            ahead = scan::read_ahead(set.bytes, set.starts, set.head, kmer, read, p.at);
         }
-        let from = number::lesser(p.written, limit);
-        let turned = turn::turn(
-            set,
-            starts,
-            head,
-            counts,
-            method,
-            c,
-            p,
-            read,
-            &mut out[from..],
-        );
-        let Turned::To(next) = turned else {
-            return Pass::Full;
-        };
-        p = next;
+        let from = p.done.written.min(limit);
+        p = turn::turn(set, method, c, p, read, &mut out[from..])?;
     }
-    Pass::Done(counts_of(p, (read.len() - head.k) as u64))
+    let bases = (read.len() - set.head.k) as u64;
+    Ok(Counts { bases, ..p.done })
 }
 
 // The read as it is.
-pub fn copied(read: &[u8], out: &mut [u8]) -> Pass
+pub fn copied(read: &[u8], out: &mut [u8]) -> Result<Counts, Full>
     ensures { PassIs (length out.old) out.new (with_bases (returned read.now) 0) result }
 {
     if out.len() < read.len() {
-        return Pass::Full;
+        return Err(Full);
     }
-    copy(read, out);
-    Pass::Done(unchanged(read.len()))
+    out[..read.len()].copy_from_slice(read);
+    Ok(unchanged(read.len()))
 }
 
 // One pass. Shorter than k: unchanged. Else the first k-mer is asked, and copied, and the turns come.
 pub fn correct(
-    set: &[u8],
-    starts: &[u32],
-    head: Header,
-    counts: &[u32],
+    set: &KmerSet,
     method: u8,
     c: u8,
     read: &[u8],
     out: &mut [u8],
-) -> Pass
-    requires { Ready set.now starts.now head × (1 ≤ c) × (length read.now ≤ max_read) }
-    ensures { Passed out.old out.new (one_pass (set_with set.now counts.now) (entry method c) read.now) result }
+) -> Result<Counts, Full>
+    requires { (1 ≤ c) × (length read.now ≤ max_read) }
+    ensures { Passed out.old out.new (one_pass (offered set.now) (entry method c) read.now) result }
 {
-    let k = head.k;
+    let k = set.head.k;
     if read.len() < k {
         return copied(read, out);
     }
-    if out.len() < k {
-        return Pass::Full;
-    }
-    copy(&read[..k], out);
-    let first = begin(set, starts, head, read);
     let room = out.len();
-    let passed = turns_of(set, starts, head, counts, method, c, first, read, room, out);
-    let Pass::Done(done) = passed else {
-        return Pass::Full;
-    };
-    if room < done.written {
-        return Pass::Full;
+    if room < k {
+        return Err(Full);
     }
-    Pass::Done(done)
+    out[..k].copy_from_slice(&read[..k]);
+    let first = begin(set, read);
+    let done = turns_of(set, method, c, first, read, room, out)?;
+    if room < done.written {
+        return Err(Full);
+    }
+    Ok(done)
 }

@@ -1,137 +1,158 @@
-use Prim.Native.Nat.{ℕ, ◌≤◌}
+use Prim.Native.Nat.{ℕ, ◌≤◌, ◌<◌}
 use native.Mathlib.Omega.{arith}
 use mathlib.Core.Path.{◌≡◌, refl, sym, ap, ◌∙◌, subst}
-use mathlib.Core.List.{List}
-use lib.ListN.{length, take}
-use lib.Seq.{length-take-le}
+use mathlib.Core.Bool.{false≢true}
+use mathlib.Core.List.{List, ◌++◌}
+use lib.ListN.{length, take, drop, length-append, length-drop}
+use lib.Seq.{length-take-le, take-append_seam}
+use Rattle.std.specs.Prelude.{Result, Ok, Err, IsErr}
 use Rattle.rules.specs.Job.{entry, pass}
-use Rattle.set.specs.Counted.{set_with}
-use Rattle.correct.specs.declared.Pass.{Pass}
+use Rattle.turn.specs.declared.Counts.{Counts}
+use Rattle.turn.specs.declared.Place.{Place}
+use Rattle.turn.specs.declared.Full.{Full}
+use Rattle.turn.specs.Turn.{offered, state_of, Countable, end_of}
 use Rattle.correct.specs.Pass.{Tally, one_pass, PassIs, Passed, Small}
 use Rattle.correct.specs.Drive.{DriveIs}
-use Rattle.turn.specs.declared.Place.{Place}
-use Rattle.turn.specs.Turn.{state_of, Countable, end_of}
 use Rattle.correct.proofs.Reached.{kept-pass}
 use Rattle.correct.proofs.Limits.{pass-limited}
 use Rattle.correct.proofs.Passes.{countable, one-pass-small, pass-short, pass-long, pass-begun, tally-begun, begun-stands}
-use Rattle.correct.proofs.correct.Goals.{After-begin-first, After-copy, After-turns_of-passed, Start}
+use Rattle.correct.proofs.correct.Goals.{After-begin-first, After-copy_from_slice, After-turns_of, Start}
 use Rattle.correct.proofs.correct.Goals as goal
 
+-- The pass.
+abbrev passed : Start → Tally
+passed c = (let a = c.args in one_pass (offered a.set.now) (entry a.method a.c) a.read.now)
+
 -- Its counts are those of one pass.
-one-pass : (c : Start) → Small 1 (one_pass (set_with c.args.set.now c.args.counts.now) (entry c.args.method c.args.c) c.args.read.now)
+one-pass : (c : Start) → Small 1 (passed c)
 one-pass c =
     let a = c.args in
-    one-pass-small _ _ a.head c.requires.0 a.counts.now a.method a.c a.read.now c.requires.2
-    (pass-limited _ a.counts.now c.requires.0.table.opens a.c c.requires.1 c.ranges.c.fits a.method a.read.now)
+    one-pass-small a.set.now a.method a.c a.read.now c.requires.1 (pass-limited a.set.now a.c c.requires.0 c.ranges.c.fits a.method a.read.now)
 
 pub returns-then-read-k : goal.returns-then-read-k
 returns-then-read-k c =
     let a = c.args in
     record {
-      is = rw (pass-short _ _ a.head c.requires.0 a.counts.now a.method a.c a.read.now c.if-read-k.true) c.copied.ensures;
+      is = rw (pass-short a.set.now a.method a.c a.read.now c.if-read-k.true) c.copied.ensures;
       room = c.copied.auto.out;
       small = one-pass (goal.at.returns-then-read-k c).Start;
     }
 
-pub returns-then-out-k : goal.returns-then-out-k
+pub returns-then-room-k : goal.returns-then-room-k
 unfolding one_pass
-returns-then-out-k c =
+returns-then-room-k c =
     let a = c.args in
     record {
-      is = omega (arith, pass-long _ _ a.head c.requires.0 a.counts.now a.method a.c a.read.now c.if-read-k.false, c.if-out-k.true);
+      is = omega (arith, pass-long a.set.now a.method a.c a.read.now c.if-read-k.false, c.if-room-k.true);
       room = refl;
-      small = one-pass (goal.at.returns-then-out-k c).Start;
+      small = one-pass (goal.at.returns-then-room-k c).Start;
     }
 
-pub slice_bounds-copy-end : goal.slice_bounds-copy-end
-slice_bounds-copy-end c =
-    let a = c.args in
-    sym (length-take-le a.head.k a.read.now c.if-read-k.false)
+-- The buffer with the first k-mer copied.
+abbrev buffer : After-copy_from_slice → List ℕ
+buffer c = c.copy_from_slice.new.self ++ drop c.args.set.now.head.k c.args.out.now
 
-pub copy-requires : goal.copy-requires
-copy-requires c =
+first-length : (c : After-copy_from_slice) → length c.copy_from_slice.new.self ≡ c.args.set.now.head.k
+first-length c =
     let a = c.args in
-    omega (arith, length-take-le a.head.k a.read.now c.if-read-k.false, c.if-out-k.false)
+    c.copy_from_slice.ensures.len ∙ length-take-le a.set.now.head.k a.out.now c.if-room-k.false
 
--- The first k-mer, copied.
-first-copied : (c : After-copy) → (let a = c.args in take a.head.k c.copy.new.dst ≡ take a.head.k a.read.now)
+first-copied : (c : After-copy_from_slice) → let a = c.args in take a.set.now.head.k (buffer c) ≡ take a.set.now.head.k a.read.now
 first-copied c =
-    let a = c.args in
-    rw (length-take-le a.head.k a.read.now c.if-read-k.false) at c.copy.ensures
+    let first = c.copy_from_slice.new.self in
+    ap (λ (i : ℕ). take i (buffer c)) (sym (first-length c)) ∙ take-append_seam first (drop c.args.set.now.head.k c.args.out.now) ∙ c.copy_from_slice.ensures.after
+
+buffer-length : (c : After-copy_from_slice) → length (buffer c) ≡ length c.args.out.now
+buffer-length c =
+    let k = c.args.set.now.head.k in
+    let out = c.args.out.now in
+    omega (arith, length-append c.copy_from_slice.new.self (drop k out), first-length c, length-drop k out, c.if-room-k.false)
 
 -- The first k-mer counts as put out.
 first-put : (c : After-begin-first)
-    → let a = c.args in
-    (length (take a.head.k a.read.now) ≡ c.begin-first.result.written)
-    × (c.begin-first.result.written ≤ length c.copy.new.dst → take c.begin-first.result.written c.copy.new.dst ≡ take a.head.k a.read.now)
+    → let k = c.args.set.now.head.k in
+    let written = c.begin-first.result.done.written in
+    let out = buffer (goal.at.After-begin-first c).After-copy_from_slice in
+    (length (take k c.args.read.now) ≡ written) × (written ≤ length c.args.out.now → take written out ≡ take k c.args.read.now)
 first-put c =
     let a = c.args in
-    let is = ap (λ (q : Place). q.written) c.begin-first.ensures.is in (
-      length-take-le a.head.k a.read.now c.if-read-k.false ∙ sym is,
-      λ e. ap (λ (i : ℕ). take i c.copy.new.dst) is ∙ first-copied (goal.at.After-begin-first c).After-copy,
-    )
+    let k = a.set.now.head.k in
+    let at = (goal.at.After-begin-first c).After-copy_from_slice in
+    let is = ap (λ (q : Place). q.done.written) c.begin-first.ensures.is in
+    (length-take-le k a.read.now c.if-read-k.false ∙ sym is, λ e. ap (λ (i : ℕ). take i (buffer at)) is ∙ first-copied at)
 
 -- The pass from its first place.
 begun : (c : After-begin-first)
     → let a = c.args in
-    end_of a.set.now a.head a.counts.now a.method a.c (state_of c.begin-first.result a.read.now (take a.head.k a.read.now))
-    ≡ pass (set_with a.set.now a.counts.now) (entry a.method a.c) a.read.now
+    end_of a.set.now a.method a.c (state_of c.begin-first.result a.read.now (take a.set.now.head.k a.read.now))
+    ≡ pass (offered a.set.now) (entry a.method a.c) a.read.now
 begun c =
     let a = c.args in
-    pass-begun _ _ a.head c.requires.0 a.counts.now a.method a.c a.read.now c.begin-first.ensures c.if-read-k.false
+    pass-begun a.set.now a.method a.c a.read.now c.begin-first.ensures c.if-read-k.false
 
-pub turns_of-passed-requires : goal.turns_of-passed-requires
-turns_of-passed-requires c =
+pub turns_of-requires : goal.turns_of-requires
+turns_of-requires c =
     let a = c.args in
     let b = c.begin-first.ensures in
+    let at = (goal.at.turns_of-requires c).After-begin-first in
+    let put = first-put at in
     record {
-      ready = c.requires.0;
-      confirm = c.requires.1;
+      confirm = c.requires.0;
       long = c.if-read-k.false;
-      stands = begun-stands _ _ a.head c.requires.0 a.counts.now a.method a.c a.read.now b c.if-read-k.false;
-      put = take a.head.k a.read.now;
-      many = (first-put (goal.at.turns_of-passed-requires c).After-begin-first).0;
-      here = (first-put (goal.at.turns_of-passed-requires c).After-begin-first).1;
-      countable = subst Countable (sym (begun (goal.at.turns_of-passed-requires c).After-begin-first))
-          (countable _ _ c.requires.2 (pass-limited _ a.counts.now c.requires.0.table.opens a.c c.requires.1 c.ranges.c.fits a.method a.read.now));
-      room = omega (arith, ap (λ (q : Place). q.written) b.is, c.copy.auto.dst, c.if-out-k.false);
+      stands = begun-stands a.set.now a.method a.c a.read.now b c.if-read-k.false;
+      put = take a.set.now.head.k a.read.now;
+      many = put.0;
+      here = put.1;
+      countable = subst Countable (sym (begun at))
+          (countable _ _ c.requires.1 (pass-limited a.set.now a.c c.requires.0 c.ranges.c.fits a.method a.read.now));
+      room = omega (arith, buffer-length (goal.at.After-begin-first at).After-copy_from_slice);
     }
 
 -- What the turns gave.
-abbrev after : After-turns_of-passed → List ℕ
-after c = c.turns_of-passed.new.out
+abbrev after : After-turns_of → List ℕ
+after c = c.turns_of.new.out
 
-abbrev Gave : After-turns_of-passed → Pass → Type 0
-Gave c =
-    let a = c.args in
-    DriveIs (length c.copy.new.dst) a.read.now c.copy.new.dst (after c) (one_pass (set_with a.set.now a.counts.now) (entry a.method a.c) a.read.now)
+abbrev started : After-turns_of → List ℕ
+started c = buffer (goal.at.After-turns_of c).After-copy_from_slice
 
-gave : (c : After-turns_of-passed) → Gave c c.turns_of-passed.result
+same-room : (c : After-turns_of) → length (after c) ≡ length c.args.out.now
+same-room c = c.turns_of.auto.out ∙ buffer-length (goal.at.After-turns_of c).After-copy_from_slice
+
+abbrev Gave : After-turns_of → Result Counts Full → Type 0
+Gave c = let a = c.args in DriveIs (length a.out.now) a.read.now (started c) (after c) (passed (goal.at.After-turns_of c).Start)
+
+gave : (c : After-turns_of) → Gave c c.turns_of.result
 gave c =
     let a = c.args in
-    let tally =
-    tally-begun _ _ a.head c.requires.0 a.counts.now a.method a.c a.read.now c.begin-first.ensures c.if-read-k.false in
-    subst (λ (n : Tally). DriveIs (length c.copy.new.dst) a.read.now c.copy.new.dst (after c) n c.turns_of-passed.result) tally
-    (c.turns_of-passed.ensures (take a.head.k a.read.now) (first-put (goal.at.After-turns_of-passed c).After-begin-first).0 (first-put (goal.at.After-turns_of-passed c).After-begin-first).1)
+    let tally = tally-begun a.set.now a.method a.c a.read.now c.begin-first.ensures c.if-read-k.false in
+    let put = first-put (goal.at.After-turns_of c).After-begin-first in
+    subst (λ (n : Tally). DriveIs (length a.out.now) a.read.now (started c) (after c) n c.turns_of.result) tally
+    (c.turns_of.ensures (take a.set.now.head.k a.read.now) put.0 put.1)
 
 -- How the pass ends.
-ends : (c : After-turns_of-passed) (r : Pass)
-    → let a = c.args in
-    let n = one_pass (set_with a.set.now a.counts.now) (entry a.method a.c) a.read.now in
-    PassIs (length a.out.now) (after c) n r → Passed a.out.now (after c) n r
-ends c r h =
-    record { is = h; room = c.turns_of-passed.auto.out ∙ c.copy.auto.dst; small = one-pass (goal.at.After-turns_of-passed c).Start }
+ends : (c : After-turns_of) (r : Result Counts Full)
+    → let n = passed (goal.at.After-turns_of c).Start in
+    PassIs (length c.args.out.now) (after c) n r → Passed c.args.out.now (after c) n r
+ends c r h = record { is = h; room = same-room c; small = one-pass (goal.at.After-turns_of c).Start }
 
-pub returns-in_default : goal.returns-in_default
-returns-in_default c =
-    ends (goal.at.returns-in_default c).After-turns_of-passed _ (omega (arith, (subst (Gave (goal.at.returns-in_default c).After-turns_of-passed) c.in_default.is (gave (goal.at.returns-in_default c).After-turns_of-passed)).0, c.copy.auto.dst))
+full : (room : ℕ) (out : List ℕ) (n : Tally) (r : Result Counts Full) → IsErr r → room < length n.bytes → PassIs room out n r
+full room out n (Err e) is h = h
+full room out n (Ok r) is h = absurd (false≢true is)
+
+pub returns-in_err-done : goal.returns-in_err-done
+returns-in_err-done c =
+    let at = (goal.at.returns-in_err-done c).After-turns_of in
+    let short = (subst (Gave at) c.in_err-done.was (gave at)).0 in
+    ends at _ (full _ _ _ _ c.from_residual.ensures.0 (omega (arith, short, buffer-length (goal.at.After-turns_of at).After-copy_from_slice)))
 
 pub returns-then-room-done : goal.returns-then-room-done
 returns-then-room-done c =
-    ends (goal.at.returns-then-room-done c).After-turns_of-passed _ (omega (arith, (subst (Gave (goal.at.returns-then-room-done c).After-turns_of-passed) c.in-Done.is (gave (goal.at.returns-then-room-done c).After-turns_of-passed)).0.bytes, c.if-room-done.true, c.copy.auto.dst))
+    let at = (goal.at.returns-then-room-done c).After-turns_of in
+    ends at _ (omega (arith, (subst (Gave at) c.in_ok-done.was (gave at)).0.bytes, c.if-room-done.true))
 
 pub returns : goal.returns
 returns c =
-    let done = subst (Gave (goal.at.returns c).After-turns_of-passed) c.in-Done.is (gave (goal.at.returns c).After-turns_of-passed) in
+    let at = (goal.at.returns c).After-turns_of in
+    let done = subst (Gave at) c.in_ok-done.was (gave at) in
     let fits = c.if-room-done.false in
-    ends (goal.at.returns c).After-turns_of-passed _ (kept-pass (after (goal.at.returns c).After-turns_of-passed) _ _ done.0 (done.1 fits), omega (arith, fits, c.turns_of-passed.auto.out))
+    ends at _ (kept-pass (after at) _ _ done.0 (done.1 fits), omega (arith, fits, same-room at))

@@ -1,12 +1,11 @@
-use Prim.Native.Nat.{ℕ, ◌-◌, ◌≤◌}
+use Prim.Native.Nat.{ℕ, ◌≤◌}
 use mathlib.Core.Path.{◌≡◌}
 use mathlib.Core.List.{List}
 use lib.ListN.{length, take, drop}
 use Rattle.rules.specs.Set.{solid}
 use Rattle.rules_laws.proofs.Driver.{left}
 use Rattle.kmer.specs.Kmer.{kmer_of}
-use Rattle.set.specs.Counted.{set_with}
-use Rattle.turn.specs.Turn.{state_of, Stands, attempt_of, end_of}
+use Rattle.turn.specs.Turn.{offered, state_of, Stands, attempt_of, end_of}
 use Rattle.correct.proofs.Reached.{Reached}
 use Rattle.correct.proofs.turns_of.Given as goal
 
@@ -14,11 +13,11 @@ use Rattle.correct.proofs.turns_of.Given as goal
 -- more than the limit stand in the buffer. The measure: the turns that can still come.
 abbrev pub invariant-loop-p : goal.invariant-loop-p
 invariant-loop-p l =
-    Stands l.head.k l.p l.read
+    let first = l.initial.p in
+    Stands l.set.head.k l.p l.read
     × (length l.out ≡ length l.initial.out)
-    × ((put : List ℕ) → length put ≡ l.initial.p.written → (l.initial.p.written ≤ l.limit → take l.initial.p.written l.initial.out ≡ put)
-    → Reached l.set l.head l.counts l.method l.c l.p l.read l.limit l.out (end_of l.set l.head l.counts l.method l.c (state_of l.initial.p l.read put)))
+    × ((put : List ℕ) → length put ≡ first.done.written → (first.done.written ≤ l.limit → take first.done.written l.initial.out ≡ put)
+    → Reached l.set l.method l.c l.p l.read l.limit l.out (end_of l.set l.method l.c (state_of first l.read put)))
 
 abbrev pub decreases-loop-p : goal.decreases-loop-p
-decreases-loop-p l =
-    left l.head.k (solid (set_with l.set l.counts)) (attempt_of l.set l.counts l.method l.c) (kmer_of l.p.kmer) (drop l.p.at l.read)
+decreases-loop-p l = left l.set.head.k (solid (offered l.set)) (attempt_of l.set l.method l.c) (kmer_of l.p.kmer) (drop l.p.at l.read)
