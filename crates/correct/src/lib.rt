@@ -77,7 +77,7 @@ pub fn turns_of(
                 rev: p.kmer.rev,
                 unknown: p.kmer.unknown,
             };
-            ahead = scan::read_ahead(set.bytes, set.starts, set.head, kmer, read, p.at);
+            ahead = scan::read_ahead(set, kmer, read, p.at);
         }
         let from = p.done.written.min(limit);
         p = turn::turn(set, method, c, p, read, &mut out[from..])?;
