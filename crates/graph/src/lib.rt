@@ -7,70 +7,37 @@ ghost use Rattle.rules.specs.Counted.{after};
 ghost use Rattle.rules.specs.Scan.{error_len};
 ghost use Rattle.rules.specs.Graph.{graph_from, graph};
 ghost use Rattle.kmer.specs.Kmer.{kmer_of, IsKmer};
-ghost use Rattle.set.specs.Ready.{Ready};
 ghost use Rattle.set.specs.Counted.{set_with};
 ghost use Rattle.scan.specs.Scan.{scan_of};
 ghost use Rattle.scan.specs.Attempt.{Attempted};
 
-use kmer::{Header, Kmer};
+use kmer::Kmer;
 use scan::{Attempt, Scan};
-use successors::Alt;
+use set::KmerSet;
 
 // Graph from a scan already made.
-pub fn from_scan(
-    set: &[u8],
-    starts: &[u32],
-    head: Header,
-    counts: &[u32],
-    scan: Scan,
-    kmer: Kmer,
-    out: &mut [u8],
-) -> Attempt
-    requires { Ready set.now starts.now head × IsKmer head.k kmer × (scan.index < 2 ^ 63) × (scan.lookups < 2 ^ 63) }
-    ensures { Attempted head.k (kmer_of kmer) (count_of (set_with set.now counts.now)) scan.index
+pub fn from_scan(set: &KmerSet, scan: Scan, kmer: Kmer, out: &mut [u8]) -> Attempt
+    requires { IsKmer set.now.head.k kmer × (scan.index < 2 ^ 63) × (scan.lookups < 2 ^ 63) }
+    ensures { Attempted set.now.head.k (kmer_of kmer) (count_of (set_with set.now.bytes.now set.now.counts.now)) scan.index
         out.old out.new
-        (after scan.lookups (graph_from head.k head.n (solid (set_of set.now)) (scan_of scan) (kmer_of kmer)))
+        (after scan.lookups (graph_from set.now.head.k set.now.head.n (solid (set_of set.now.bytes.now)) (scan_of scan) (kmer_of kmer)))
         result }
 {
-    let Alt::Kmer(x, place) = successors::sole_alt(set, starts, head, kmer) else {
-        let lookups = scan.lookups + successors::alt_cost(kmer, head);
+    let Some(alt) = successors::sole_alt(set, kmer) else {
+        let lookups = scan.lookups + successors::alt_cost(kmer, set.head);
         return Attempt::Refused(lookups);
     };
-    walk::walk(
-        set,
-        starts,
-        head,
-        counts,
-        scan,
-        x,
-        support::count_at(counts, place),
-        out,
-    )
+    let count = support::count_at(set.counts, alt.place);
+    walk::walk(set, scan, alt.kmer, count, out)
 }
 
 // kmer is the bad k-mer, s the rest of the read at its bad base.
-pub fn correct_error(
-    set: &[u8],
-    starts: &[u32],
-    head: Header,
-    counts: &[u32],
-    kmer: Kmer,
-    s: &[u8],
-    out: &mut [u8],
-) -> Attempt
-    requires { Ready set.now starts.now head × IsKmer head.k kmer × (1 ≤ length s.now) }
-    ensures { Attempted head.k (kmer_of kmer) (count_of (set_with set.now counts.now))
-        (error_len head.k (solid (set_of set.now)) (kmer_of kmer) s.now).index out.old out.new
-        (graph head.k head.n (solid (set_of set.now)) s.now (kmer_of kmer))
+pub fn correct_error(set: &KmerSet, kmer: Kmer, s: &[u8], out: &mut [u8]) -> Attempt
+    requires { IsKmer set.now.head.k kmer × (1 ≤ length s.now) }
+    ensures { Attempted set.now.head.k (kmer_of kmer) (count_of (set_with set.now.bytes.now set.now.counts.now))
+        (error_len set.now.head.k (solid (set_of set.now.bytes.now)) (kmer_of kmer) s.now).index out.old out.new
+        (graph set.now.head.k set.now.head.n (solid (set_of set.now.bytes.now)) s.now (kmer_of kmer))
         result }
 {
-    from_scan(
-        set,
-        starts,
-        head,
-        counts,
-        scan::error_len(set, starts, head, kmer, s),
-        kmer,
-        out,
-    )
+    from_scan(set, scan::error_len(set, kmer, s), kmer, out)
 }
