@@ -3,11 +3,11 @@
 
 ghost use Rattle.std.specs.Prelude.{[], ◌≡◌, length};
 ghost use Rattle.rules.specs.Calls.{correct_batch};
-ghost use Rattle.rules_program.specs.Program.{printed_for, zeros};
+ghost use Rattle.rules_program.specs.Program.{up_to, printed_for, zeros};
 ghost use Rattle.rules_program.specs.Program.{printed as Program·printed};
 ghost use Rattle.report.specs.Answer.{given};
 ghost use Rattle.page.specs.Page.{Page};
-ghost use Rattle.program.specs.Files.{files_of, taken, all_taken};
+ghost use Rattle.program.specs.Given.{file_of, files_of};
 ghost use Rattle.program.specs.Answered.{Answered};
 
 use report::Answer;
@@ -25,34 +25,26 @@ const MAX_JOB: usize = 64;
 
 const MAX_BATCH: usize = 16384;
 
-// Which files were read to their end.
+const BAD_FILE: &[u8] = b"bad file\n";
+
+// The files' bytes; none of a file that is missing or was not read to its end.
 #[derive(Clone, Copy)]
-pub struct Whole {
-    pub set: bool,
-    pub job: bool,
-    pub batch: bool,
+pub struct Files<'a> {
+    pub set: Option<&'a [u8]>,
+    pub job: Option<&'a [u8]>,
+    pub batch: Option<&'a [u8]>,
 }
 
-fn is_taken(whole: bool, length: usize, most: usize) -> bool
-    ensures { result ≡ taken whole length most }
+// A file's bytes, unless they are too many.
+fn taken(file: Option<&[u8]>, most: usize) -> Option<&[u8]>
+    ensures { file_of result ≡ up_to most (file_of file.entry) }
 {
-    whole && length <= most
-}
-
-// No file is missing or too long, and the job has no odd count of bytes.
-fn all_taken(whole: Whole, set: usize, job: usize, batch: usize) -> bool
-    ensures { result ≡ all_taken whole set job batch }
-{
-    if !is_taken(whole.set, set, MAX_SET) {
-        return false;
+    let bytes = file?;
+    if bytes.len() <= most {
+        Some(bytes)
+    } else {
+        None
     }
-    if !is_taken(whole.job, job, MAX_JOB) {
-        return false;
-    }
-    if !is_taken(whole.batch, batch, MAX_BATCH) {
-        return false;
-    }
-    job % 2 == 0
 }
 
 // The call. The page is empty, and its first bytes are the call's output.
@@ -79,12 +71,21 @@ fn put_answer(set: &[u8], job: &[u8], batch: &[u8], page: &mut [u8]) -> usize
 }
 
 // Puts on the page what the program prints, zeros behind it, and answers how many bytes that is.
-pub fn printed(whole: Whole, set: &[u8], job: &[u8], batch: &[u8], page: &mut [u8; PAGE]) -> usize
-    ensures { Page (Program·printed (files_of whole set.now job.now batch.now)) result page.new }
+pub fn printed(files: Files, page: &mut [u8; PAGE]) -> usize
+    ensures { Page (Program·printed (files_of files.entry)) result page.new }
 {
     input::clear(page, 0);
-    if !all_taken(whole, set.len(), job.len(), batch.len()) {
-        return page::put(page, 0, b"bad file\n");
+    let Some(set) = taken(files.set, MAX_SET) else {
+        return page::put(page, 0, BAD_FILE);
+    };
+    let Some(job) = taken(files.job, MAX_JOB) else {
+        return page::put(page, 0, BAD_FILE);
+    };
+    let Some(batch) = taken(files.batch, MAX_BATCH) else {
+        return page::put(page, 0, BAD_FILE);
+    };
+    if job.len() % 2 != 0 {
+        return page::put(page, 0, BAD_FILE);
     }
     put_answer(set, job, batch, page)
 }

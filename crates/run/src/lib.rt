@@ -1,19 +1,12 @@
 // Reads the files and writes what is printed for them. No contract can say what is read or written, so all else is done by `program::printed`.
 #![tactic(auto)]
 
-ghost use Rattle.std.specs.Prelude.{◌≤◌, length};
+ghost use Rattle.std.specs.Prelude.{◌≤◌, length, IfSome};
 
-use program::{PAGE, Whole};
+use program::PAGE;
 use std::io::Read;
 use std::rt::Files;
 use std::{fs, io};
-
-// How many bytes were read, and whether the file ends there.
-#[derive(Clone, Copy)]
-struct Got {
-    length: usize,
-    whole: bool,
-}
 
 // Reads until the buffer is full, the file ends or a read fails, and answers how many bytes stand at its start.
 fn read_full<F: Read>(file: &mut F, buffer: &mut [u8]) -> usize
@@ -30,33 +23,29 @@ fn read_full<F: Read>(file: &mut F, buffer: &mut [u8]) -> usize
     length
 }
 
-// One read more tells the end from a failure, and from a longer file.
-fn read_whole<F: Read>(file: &mut F, buffer: &mut [u8]) -> Got
-    ensures { result.length ≤ length buffer.new }
+// How many bytes a file has, put at the buffer's start; none if it is not read to its end. One read more tells the end from a failure, and from a
+// longer file. A file that was not opened, as a missing one, is one that cannot be read.
+fn read_file<F: Read + Drop>(file: io::Result<F>, buffer: &mut [u8]) -> Option<usize>
+    ensures { IfSome result (λ n. n ≤ length buffer.new) }
 {
-    let length = read_full(file, buffer);
+    let mut file = file.ok()?;
+    let length = read_full(&mut file, buffer);
     let mut more = [0u8; 1];
-    Got {
-        length: length,
-        whole: matches!(file.read(&mut more), Ok(0)),
-    }
+    matches!(file.read(&mut more), Ok(0)).then_some(length)
 }
 
-// A file that was not opened, as a missing one, is one that cannot be read.
-fn read_file<F: Read + Drop>(file: io::Result<F>, buffer: &mut [u8]) -> Got
-    ensures { result.length ≤ length buffer.new }
+// The bytes of a file that was read.
+fn part(buffer: &[u8], count: Option<usize>) -> Option<&[u8]>
+    requires { IfSome count (λ n. n ≤ length buffer.now) }
 {
-    match file {
-        Ok(mut opened) => read_whole(&mut opened, buffer),
-        Err(_) => Got {
-            length: 0,
-            whole: false,
-        },
+    match count {
+        Some(n) => Some(&buffer[..n]),
+        None => None,
     }
 }
 
-// The program over the files of these names and an open batch. Each buffer has a byte more than the file may have, so that `program::printed` sees a file that
-// is too long.
+// The program over the files of these names and an open batch. Each buffer has a byte more than the file may have, so that `program::printed` sees a
+// file that is too long.
 pub fn run<R: Files + Print, B: Read + Drop>(
     rt: &R,
     set_name: &str,
@@ -66,24 +55,15 @@ pub fn run<R: Files + Print, B: Read + Drop>(
     let mut set = [0u8; 65537];
     let mut job = [0u8; 65];
     let mut batch = [0u8; 16385];
-    let got_set = read_file(fs::open(rt, set_name), &mut set);
-    let got_job = read_file(fs::open(rt, job_name), &mut job);
-    let got_batch = read_file(batch_file, &mut batch);
-    let set_end = got_set.length;
-    let job_end = got_job.length;
-    let batch_end = got_batch.length;
-    let whole = Whole {
-        set: got_set.whole,
-        job: got_job.whole,
-        batch: got_batch.whole,
+    let set_length = read_file(fs::open(rt, set_name), &mut set);
+    let job_length = read_file(fs::open(rt, job_name), &mut job);
+    let batch_length = read_file(batch_file, &mut batch);
+    let files = program::Files {
+        set: part(&set, set_length),
+        job: part(&job, job_length),
+        batch: part(&batch, batch_length),
     };
     let mut page = [0u8; PAGE];
-    let length = program::printed(
-        whole,
-        &set[..set_end],
-        &job[..job_end],
-        &batch[..batch_end],
-        &mut page,
-    );
+    let length = program::printed(files, &mut page);
     rt.write_all(&page[..length])
 }

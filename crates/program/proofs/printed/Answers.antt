@@ -1,29 +1,51 @@
 use Prim.Native.Nat.{ℕ}
-use mathlib.Core.Path.{sym, ◌∙◌, subst}
+use mathlib.Core.Path.{◌≡◌, subst}
+use mathlib.Core.Option.{some}
 use mathlib.Core.List.{List, []}
 use borrow.Author.Rules.{rules}
+use Rattle.rules_program.specs.Program.{Files, bad_file, up_to, printed}
 use Rattle.page.specs.Page.{Page}
 use Rattle.page.proofs.Text.{cleared-page}
-use Rattle.program.proofs.Files.{prints-bad-file, prints-answer}
-use Rattle.program.proofs.printed.Goals.{After-all_taken}
+use Rattle.program.specs.Given.{files_of}
+use Rattle.program.proofs.Call.{not-taken, no-set, no-job, no-batch, odd-job, prints-answer}
+use Rattle.program.proofs.printed.Goals.{After-clear, In-Some, In-Some-taken, In-Some-taken-2}
 use Rattle.program.proofs.printed.Goals as goal
 
-empty : (c : After-all_taken) → Page [] 0 c.clear.new.buffer
+abbrev files : After-clear → Files
+files c = files_of c.args.files
+
+empty : (c : After-clear) → Page [] 0 c.clear.new.buffer
 empty c = cleared-page c.args.page.now c.clear.new.buffer (search rules) c.clear.ensures
 
-pub returns-then-not-all_taken : goal.returns-then-not-all_taken
-returns-then-not-all_taken c =
-    let a = c.args in
+pub returns-in_default : goal.returns-in_default
+returns-in_default c =
     subst (λ (x : List ℕ). Page x c.put.result c.put.new.page)
-    (prints-bad-file a.whole a.set.now a.job.now a.batch.now (sym c.all_taken.ensures ∙ c.if-not-all_taken.true))
-    (c.put.ensures.1 [] (empty (goal.at.returns-then-not-all_taken c).After-all_taken))
+    (no-set (files_of c.args.files) (not-taken c.taken.ensures c.in_default.is))
+    (c.put.ensures.1 [] (empty (goal.at.returns-in_default c).After-clear))
+
+pub returns-in_default-taken : goal.returns-in_default-taken
+returns-in_default-taken c =
+    subst (λ (x : List ℕ). Page x c.put-in_default-taken.result c.put-in_default-taken.new.page)
+    (no-job (files_of c.args.files) _ c.in-Some.ensures (not-taken c.taken-2.ensures c.in_default-taken.is))
+    (c.put-in_default-taken.ensures.1 [] (empty (goal.at.returns-in_default-taken c).After-clear))
+
+pub returns-in_default-taken-2 : goal.returns-in_default-taken-2
+returns-in_default-taken-2 c =
+    subst (λ (x : List ℕ). Page x c.put-in_default-taken-2.result c.put-in_default-taken-2.new.page)
+    (no-batch (files_of c.args.files) _ _ c.in-Some.ensures c.in-Some-taken.ensures (not-taken c.taken-3.ensures c.in_default-taken-2.is))
+    (c.put-in_default-taken-2.ensures.1 [] (empty (goal.at.returns-in_default-taken-2 c).After-clear))
+
+pub returns-then-job-ne0 : goal.returns-then-job-ne0
+returns-then-job-ne0 c =
+    subst (λ (x : List ℕ). Page x c.put-then-job-ne0.result c.put-then-job-ne0.new.page)
+    (odd-job (files_of c.args.files) _ _ c.in-Some.ensures c.in-Some-taken.ensures _ c.in-Some-taken-2.ensures c.if-job-ne0.true)
+    (c.put-then-job-ne0.ensures.1 [] (empty (goal.at.returns-then-job-ne0 c).After-clear))
 
 pub put_answer-requires : goal.put_answer-requires
-put_answer-requires c = empty (goal.at.put_answer-requires c).After-all_taken
+put_answer-requires c = empty (goal.at.put_answer-requires c).After-clear
 
 pub returns : goal.returns
 returns c =
-    let a = c.args in
     subst (λ (x : List ℕ). Page x c.put_answer.result c.put_answer.new.page)
-    (prints-answer a.whole a.set.now a.job.now a.batch.now (sym c.all_taken.ensures ∙ c.if-not-all_taken.false))
+    (prints-answer (files_of c.args.files) _ _ c.in-Some.ensures c.in-Some-taken.ensures _ c.in-Some-taken-2.ensures c.if-job-ne0.false)
     c.put_answer.ensures
