@@ -16,10 +16,9 @@ pub fn put(page: &mut [u8], at: usize, bytes: &[u8]) -> usize
     ensures { (result ≡ at + length bytes.now)
         × Puts page.old at bytes.now result page.new }
 {
-    for i in 0..bytes.len() {
-        page[at + i] = bytes[i];
-    }
-    at + bytes.len()
+    let end = at + bytes.len();
+    page[at..end].copy_from_slice(bytes);
+    end
 }
 
 // A word and a number, which has at most 20 digits.
@@ -50,8 +49,8 @@ pub fn put_refusal(page: &mut [u8], refusal: Refusal) -> usize
     requires { 128 ≤ length page.old }
     ensures { Puts page.old 0 (refusal_line (refusal_of refusal)) result page.new }
 {
-    let number = refusal::number_of(refusal);
-    let place = refusal::place_of(refusal);
+    let number = refusal.number();
+    let place = refusal.place();
     let middle = put_number(page, 0, b"refused ", number);
     let end = put_number(page, middle, b" place ", place);
     put(page, end, b"\n")
