@@ -1,16 +1,8 @@
 -- What the answers mean in the rules' terms.
-use Rattle.std.specs.Prelude.{ℕ, ◌+◌, ◌*◌, ◌-◌, ◌≤◌, ◌<◌, ◌≡◌, List, ◌∷◌, length, take, drop, Result, Ok, Err}
-use Rattle.std.proofs.Math.Option.{none, some}
-use Rattle.rules.specs.Refusal.{Check}
+use Rattle.std.specs.Prelude.{ℕ, ◌+◌, ◌*◌, ◌-◌, ◌≤◌, ◌<◌, ◌≡◌, List, ◌∷◌, length, take, drop}
 use Rattle.rules.specs.Job.{entry_count, entries_of, Confirmed, lines}
 use Rattle.rules.specs.Calls.{max_read, max_methods, max_output}
-use Rattle.refusal.specs.Refusal.{refusal_of}
-use Rattle.refusal.specs.declared.Refusal.{Refusal}
-
--- The rules' check: none where it lets pass.
-abbrev pub check_of : {A : Type 0} → Result A Refusal → Check
-check_of (Ok a) = none
-check_of (Err r) = some (refusal_of r)
+pub use Rattle.refusal.specs.Refusal.{check_of}
 
 -- The line from `from` on ends before `end`; the other lines follow.
 pub record LineAt (batch : List ℕ) (from end : ℕ) : Type 0 where

@@ -1,5 +1,6 @@
 -- The documents' number and place for each case.
-use Rattle.std.specs.Prelude.{ℕ}
+use Rattle.std.specs.Prelude.{ℕ, Result, Ok, Err}
+use Rattle.std.proofs.Math.Option.{none, some}
 use Rattle.rules.specs.Refusal as Rules
 use Rattle.refusal.specs.declared.Refusal.{Refusal}
 use Rattle.refusal.specs.declared.Refusal.TheVariants.{Long, Methods, Method, Confirm, Buffers, Batch, Length, Check, Header, Key, NoRoom, Line, NotRising, TooShort, Index, Counts, NotOne, Sequence, Edit, NotSolid}
@@ -28,3 +29,8 @@ refusal_of NotOne = numbered 17 0
 refusal_of (Sequence line) = numbered 18 line
 refusal_of (Edit edit) = numbered 19 edit
 refusal_of (NotSolid end) = numbered 20 end
+
+-- A check's answer as the rules have it: none where it lets pass.
+abbrev pub check_of : {A : Type 0} → Result A Refusal → Rules.Check
+check_of (Ok a) = none
+check_of (Err r) = some (refusal_of r)

@@ -1,33 +1,28 @@
 -- Laws of the header.
-use Prim.Native.Nat.{ℕ, ◌+◌, ◌/◌, ◌%◌, ◌≤◌}
-use mathlib.Core.Path.{◌≡◌, refl, ◌∙◌}
-use mathlib.Core.Bool.{Bool, true, false, ◌&&◌, and_comm}
+use Prim.Native.Nat.{ℕ, zero, suc, ◌+◌, ◌/◌, ◌%◌, ◌≤◌}
+use native.Mathlib.Numerals.{add-one}
+use mathlib.Core.Path.{◌≡◌, refl}
+use mathlib.Core.Bool.{Bool, true, false, ◌&&◌}
 use mathlib.Core.List.{List}
+use mathlib.Core.Option.{some}
 use lib.Dec.{eqb, leb}
 use lib.ListN.{length}
 use borrow.Author.Tests.{eqb-true, leb-true}
+use Rattle.std.specs.List.{list_all, range_with_len}
 use Rattle.rules.specs.Refusal.{first_failing}
 use Rattle.rules.specs.Set.{block_word, header_k, header_n, header_right, is_none}
 use Rattle.rules_laws.proofs.Opened.{both}
 
-abbrev pub sizes : ℕ → ℕ → Bool
-sizes k n = eqb (k % 2) 1 && leb k 31 && leb n 16777216
-
--- the tests in the code's order: the count of blocks stands before the words that are zero
-abbrev pub counted : List ℕ → ℕ → ℕ → Bool
-counted bytes k n = sizes k n && eqb (length bytes / 512) (1 + (n + 62) / 63)
-
-abbrev pub rest_zero : List ℕ → Bool
-rest_zero bytes = is_none (first_failing (λ i. eqb (block_word bytes 0 i) 0) 2 61)
-
-swap : (a b c : Bool) → (a && b && c) ≡ (a && c && b)
-swap true b c = and_comm b c
-swap false b c = refl
-
-pub header-test : (bytes : List ℕ) (k n : ℕ) → k ≡ header_k bytes → n ≡ header_n bytes → (counted bytes k n && rest_zero bytes) ≡ header_right bytes
-unfolding header_right
-header-test bytes k n k_is n_is =
-    rw (k_is, n_is) (swap (sizes (header_k bytes) (header_n bytes)) (eqb (length bytes / 512) (1 + (header_n bytes + 62) / 63)) (rest_zero bytes))
+-- of m numbers from i on, all pass, or one is the first that fails
+pub all-hold : (ok : ℕ → Bool) (i m : ℕ) → list_all ok (range_with_len i m) ≡ is_none (first_failing ok i m)
+unfolding is_none first_failing
+all-hold ok i zero = refl
+all-hold ok i (suc m) = go (ok i) (rw add-one (all-hold ok (suc i) m))
+  where
+    go : (t : Bool) → list_all ok (range_with_len (i + 1) m) ≡ is_none (first_failing ok (suc i) m)
+        → (t && list_all ok (range_with_len (i + 1) m)) ≡ is_none (elim t [ true ↦ first_failing ok (suc i) m | false ↦ some i ])
+    go true e = e
+    go false e = refl
 
 -- what a right header says of k, n and the count of blocks
 pub record Sized (bytes : List ℕ) (k n : ℕ) : Type 0 where
@@ -37,11 +32,15 @@ pub record Sized (bytes : List ℕ) (k n : ℕ) : Type 0 where
   pub count : length bytes / 512 ≡ 1 + (n + 62) / 63
 
 pub sized : (bytes : List ℕ) (k n : ℕ) → k ≡ header_k bytes → n ≡ header_n bytes → header_right bytes ≡ true → Sized bytes k n
+unfolding header_right
 sized bytes k n k_is n_is h =
-    let all = (both (counted bytes k n) (rest_zero bytes) (header-test bytes k n k_is n_is ∙ h)).0 in
-    let c = both (sizes k n) (eqb (length bytes / 512) (1 + (n + 62) / 63)) all in
-    let s = both (eqb (k % 2) 1 && leb k 31) (leb n 16777216) c.0 in
-    let o = both (eqb (k % 2) 1) (leb k 31) s.0 in
+    let odd : Bool = eqb (k % 2) 1 in
+    let zero_rest : Bool = is_none (first_failing (λ i. eqb (block_word bytes 0 i) 0) 2 61) in
+    let all : (odd && leb k 31 && leb n 16777216 && zero_rest && eqb (length bytes / 512) (1 + (n + 62) / 63)) ≡ true = rw (k_is, n_is) h in
+    let c = both (odd && leb k 31 && leb n 16777216 && zero_rest) _ all in
+    let r = both (odd && leb k 31 && leb n 16777216) zero_rest c.0 in
+    let s = both (odd && leb k 31) (leb n 16777216) r.0 in
+    let o = both odd (leb k 31) s.0 in
     record {
       odd = eqb-true _ _ o.0;
       k_high = leb-true _ _ o.1;

@@ -1,15 +1,12 @@
 -- What the checks of a set answer.
-use Rattle.std.specs.Prelude.{ℕ, ◌*◌, ◌-◌, ◌≡◌, List}
-use Rattle.std.proofs.Math.Option.{Option, none, some}
+use Rattle.std.specs.Prelude.{ℕ, ◌*◌, ◌-◌, ◌≡◌, List, Result, Ok, Err}
+use Rattle.std.proofs.Math.Option.{Option, some}
 use Rattle.rules.specs.Refusal as Rules
 use Rattle.rules.specs.Refusal.{at_place, first_failing}
 use Rattle.rules.specs.Set.{blocks, check_right, key_right}
-use Rattle.refusal.specs.declared.Refusal.{Refusal}
-use Rattle.refusal.specs.declared.Refusal.TheVariants.{Check, Key}
+use Rattle.refusal.specs.declared.Refusal.TheVariants.{Key}
 use Rattle.refusal.specs.Refusal.{refusal_of}
 use Rattle.set_checks.specs.Keys.{least_key}
-use Rattle.set_checks.specs.declared.Look.{Look}
-use Rattle.set_checks.specs.declared.Look.TheVariants.{Right, Wrong}
 
 -- The first block from one on whose check is wrong.
 abbrev pub first_wrong : List ℕ → ℕ → Option ℕ
@@ -24,15 +21,6 @@ abbrev pub wrong_key : List ℕ → ℕ → Rules.Check
 wrong_key bytes i = at_place 10 (first_failing (key_right bytes) i (63 * (blocks bytes - 1) - i))
 
 -- A look at the keys from word i up to word e: they let pass, and the key behind them may be no less than `least`; or key w is wrong.
-abbrev pub Looked : List ℕ → ℕ → ℕ → Look → Type 0
-Looked bytes i e (Right least) = (wrong_key bytes i ≡ wrong_key bytes e) × (least ≡ least_key bytes e)
-Looked bytes i e (Wrong w) = wrong_key bytes i ≡ some (refusal_of (Key w))
-
-abbrev pub IsWrong : Look → Type 0
-IsWrong (Right least) = ⊥
-IsWrong (Wrong w) = Unit
-
--- A wrong check is answered before a later refusal.
-abbrev pub check_first : Refusal → Option ℕ → Refusal
-check_first later none = later
-check_first later (some block) = Check block
+abbrev pub Looked : List ℕ → ℕ → ℕ → Result ℕ ℕ → Type 0
+Looked bytes i e (Ok least) = (wrong_key bytes i ≡ wrong_key bytes e) × (least ≡ least_key bytes e)
+Looked bytes i e (Err w) = wrong_key bytes i ≡ some (refusal_of (Key w))

@@ -28,5 +28,5 @@ returns-then-batch-work c =
 pub returns-else-batch-work : goal.returns-else-batch-work
 unfolding ◌or_else◌ unless
 returns-else-batch-work c =
-    let one = eq-eqb (entry_count c.args.job.now) 1 (omega (arith, c.count.ensures, c.if-count-ne1.false)) in
-    rw (needs-by-start, ← c.in_ok-check_start.ensures, one, lt-leb c.args.batch c.args.work (omega (arith, c.if-batch-work.false)))
+    let single = eq-eqb (entry_count c.args.job.now) 1 (omega (arith, c.count.ensures, c.if-count-ne1.false)) in
+    rw (needs-by-start, ← c.in_ok-check_start.ensures, single, lt-leb c.args.batch c.args.work (omega (arith, c.if-batch-work.false)))

@@ -1,29 +1,29 @@
-use Prim.Native.Nat.{◌%◌, ◌≤◌}
-use native.Mathlib.Omega.{arith}
+use Prim.Native.Nat.{◌≤◌}
 use mathlib.Core.Path.{◌≡◌, sym, ap, ◌∙◌}
 use mathlib.Core.Bool.{true}
 use lib.ListN.{length}
 use borrow.Author.Rules.{rules}
-use borrow.Author.Tests.{eqb-true, not-true, not-false}
+use Rattle.std.proofs.lemmas.Result.{err_from_is_err_and}
 use Rattle.rules.specs.Refusal.{at_place}
 use Rattle.rules.specs.Set as Rules
-use Rattle.refusal.specs.declared.Refusal.TheVariants.{Header}
 use Rattle.blocks.proofs.First.{passed, failed}
-use Rattle.opening.proofs.Opening.{length-right, length-zero, length-odd, refused-by, at_7, at_8, at_9, after-8}
+use Rattle.opening.proofs.Opening.{length-right, length-zero, length-odd, accepted-by, refused-by, at_7, at_8, at_9}
+use Rattle.set_checks.specs.Checks.{first_wrong}
 use Rattle.opening.proofs.open.Goals.{Else-not-check_right, Else-set-ne0, then-set-eq0-via-then-set-eq0, then-set-eq0-via-else-set-eq0+then-set-ne0}
 use Rattle.opening.proofs.open.Goals as goal
 
-whole : (c : Else-set-ne0) → length c.args.set.now % 512 ≡ 0
-whole c = eqb-true _ _ (not-false _ c.if-set-ne0.false-raw)
-
 long : (c : Else-set-ne0) → 512 ≤ length c.args.set.now
-long c = omega (arith, whole c)
+long c = search rules
 
 after-7 : (c : Else-set-ne0) → Rules.length_right c.args.set.now ≡ true
-after-7 c = length-right _ (search rules) (whole c)
+after-7 c = length-right _ (search rules) (search rules)
 
-first-right : (c : Else-not-check_right) → Rules.check_right c.args.set.now 0 ≡ true
-first-right c = sym c.check_right.ensures ∙ not-false _ c.if-not-check_right.false-raw
+-- the check of block 0 is right
+checked : (c : Else-not-check_right) → first_wrong c.args.set.now 0 ≡ first_wrong c.args.set.now 1
+unfolding Rules.blocks
+checked c =
+    let l = long (goal.at.Else-not-check_right c).Else-set-ne0 in
+    passed _ 0 _ (search rules) (sym c.check_right.ensures ∙ c.if-not-check_right.false)
 
 pub returns-then-set-eq0 : goal.returns-then-set-eq0
 returns-then-set-eq0 c =
@@ -32,40 +32,45 @@ returns-then-set-eq0 c =
       | then-set-eq0-via-else-set-eq0+then-set-ne0 w ↦ length-odd _ w.if-set-ne0.true
     ]))
 
-pub check_right-requires : goal.check_right-requires
-check_right-requires c = long c
-
 pub returns-then-not-check_right : goal.returns-then-not-check_right
 unfolding at_place Rules.blocks
 returns-then-not-check_right c =
     let l = long (goal.at.returns-then-not-check_right c).Else-set-ne0 in
-    let wrong = sym c.check_right.ensures ∙ not-true _ c.if-not-check_right.true-raw in
-    refused-by _ _ (at_8 _ (after-7 (goal.at.returns-then-not-check_right c).Else-set-ne0) _ (ap (at_place 8) (failed _ 0 _ (search rules) wrong)))
-
-pub block_word-k-requires : goal.block_word-k-requires
-block_word-k-requires c = let l = long (goal.at.block_word-k-requires c).Else-set-ne0 in search rules
-
-pub block_word-n-requires : goal.block_word-n-requires
-block_word-n-requires c = let l = long (goal.at.block_word-n-requires c).Else-set-ne0 in search rules
+    let seven = after-7 (goal.at.returns-then-not-check_right c).Else-set-ne0 in
+    refused-by _ _ (at_8 _ seven _ (ap (at_place 8) (failed _ 0 _ (search rules) (sym c.check_right.ensures ∙ c.if-not-check_right.true))))
 
 pub header_right-requires : goal.header_right-requires
 unfolding Rules.header_k Rules.header_n
 header_right-requires c = (long (goal.at.header_right-requires c).Else-set-ne0, c.block_word-k.ensures, c.block_word-n.ensures)
 
+pub returns-in_err-check_blocks : goal.returns-in_err-check_blocks
+returns-in_err-check_blocks c =
+    let p = err_from_is_err_and c.from_residual.result c.from_residual.ensures.1 in
+    let at = goal.at.returns-in_err-check_blocks c in
+    rw (p.1, p.2)
+    (refused-by _ _ (at_8 _ (after-7 at.Else-set-ne0) _ (ap (at_place 8) (checked at.Else-not-check_right) ∙ sym c.in_err-check_blocks.ensures)))
+
 pub returns-then-not-header_right : goal.returns-then-not-header_right
-unfolding Rules.blocks
 returns-then-not-header_right c =
-    let l = long (goal.at.returns-then-not-header_right c).Else-set-ne0 in
-    let wrong = sym c.header_right.ensures ∙ not-true _ c.if-not-header_right.true-raw in
-    rw c.check_blocks.ensures
-    (after-8 _ (after-7 (goal.at.returns-then-not-header_right c).Else-set-ne0) Header (λ right. refused-by _ _ (at_9 _ (after-7 (goal.at.returns-then-not-header_right c).Else-set-ne0) right wrong)) _ (passed _ 0 _ (search rules) (first-right (goal.at.returns-then-not-header_right c).Else-not-check_right)))
+    let at = goal.at.returns-then-not-header_right c in
+    let eight = ap (at_place 8) (checked at.Else-not-check_right) ∙ sym c.in_ok-check_blocks.ensures in
+    refused-by _ _ (at_9 _ (after-7 at.Else-set-ne0) eight (sym c.header_right.ensures ∙ c.if-not-header_right.true))
 
 pub check_keys-requires : goal.check_keys-requires
 unfolding Rules.header_k Rules.header_n
 check_keys-requires c = (
   after-7 (goal.at.check_keys-requires c).Else-set-ne0,
-  first-right (goal.at.check_keys-requires c).Else-not-check_right,
-  sym c.header_right.ensures ∙ not-false _ c.if-not-header_right.false-raw,
+  sym c.check_right.ensures ∙ c.if-not-check_right.false,
+  sym c.header_right.ensures ∙ c.if-not-header_right.false,
   c.block_word-k.ensures,
   c.block_word-n.ensures,
 )
+
+pub returns-in_err-check_keys : goal.returns-in_err-check_keys
+returns-in_err-check_keys c =
+    let p = err_from_is_err_and c.from_residual-in_err-check_keys.result c.from_residual-in_err-check_keys.ensures.1 in
+    rw (p.1, p.2) (refused-by _ _ (sym c.in_err-check_keys.ensures))
+
+pub returns : goal.returns
+unfolding Rules.header_k Rules.header_n
+returns c = (accepted-by _ (sym c.in_ok-check_keys.ensures), c.block_word-k.ensures, c.block_word-n.ensures)

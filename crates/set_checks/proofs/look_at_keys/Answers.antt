@@ -4,7 +4,7 @@ use mathlib.Core.Path.{◌≡◌, refl, sym, ap, ◌∙◌}
 use mathlib.Core.Bool.{◌&&◌}
 use lib.Dec.{leb}
 use borrow.Author.Rules.{rules}
-use borrow.Author.Tests.{not-true, not-false, leb-true}
+use borrow.Author.Tests.{leb-true}
 use Rattle.rules.specs.Letters.{mask, even_ones}
 use Rattle.rules.specs.Refusal.{at_place}
 use Rattle.rules.specs.Set as Rules
@@ -57,13 +57,13 @@ block_word-key-requires c = search rules
 pub returns-then-not-key_right : goal.returns-then-not-key_right
 unfolding at_place
 returns-then-not-key_right c =
-    c.loop-i.invariant.3 ∙ ap (at_place 10) (failed _ _ _ (inside (goal.at.returns-then-not-key_right c).In-loop-i) (same (goal.at.returns-then-not-key_right c).After-key_right ∙ not-true _ c.if-not-key_right.true-raw))
+    c.loop-i.invariant.3 ∙ ap (at_place 10) (failed _ _ _ (inside (goal.at.returns-then-not-key_right c).In-loop-i) (same (goal.at.returns-then-not-key_right c).After-key_right ∙ c.if-not-key_right.true))
 
 pub overflow_add-least : goal.overflow_add-least
 unfolding mask
 overflow_add-least c =
     let y = c.block_word-key.result in
-    let e = both (leb y c.args.mask && leb c.loop-i.least y) (even_ones 32 y) (sym c.key_right.ensures ∙ not-false _ c.if-not-key_right.false-raw) in
+    let e = both (leb y c.args.mask && leb c.loop-i.least y) (even_ones 32 y) (sym c.key_right.ensures ∙ c.if-not-key_right.false) in
     let small = leb-true y c.args.mask (both (leb y c.args.mask) (leb c.loop-i.least y) e.0).0 in
     omega (arith, small, c.requires.2, bound (Rules.header_k c.args.set.now) (header (goal.at.overflow_add-least c).Start).k_high)
 
@@ -72,7 +72,7 @@ loop-i-preserved c = (
   search rules,
   search rules,
   least-next _ _ _ (read (goal.at.loop-i-preserved c).After-block_word-key),
-  c.loop-i.invariant.3 ∙ ap (at_place 10) (passed _ _ _ (inside (goal.at.loop-i-preserved c).In-loop-i) (same (goal.at.loop-i-preserved c).After-key_right ∙ not-false _ c.if-not-key_right.false-raw)),
+  c.loop-i.invariant.3 ∙ ap (at_place 10) (passed _ _ _ (inside (goal.at.loop-i-preserved c).In-loop-i) (same (goal.at.loop-i-preserved c).After-key_right ∙ c.if-not-key_right.false)),
 )
 
 pub returns : goal.returns

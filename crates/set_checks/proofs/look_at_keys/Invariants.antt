@@ -1,4 +1,4 @@
-use Prim.Native.Nat.{◌-◌, ◌≤◌}
+use Prim.Native.Nat.{◌≤◌}
 use mathlib.Core.Path.{◌≡◌}
 use Rattle.set_checks.specs.Keys.{least_key}
 use Rattle.set_checks.specs.Checks.{wrong_key}
