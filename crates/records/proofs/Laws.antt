@@ -6,11 +6,16 @@ use borrow.Author.Tests.{lt-ltb, le-leb, lt-leb, eq-eqb, ne_eqb, eqb-true}
 use mathlib.Core.Path.{◌≡◌, refl, sym, ap, ◌∙◌}
 use mathlib.Core.Bool.{Bool, true, false, not, ◌&&◌, ◌||◌}
 use mathlib.Core.Option.{none, some}
-use mathlib.Core.Logic.{◌⊎◌, ⊎_elim}
+use Rattle.std.specs.Prelude.{Option, Some, None, Ok, Err, nat_eq, slice_get}
+use Rattle.std.specs.Option.{option_copied, option_eq}
+use denote.Ref.{Bor}
+use mir.Val.{bool_byte}
+use Rattle.std.specs.List.{list_any}
+use Rattle.std.proofs.lemmas.Grind.{common_steps}
 use mathlib.Core.List.{List, [], ◌∷◌, ◌++◌, append_assoc}
 use lib.Dec.{eqb, ltb}
 use lib.ListN.{length, get_or, take, drop, length-drop, drop_of_length-le}
-use lib.Seq.{drop-cons, length-take-le}
+use lib.Seq.{drop-cons, length-take-le, take-append-add, take-append_seam}
 use Rattle.rules.specs.Letters.{among}
 use Rattle.rules.specs.Refusal.{unless, at_place, ◌or_else◌}
 use Rattle.rules.specs.Job.{lines_from, lines}
@@ -18,65 +23,46 @@ use Rattle.rules_fasta.specs.Fasta.{mark, is_name, joined, records_of, records, 
 use Rattle.refusal.specs.declared.Refusal.TheVariants.{Batch, Sequence}
 use Rattle.refusal.specs.Refusal.{refusal_of}
 use Rattle.input.specs.Input.{LineAt}
-use Rattle.correct.proofs.Room.{tail-back, behind}
 use Rattle.records.specs.declared.Seen.{Seen}
 use Rattle.records.specs.Records.{file_check, wrong_behind, SeenWith, SeenIn}
 
--- ---- `>` in a line, byte by byte
+-- ---- `>` in a line
 
-module _ (line : List ℕ) (i : ℕ) (h : i < length line) where
-  next : drop i line ≡ get_or line i 0 ∷ drop (i + 1) line
-  next = rw add-one (drop-cons line i 0 h)
-
-  or-true : (t : Bool) → (t || true) ≡ true
-  or-true true = refl
-  or-true false = refl
-
-  pub holds-here : (t : Bool) → get_or line i 0 ≡ mark → (t || among mark (drop i line)) ≡ (true || among mark (drop (i + 1) line))
-  unfolding among
-  holds-here t e = rw (next, among, eq-eqb mark (get_or line i 0) (sym e)) (or-true t)
-
-  pub holds_on : (t : Bool) → (get_or line i 0 ≡ mark → ⊥) → (t || among mark (drop i line)) ≡ (t || among mark (drop (i + 1) line))
-  unfolding among
-  holds_on t ne = rw (next, among, ne_eqb mark (get_or line i 0) (λ e. ne (sym e)))
-
-pub holds-none : (line : List ℕ) (i : ℕ) (t : Bool) → length line ≤ i → (t || among mark (drop i line)) ≡ t
+pub among-any : (y : ℕ) (line : List ℕ) → among y line ≡ list_any (λ x. nat_eq x y) line
 unfolding among
-holds-none line i true h = refl
-holds-none line i false h = rw (drop_of_length-le line h)
+among-any y [] = refl
+among-any y (x ∷ xs) = grind (arith, common_steps, among-any y xs)
 
 -- ---- a line by its first byte
 
-pub name-none : (l : List ℕ) → length l ≡ 0 → is_name l ≡ false
+pub name-first : (l : List ℕ) (first : Option (Bor ℕ)) (wanted : Bor ℕ) → option_copied first ≡ slice_get l 0 → wanted.now ≡ mark
+    → is_name l ≡ option_eq (λ x y. nat_eq x.now y.now) first (Some wanted)
 unfolding is_name
-name-none [] h = refl
-name-none (b ∷ bs) h = absurd (omega arith)
-
-pub name-first : (l : List ℕ) → 0 < length l → is_name l ≡ eqb (get_or l 0 0) mark
-unfolding is_name
-name-first [] h = absurd (omega arith)
-name-first (b ∷ bs) h = refl
+name-first [] None w e m = refl
+name-first [] (Some x) w e m = absurd (cc)
+name-first (b ∷ bs) None w e m = absurd (cc)
+name-first (b ∷ bs) (Some x) w e m = let same : x.now ≡ b = cc in rw (same, m)
 
 pub right-none : (named : Bool) (l : List ℕ) → length l ≡ 0 → line_right named l ≡ true
 unfolding line_right
 right-none named [] h = refl
 right-none named (b ∷ bs) h = absurd (omega arith)
 
-pub right-first : (named : Bool) (l : List ℕ) → 0 < length l → line_right named l ≡ (eqb (get_or l 0 0) mark || (named && not (among mark l)))
-unfolding line_right is_name
-right-first named [] h = absurd (omega arith)
-right-first named (b ∷ bs) h = refl
+pub right-some : (named : Bool) (l : List ℕ) → 0 < length l → line_right named l ≡ (is_name l || (named && not (among mark l)))
+unfolding line_right
+right-some named [] h = absurd (omega arith)
+right-some named (b ∷ bs) h = refl
 
 -- ---- a line more is seen
 
 -- A record more where the line is a name line.
-pub counted-name : (n : ℕ) (l : List ℕ) (ls : List (List ℕ)) → is_name l ≡ true → n + 1 + length (records_of ls) ≡ n + length (records_of (l ∷ ls))
+pub counted-line : (l : List ℕ) (ls : List (List ℕ)) → length (records_of (l ∷ ls)) ≡ bool_byte (is_name l) + length (records_of ls)
 unfolding records_of
-counted-name n l ls e = rw (records_of, e) (omega arith)
-
-pub counted-on : (n : ℕ) (l : List ℕ) (ls : List (List ℕ)) → is_name l ≡ false → n + length (records_of ls) ≡ n + length (records_of (l ∷ ls))
-unfolding records_of
-counted-on n l ls e = rw (records_of, e)
+counted-line l ls = go (is_name l) refl
+  where
+    go : (t : Bool) → is_name l ≡ t → length (records_of (l ∷ ls)) ≡ bool_byte (is_name l) + length (records_of ls)
+    go true e = rw (records_of, e) (omega arith)
+    go false e = rw (records_of, e) (omega arith)
 
 -- 18 at a line and behind it.
 module _ (named : Bool) (i : ℕ) (l : List ℕ) (ls : List (List ℕ)) where
@@ -170,13 +156,13 @@ module _ (file : List ℕ) (from end : ℕ) (here : from < length file) (at : Li
     unfolding joined
     join_more = rw (at.is, joined, no_name)
 
--- A line copied behind what is joined; part is what the lent part of the work buffer holds then.
-pub joined-on : (w part line more : List ℕ) (n : ℕ) → n ≤ length w → take (length line) part ≡ line
-    → take (n + length line) (take n w ++ (part ++ drop (length w - n) (drop n w))) ++ more ≡ take n w ++ (line ++ more)
-joined-on w part line more n h e =
-    ap (λ (l : List ℕ). take (n + length line) l ++ more) (tail-back w part n)
-    ∙ ap (λ (l : List ℕ). l ++ more) (behind w part line n h e)
-    ∙ append_assoc (take n w) line more
+-- A line copied behind what is joined, before the rest of the work buffer.
+pub joined-on : (w line rest more : List ℕ) (n : ℕ) → n ≤ length w → take (n + length line) (take n w ++ (line ++ rest)) ++ more ≡ take n w ++ (line ++ more)
+joined-on w line rest more n h =
+    let l : length (take n w) ≡ n = length-take-le n w h in
+    ap (λ (i : ℕ). take (i + length line) (take n w ++ (line ++ rest)) ++ more) (sym l)
+    ∙ ap (λ (q : List ℕ). q ++ more) (take-append-add (take n w) (line ++ rest) (length line))
+    ∙ rw (take-append_seam line rest) (append_assoc (take n w) line more)
 
 -- ---- checks 6 and 18
 
@@ -211,15 +197,15 @@ module _ (file : List ℕ) (s : Seen) (all : SeenIn file (length file) s) where
   unfolding records records_of
   seen-records = omega (arith, all.counted, ap (λ (ls : List (List ℕ)). length (records_of ls)) none_left)
 
-  pub seen-right : s.right ≡ true → first_wrong false 0 (lines file) ≡ none
+  pub seen-right : (i : ℕ) → s.lines ≡ Ok i → first_wrong false 0 (lines file) ≡ none
   unfolding first_wrong
-  seen-right e = all.judged ∙ rw (e, none_left)
+  seen-right i e = all.judged ∙ rw (e, none_left)
 
-  pub seen-wrong : s.right ≡ false → first_wrong false 0 (lines file) ≡ some s.line
-  seen-wrong e = all.judged ∙ rw e
+  pub seen-wrong : (i : ℕ) → s.lines ≡ Err i → first_wrong false 0 (lines file) ≡ some i
+  seen-wrong i e = all.judged ∙ rw e
 
 -- No line is seen yet, or one more.
-pub seen_none : (file : List ℕ) → SeenIn file 0 (record { records = 0; right = true; line = 0 })
+pub seen_none : (file : List ℕ) → SeenIn file 0 (record { records = 0; lines = Ok 0 })
 seen_none file = record { counted = omega arith; judged = refl; few = omega arith; near = omega arith }
 
 pub seen-on : (file : List ℕ) (from end : ℕ) (s r : Seen) → LineAt file from end → SeenIn file from s → SeenWith s (take (end - from) (drop from file)) r → SeenIn file (end + 1) r
@@ -232,34 +218,31 @@ seen-on file from end s r l i w =
     }
 
 -- n are the records with line l.
-abbrev pub With : Seen → List ℕ → ℕ → Type 0
-With s l n = ((is_name l ≡ true) × (n ≡ s.records + 1)) ⊎ ((is_name l ≡ false) × (n ≡ s.records))
-
-module _ (s : Seen) (l : List ℕ) (n : ℕ) (w : With s l n) where
+module _ (s : Seen) (l : List ℕ) (n i : ℕ) (w : n ≡ s.records + bool_byte (is_name l)) where
   counted : (ls : List (List ℕ)) → n + length (records_of ls) ≡ s.records + length (records_of (l ∷ ls))
-  counted ls = ⊎_elim (λ y. rw y.1 (counted-name s.records l ls y.0)) (λ y. rw y.1 (counted-on s.records l ls y.0)) w
+  counted ls = omega (arith, w, counted-line l ls)
 
   few : n ≤ s.records + 1
-  few = ⊎_elim (λ y. omega (arith, y.1)) (λ y. omega (arith, y.1)) w
+  few = grind (arith, common_steps)
 
   named : (ltb 0 s.records || is_name l) ≡ ltb 0 n
-  named = ⊎_elim (λ y. rw (y.0, y.1) (named-name s.records)) (λ y. rw (y.0, y.1) (named-on (ltb 0 s.records))) w
+  named = grind (arith, common_steps)
 
-  pub see-right : s.right ≡ true → line_right (ltb 0 s.records) l ≡ true → SeenWith s l (record { records = n; right = true; line = s.line + 1 })
+  pub see-right : s.lines ≡ Ok i → line_right (ltb 0 s.records) l ≡ true → SeenWith s l (record { records = n; lines = Ok (i + 1) })
   see-right e r =
       record {
         counted = counted;
-        judged = λ ls. sym (rw e (wrong-later (ltb 0 s.records) s.line l ls r ∙ ap (λ (t : Bool). first_wrong t (s.line + 1) ls) named));
+        judged = λ ls. sym (rw e (wrong-later (ltb 0 s.records) i l ls r ∙ ap (λ (t : Bool). first_wrong t (i + 1) ls) named));
         few = few;
-        near = omega arith;
+        near = rw e (omega arith);
       }
 
-  pub see-wrong : s.right ≡ true → line_right (ltb 0 s.records) l ≡ false → SeenWith s l (record { records = n; right = false; line = s.line })
+  pub see-wrong : s.lines ≡ Ok i → line_right (ltb 0 s.records) l ≡ false → SeenWith s l (record { records = n; lines = Err i })
   see-wrong e r =
-      record { counted = counted; judged = λ ls. sym (rw e (wrong-here (ltb 0 s.records) s.line l ls r)); few = few; near = omega arith }
+      record { counted = counted; judged = λ ls. sym (rw e (wrong-here (ltb 0 s.records) i l ls r)); few = few; near = rw e (omega arith) }
 
-  pub see-after : s.right ≡ false → SeenWith s l (record { records = n; right = false; line = s.line })
-  see-after e = record { counted = counted; judged = λ ls. rw e; few = few; near = omega arith }
+  pub see-after : s.lines ≡ Err i → SeenWith s l (record { records = n; lines = Err i })
+  see-after e = record { counted = counted; judged = λ ls. rw e; few = few; near = rw e (omega arith) }
 
 module _ (file : List ℕ) where
   pub told-6 : file_right file ≡ false → some (refusal_of Batch) ≡ file_check file

@@ -2,86 +2,53 @@
 #![tactic(auto)]
 
 ghost use Rattle.std.specs.Prelude.{◌≡◌, ◌+◌, ◌≤◌, ◌<◌, ◌^◌, length};
-ghost use Rattle.rules.specs.Letters.{among};
-ghost use Rattle.rules_fasta.specs.Fasta.{mark, is_name, line_right};
+ghost use Rattle.rules_fasta.specs.Fasta.{is_name, line_right};
 ghost use Rattle.input.specs.Input.{check_of};
-ghost use Rattle.records.specs.Records.{file_check, Ends, SeenWith, SeenIn, JoinedIs};
+ghost use Rattle.records.specs.Records.{file_check, line_of, Ends, SeenWith, SeenIn, JoinedIs};
 
-use input::Input;
 use refusal::Refusal;
 
 const MAX_RECORDS: usize = 1024;
 
-// `>`
-const MARK: u8 = 62;
-
-// Whether a line holds `>`. Every byte is looked at, so that the loop can take many at a time.
-fn holds_mark(line: &[u8]) -> bool
-    ensures { result ≡ among mark line.now }
-{
-    let mut held = false;
-    for i in 0..line.len() {
-        if line[i] == MARK {
-            held = true;
-        }
-    }
-    held
-}
+const MARK: u8 = b'>';
 
 // A name line starts with `>`.
 fn is_name(line: &[u8]) -> bool
     ensures { result ≡ is_name line.now }
 {
-    if line.len() == 0 {
-        return false;
-    }
-    line[0] == MARK
+    line.first() == Some(&MARK)
 }
 
 // A sequence line stands behind a name line and holds no `>`; a line of no bytes is skipped.
 fn line_right(named: bool, line: &[u8]) -> bool
     ensures { result ≡ line_right named line.now }
 {
-    if line.len() == 0 {
+    if line.is_empty() || is_name(line) {
         return true;
     }
-    if line[0] == MARK {
-        return true;
-    }
-    named && !holds_mark(line)
+    named && !line.contains(&MARK)
 }
 
-// What is seen of a file's first lines: their records, whether 18 lets them pass, and their number up to the first that it does not.
+// What is seen of a file's first lines: their records, and their number, or the first of them that 18 does not let pass.
 #[derive(Clone, Copy)]
 struct Seen {
     records: usize,
-    right: bool,
-    line: usize,
+    lines: Result<usize, usize>,
 }
 
 // A line more.
 fn see(seen: Seen, line: &[u8]) -> Seen
-    requires { (seen.records < 2 ^ 32) × (seen.line < 2 ^ 32) }
+    requires { (seen.records < 2 ^ 32) × (line_of seen.lines < 2 ^ 32) }
     ensures { SeenWith seen line.now result }
 {
-    let mut records = seen.records;
-    if is_name(line) {
-        records += 1;
-    }
     let named = 0 < seen.records;
-    if seen.right {
-        if line_right(named, line) {
-            return Seen {
-                records,
-                right: true,
-                line: seen.line + 1,
-            };
-        }
-    }
     Seen {
-        records,
-        right: false,
-        line: seen.line,
+        records: seen.records + usize::from(is_name(line)),
+        lines: match seen.lines {
+            Ok(i) if line_right(named, line) => Ok(i + 1),
+            Ok(i) => Err(i),
+            Err(i) => Err(i),
+        },
     }
 }
 
@@ -92,8 +59,7 @@ fn see_all(file: &[u8]) -> Seen
 {
     let mut seen = Seen {
         records: 0,
-        right: true,
-        line: 0,
+        lines: Ok(0),
     };
     let mut from = 0;
     while from < file.len() {
@@ -105,25 +71,24 @@ fn see_all(file: &[u8]) -> Seen
 }
 
 // Checks 6 and 18.
-pub fn check_file(file: &[u8]) -> Input
+pub fn check_file(file: &[u8]) -> Result<(), Refusal>
     requires { length file.now < 2 ^ 32 }
     ensures { check_of result ≡ file_check file.now }
 {
-    let length = file.len();
-    if length == 0 {
-        return Input::Fine;
+    if file.is_empty() {
+        return Ok(());
     }
-    if file[length - 1] != 10 {
-        return Input::Refused(Refusal::Batch);
+    if file[file.len() - 1] != b'\n' {
+        return Err(Refusal::Batch);
     }
     let seen = see_all(file);
     if MAX_RECORDS < seen.records {
-        return Input::Refused(Refusal::Batch);
+        return Err(Refusal::Batch);
     }
-    if seen.right {
-        return Input::Fine;
+    match seen.lines {
+        Ok(_) => Ok(()),
+        Err(line) => Err(Refusal::Sequence(line)),
     }
-    Input::Refused(Refusal::Sequence(seen.line))
 }
 
 // How long a joined read is, and where the next name line is, or the file's end.
@@ -145,8 +110,9 @@ pub fn join(file: &[u8], from: usize, work: &mut [u8]) -> Joined
             return Joined { read, next };
         }
         let end = input::line_end(file, next);
-        correct::copy(&file[next..end], &mut work[read..]);
-        read += end - next;
+        let line = &file[next..end];
+        work[read..read + line.len()].copy_from_slice(line);
+        read += line.len();
         next = end + 1;
     }
     Joined { read, next }

@@ -3,8 +3,8 @@ use native.Mathlib.Omega.{arith}
 use mathlib.Core.Path.{◌≡◌, refl, sym, ap, ◌∙◌}
 use mathlib.Core.List.{List, [], ◌++◌, append-nil}
 use borrow.Author.Rules.{rules}
-use borrow.Rule.Slice.PartMut.{put_mid, same_len_mid}
-use lib.ListN.{length, take, drop, length-take, length-drop}
+use borrow.Rule.Slice.PartMut.{same_len_mid}
+use lib.ListN.{length, take, drop}
 use Rattle.rules.specs.Job.{lines}
 use Rattle.rules_fasta.specs.Fasta.{joined}
 use Rattle.records.proofs.Laws.{line-length, record_same, join_more, joined-on, ends-at-name, no_lines}
@@ -29,13 +29,6 @@ returns-then-file-next-eq-MARK c =
 pub line_end-end-requires : goal.line_end-end-requires
 line_end-end-requires c = (search rules, c.requires.0 (search rules))
 
-pub copy-requires : goal.copy-requires
-copy-requires c =
-    let l = c.loop-next in
-    let e = c.line_end-end.ensures in
-    let long = line-length c.args.file.now l.next c.line_end-end.result (search rules) e in
-    omega (arith, long, length-take (length l.work - l.read) (drop l.read l.work), length-drop l.read l.work, e.inside, l.invariant.0, l.invariant.2, c.requires.2)
-
 pub loop-next-preserved : goal.loop-next-preserved
 loop-next-preserved c =
     let l = c.loop-next in
@@ -45,14 +38,11 @@ loop-next-preserved c =
     let ne = c.if-file-next-eq-MARK.false in
     let here : l.next < length file = search rules in
     let line : List ℕ = take (end - l.next) (drop l.next file) in
-    let n : l.read + (end - l.next) ≡ l.read + length line = omega (arith, line-length file l.next end here e) in
-    let part = c.copy.new.dst in
     let more = joined (lines (drop (end + 1) file)) in (
-      omega (arith, e.after, l.invariant.0),
+      omega (arith, e.after, l.invariant.0, line-length file l.next end here e),
       omega (arith, e.inside),
-      same_len_mid l.read (length l.work - l.read) l.work part c.copy.auto.dst ∙ l.invariant.2,
-      ap (λ (m : ℕ). take m (put_mid l.read (length l.work - l.read) l.work part) ++ more) n
-          ∙ joined-on l.work part line more l.read (omega (arith, e.inside, l.invariant.0, l.invariant.2, c.requires.2)) c.copy.ensures
+      same_len_mid l.read (l.read + length line - l.read) l.work c.copy_from_slice.new.self c.copy_from_slice.auto.self ∙ l.invariant.2,
+      rw c.copy_from_slice.ensures.after (joined-on l.work line (drop (l.read + length line - l.read) (drop l.read l.work)) more l.read (omega (arith, l.invariant.0, l.invariant.1, l.invariant.2, c.requires.2)))
           ∙ ap (λ (t : List ℕ). take l.read l.work ++ t) (sym (join_more file l.next end here e ne))
           ∙ l.invariant.3,
       l.invariant.4 ∙ record_same file l.next end here e ne,

@@ -1,25 +1,14 @@
 use mathlib.Core.Path.{sym, ◌∙◌}
-use mathlib.Core.Logic.{inl, inr}
-use Rattle.records.proofs.Laws.{With, see-right, see-wrong, see-after}
-use Rattle.records.proofs.see.Goals.{Joined-is_name, then-is_name, else-is_name}
+use Rattle.records.proofs.Laws.{see-right, see-wrong, see-after}
 use Rattle.records.proofs.see.Goals as goal
 
--- The records with the line.
-with-line : (c : Joined-is_name) → With c.args.seen c.args.line.now c.if-is_name.records
-with-line c =
-    let is = c.is_name.ensures in
-    elim c.if-is_name.branch [
-      | then-is_name w ↦ inl (sym is ∙ w.if-is_name.true, w.records-is)
-      | else-is_name w ↦ inr (sym is ∙ w.if-is_name.false, w.records-is)
-    ]
+pub returns-in-Ok : goal.returns-in-Ok
+returns-in-Ok c =
+    see-right _ _ _ _ (rw (c.from.ensures, c.is_name.ensures)) c.in-Ok.is (sym c.line_right.ensures ∙ c.if-line_right.true)
 
-pub returns-then-line_right : goal.returns-then-line_right
-returns-then-line_right c =
-    see-right _ _ _ (with-line (goal.at.returns-then-line_right c).Joined-is_name) c.if-seen.true (sym c.line_right.ensures ∙ c.if-line_right.true)
+pub returns-in-Ok-2 : goal.returns-in-Ok-2
+returns-in-Ok-2 c =
+    see-wrong _ _ _ _ (rw (c.from.ensures, c.is_name.ensures)) c.in-Ok-2.is (sym c.line_right.ensures ∙ c.if-line_right.false)
 
-pub returns-else-line_right : goal.returns-else-line_right
-returns-else-line_right c =
-    see-wrong _ _ _ (with-line (goal.at.returns-else-line_right c).Joined-is_name) c.if-seen.true (sym c.line_right.ensures ∙ c.if-line_right.false)
-
-pub returns-else-seen : goal.returns-else-seen
-returns-else-seen c = see-after _ _ _ (with-line (goal.at.returns-else-seen c).Joined-is_name) c.if-seen.false
+pub returns-in-Err : goal.returns-in-Err
+returns-in-Err c = see-after _ _ _ _ (rw (c.from.ensures, c.is_name.ensures)) c.in-Err.is
