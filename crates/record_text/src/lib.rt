@@ -1,7 +1,7 @@
 // A record's text: its name line and its read in lines of 80 letters, each with its byte 10. Document 02, W11.
 #![tactic(auto)]
 
-ghost use Rattle.std.specs.Prelude.{◌≡◌, [], ◌∷◌, ◌++◌, ◌+◌, ◌-◌, ◌/◌, ◌≤◌, ◌<◌, ◌^◌, min, length, take};
+ghost use Rattle.std.specs.Prelude.{◌≡◌, [], ◌∷◌, ◌++◌, ◌+◌, ◌/◌, ◌≤◌, ◌<◌, ◌^◌, length, take};
 ghost use Rattle.rules_fasta.specs.Fasta.{read_lines, ended};
 ghost use Rattle.record_text.specs.Text.{PutIs};
 
@@ -12,20 +12,9 @@ fn put_line(line: &[u8], out: &mut [u8], at: usize)
     requires { at + length line.now < length out.old }
     ensures { take (at + length line.now + 1) out.new ≡ take at out.old ++ (line.now ++ (10 ∷ [])) }
 {
-    correct::copy(line, &mut out[at..]);
     let end = at + line.len();
-    out[end] = 10;
-}
-
-// Where the line from `from` on stops: 80 letters further, or at the read's end.
-fn stop(from: usize, length: usize) -> usize
-    requires { from < length }
-    ensures { (from < result) × (result ≤ length) × (result - from ≡ min 80 (length - from)) }
-{
-    if length - from <= WIDTH {
-        return length;
-    }
-    from + WIDTH
+    out[at..end].copy_from_slice(line);
+    out[end] = b'\n';
 }
 
 // A read in lines of 80; where they end.
@@ -33,13 +22,10 @@ fn put_read(read: &[u8], out: &mut [u8], at: usize) -> usize
     requires { at + length (ended (read_lines read.now)) ≤ length out.old }
     ensures { PutIs out.old out.new at (ended (read_lines read.now)) result }
 {
-    let mut from = 0;
     let mut to = at;
-    while from < read.len() {
-        let end = stop(from, read.len());
-        put_line(&read[from..end], out, to);
-        to = to + (end - from) + 1;
-        from = end;
+    for line in read.chunks(WIDTH) {
+        put_line(line, out, to);
+        to += line.len() + 1;
     }
     to
 }
@@ -49,7 +35,7 @@ pub fn text_length(name: usize, read: usize) -> usize
     requires { (name < 2 ^ 32) × (read < 2 ^ 32) }
     ensures { result ≡ name + 1 + (read + (read + 79) / 80) }
 {
-    name + 1 + (read + (read + 79) / WIDTH)
+    name + 1 + (read + read.div_ceil(WIDTH))
 }
 
 // A record's text at a place; where it ends.

@@ -12,10 +12,10 @@ use denote.Ref.{Bor}
 use mir.Val.{bool_byte}
 use Rattle.std.specs.List.{list_any}
 use Rattle.std.proofs.lemmas.Grind.{common_steps}
-use mathlib.Core.List.{List, [], ◌∷◌, ◌++◌, append_assoc}
+use mathlib.Core.List.{List, [], ◌∷◌, ◌++◌}
 use lib.Dec.{eqb, ltb}
 use lib.ListN.{length, get_or, take, drop, length-drop, drop_of_length-le}
-use lib.Seq.{drop-cons, length-take-le, take-append-add, take-append_seam}
+use lib.Seq.{drop-cons, length-take-le}
 use Rattle.rules.specs.Letters.{among}
 use Rattle.rules.specs.Refusal.{unless, at_place, ◌or_else◌}
 use Rattle.rules.specs.Job.{lines_from, lines}
@@ -155,14 +155,6 @@ module _ (file : List ℕ) (from end : ℕ) (here : from < length file) (at : Li
     pub join_more : joined (lines (drop from file)) ≡ line ++ joined rest
     unfolding joined
     join_more = rw (at.is, joined, no_name)
-
--- A line copied behind what is joined, before the rest of the work buffer.
-pub joined-on : (w line rest more : List ℕ) (n : ℕ) → n ≤ length w → take (n + length line) (take n w ++ (line ++ rest)) ++ more ≡ take n w ++ (line ++ more)
-joined-on w line rest more n h =
-    let l : length (take n w) ≡ n = length-take-le n w h in
-    ap (λ (i : ℕ). take (i + length line) (take n w ++ (line ++ rest)) ++ more) (sym l)
-    ∙ ap (λ (q : List ℕ). q ++ more) (take-append-add (take n w) (line ++ rest) (length line))
-    ∙ rw (take-append_seam line rest) (append_assoc (take n w) line more)
 
 -- ---- checks 6 and 18
 

@@ -1,14 +1,24 @@
-use Prim.Native.Nat.{◌-◌}
+use Prim.Native.Nat.{ℕ, ◌+◌, ◌-◌}
 use native.Mathlib.Omega.{arith}
-use borrow.Rule.Slice.PartMut.{same_len_mid}
-use lib.ListN.{length}
-use Rattle.record_text.proofs.Laws.{line-put}
+use native.Mathlib.Numerals.{add-one}
+use mathlib.Core.Path.{ap, ◌∙◌}
+use mathlib.Core.List.{List, [], ◌∷◌, ◌++◌, append_assoc}
+use borrow.Rule.Slice.PartMut.{put_mid, same_len_mid}
+use lib.ListN.{length, take}
+use lib.Seq.{take-suc-set}
+use Rattle.std.proofs.lemmas.Slice.{take-put_mid}
 use Rattle.record_text.proofs.put_line.Goals as goal
 
 pub returns : goal.returns
 returns c =
-    let p = c.copy in
     let out = c.args.out.now in
+    let line = c.args.line.now in
     let at = c.args.at in
-    let same = same_len_mid at (length out - at) out p.new.dst p.auto.dst in
-    line-put out p.new.dst c.args.line.now at (omega (arith, same, c.requires)) (omega (arith, c.requires)) p.ensures
+    let end : ℕ = at + length line in
+    let p = c.copy_from_slice in
+    let o : List ℕ = put_mid at (end - at) out p.new.self in
+    let same = same_len_mid at (end - at) out p.new.self p.auto.self in
+    rw add-one
+    (take-suc-set o end 10 (omega (arith, same))
+    ∙ ap (λ (l : List ℕ). l ++ (10 ∷ [])) (take-put_mid at (end - at) out p.new.self end (omega (arith, ap length p.ensures.after)) (omega arith))
+    ∙ rw p.ensures.after (append_assoc (take at out) line (10 ∷ [])))

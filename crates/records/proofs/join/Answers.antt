@@ -1,13 +1,14 @@
 use Prim.Native.Nat.{ℕ, ◌+◌, ◌-◌, ◌<◌}
 use native.Mathlib.Omega.{arith}
 use mathlib.Core.Path.{◌≡◌, refl, sym, ap, ◌∙◌}
-use mathlib.Core.List.{List, [], ◌++◌, append-nil}
+use mathlib.Core.List.{List, [], ◌++◌, append-nil, append_assoc}
 use borrow.Author.Rules.{rules}
 use borrow.Rule.Slice.PartMut.{same_len_mid}
 use lib.ListN.{length, take, drop}
+use Rattle.std.proofs.lemmas.Slice.{take-put_mid}
 use Rattle.rules.specs.Job.{lines}
 use Rattle.rules_fasta.specs.Fasta.{joined}
-use Rattle.records.proofs.Laws.{line-length, record_same, join_more, joined-on, ends-at-name, no_lines}
+use Rattle.records.proofs.Laws.{line-length, record_same, join_more, ends-at-name, no_lines}
 use Rattle.records.proofs.join.Goals as goal
 
 pub loop-next-init : goal.loop-next-init
@@ -42,7 +43,8 @@ loop-next-preserved c =
       omega (arith, e.after, l.invariant.0, line-length file l.next end here e),
       omega (arith, e.inside),
       same_len_mid l.read (l.read + length line - l.read) l.work c.copy_from_slice.new.self c.copy_from_slice.auto.self ∙ l.invariant.2,
-      rw c.copy_from_slice.ensures.after (joined-on l.work line (drop (l.read + length line - l.read) (drop l.read l.work)) more l.read (omega (arith, l.invariant.0, l.invariant.1, l.invariant.2, c.requires.2)))
+      ap (λ (t : List ℕ). t ++ more) (take-put_mid l.read (l.read + length line - l.read) l.work c.copy_from_slice.new.self (l.read + length line) (omega (arith, ap length c.copy_from_slice.ensures.after)) (omega (arith, l.invariant.0, l.invariant.1, l.invariant.2, c.requires.2)))
+          ∙ rw c.copy_from_slice.ensures.after (append_assoc (take l.read l.work) line more)
           ∙ ap (λ (t : List ℕ). take l.read l.work ++ t) (sym (join_more file l.next end here e ne))
           ∙ l.invariant.3,
       l.invariant.4 ∙ record_same file l.next end here e ne,
