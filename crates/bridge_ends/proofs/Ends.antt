@@ -1,13 +1,11 @@
 -- The ends of a bridge: the k-mer of a code, and whether it is solid.
-use Prim.Native.Nat.{ℕ, zero, suc, ◌+◌, ◌*◌, ◌-◌, ◌/◌, ◌%◌, ◌^◌, ◌≤◌, ◌<◌}
+use Prim.Native.Nat.{ℕ, suc, ◌+◌, ◌*◌, ◌-◌, ◌/◌, ◌%◌, ◌^◌, ◌≤◌, ◌<◌}
 use native.Mathlib.Omega.{arith}
-use native.Mathlib.Nat.{zero-mod, pow-suc, div-div-eq-div-mul, div-le_self, div-eq_of_lt, div-one, mod-eq_of_lt}
+use native.Mathlib.Nat.{pow-suc, div-div-eq-div-mul, div-le_self, div-eq_of_lt, div-one, mod-eq_of_lt}
 use borrow.Author.Tests.{lt-ltb, le-ltb}
-use mathlib.Core.Path.{◌≡◌, refl, sym, ap, ◌∙◌, subst}
-use mathlib.Core.Bool.{true, false}
-use mathlib.Core.List.{List}
-use lib.Dec.{lit<}
-use lib.ListN.{take, replicate}
+use mathlib.Core.Path.{◌≡◌, refl, sym, ap, ◌∙◌}
+use mathlib.Core.Bool.{false}
+use mathlib.Core.List.{List, []}
 use Rattle.rules.specs.Letters as letters
 use Rattle.rules.specs.Letters.{push, add, add_all, kmer, code, mask}
 use Rattle.rules.specs.Set.{KmerSet, header_k, set_of, solid}
@@ -15,32 +13,18 @@ use Rattle.rules_bridge.specs.Bridge.{known, solid_code}
 use Rattle.rules_laws.proofs.Kmer.{four-pos, two-four}
 use Rattle.kmer.specs.declared.Kmer.{Kmer}
 use Rattle.kmer.specs.Kmer.{kmer_of}
-use Rattle.kmer.specs.Kmer.{HasLetters}
-use Rattle.bridge_ends.specs.declared.Solid.{Solid}
-use Rattle.bridge_ends.specs.declared.Solid.TheVariants as Solids
-use Rattle.bridge_ends.specs.Ends.{SolidIs}
 use Rattle.rules_bridge.proofs.Codes.{add-known}
 
 -- ---- the k-mer of a code
 
-push-none : (k : ℕ) → push 4 k 0 0 ≡ 0
-unfolding push
-push-none k = zero-mod (4 ^ k)
-
-all-A : (k m n : ℕ) → add_all k (known 0) (take m (replicate n 65)) ≡ known 0
-unfolding add_all code
-all-A k zero n = refl
-all-A k (suc m) zero = refl
-all-A k (suc m) (suc n) = ap (λ (y : letters.Kmer). add_all k y (take m (replicate n 65))) (add-known k (known 0) 0 refl (lit< tt) ∙ ap known (push-none k)) ∙ all-A k m n
-
 -- letters A
-pub letters-A : (k n : ℕ) → kmer k (take k (replicate n 65)) ≡ known 0
-unfolding kmer
-letters-A k n = all-A k k n
+letters-A : (k : ℕ) → kmer k [] ≡ known 0
+unfolding kmer add_all
+letters-A k = refl
 
 module _ (k c : ℕ) (small : c < 4 ^ k) where
-  pub none_yet : known 0 ≡ known (c / 4 ^ k)
-  none_yet = ap known (sym (div-eq_of_lt small))
+  pub none_yet : kmer k [] ≡ known (c / 4 ^ k)
+  none_yet = letters-A k ∙ ap known (sym (div-eq_of_lt small))
 
   -- one letter more of the code
   one_more : (r : ℕ) → add k (known (c / 4 ^ suc r)) (c / 4 ^ r % 4) ≡ known (c / 4 ^ r)
@@ -52,14 +36,15 @@ module _ (k c : ℕ) (small : c < 4 ^ k) where
       add-known k (known (c / 4 ^ suc r)) (c / 4 ^ r % 4) refl (omega arith)
       ∙ ap known (ap (λ (n : ℕ). n % 4 ^ k) d ∙ mod-eq_of_lt lt)
 
-  -- the same as the code has it: rest letters are left, then one fewer
-  pub letter-on : (rest a : ℕ) → 1 ≤ rest → a ≡ c / 2 ^ (2 * (rest - 1)) % 4 → add k (known (c / 4 ^ rest)) a ≡ known (c / 4 ^ (rest - 1))
-  letter-on rest a h e =
-      let r : rest ≡ suc (rest - 1) = omega arith in
-      rw (e, two-four (rest - 1)) (ap (λ (n : ℕ). add k (known (c / 4 ^ n)) (c / 4 ^ (rest - 1) % 4)) r ∙ one_more (rest - 1))
+  -- the same as the code has it, after i letters
+  pub letter-on : (i : ℕ) → i < k → add k (known (c / 4 ^ (k - i))) (c / 2 ^ (2 * (k - 1 - i)) % 4) ≡ known (c / 4 ^ (k - (i + 1)))
+  letter-on i h =
+      let r : k - i ≡ suc (k - 1 - i) = omega arith in
+      let n : k - (i + 1) ≡ k - 1 - i = omega arith in
+      rw (r, n, two-four (k - 1 - i)) (one_more (k - 1 - i))
 
-pub none_left : (c rest : ℕ) → rest ≤ 0 → known (c / 4 ^ rest) ≡ known c
-none_left c rest h = let e : rest ≡ 0 = omega arith in ap (λ (n : ℕ). known (c / 4 ^ n)) e ∙ ap known (div-one c)
+  pub none_left : (i : ℕ) → k ≤ i → known (c / 4 ^ (k - i)) ≡ known c
+  none_left i h = let e : k - i ≡ 0 = omega arith in ap (λ (n : ℕ). known (c / 4 ^ n)) e ∙ ap known (div-one c)
 
 -- what is known of it
 pub known-all : (y : Kmer) {c : ℕ} → kmer_of y ≡ known c → y.unknown ≡ 0
@@ -90,13 +75,3 @@ module _ (bytes : List ℕ) (k c : ℕ) (k_is : k ≡ header_k bytes) where
       let l : 4 ^ k ≤ c = omega arith in
       let l' : 4 ^ header_k bytes ≤ c = rw k_is at l in
       rw (le-ltb c (4 ^ header_k bytes) l')
-
--- ---- what an end is
-
--- an end that is solid, and one that isn't
-module _ (k : ℕ) (set : KmerSet) (c : ℕ) (r : Solid) (h : SolidIs k set c r) where
-  pub solid_found : (y : Kmer) → r ≡ Solids.Kmer y → (solid_code set c ≡ true) × HasLetters k (known c) y
-  solid_found y e = subst (SolidIs k set c) e h
-
-  pub not-solid : r ≡ Solids.Not → solid_code set c ≡ false
-  not-solid e = subst (SolidIs k set c) e h

@@ -4,47 +4,33 @@
 ghost use Rattle.std.specs.Prelude.{◌^◌, ◌<◌};
 ghost use Rattle.rules.specs.Set.{set_of};
 ghost use Rattle.rules_bridge.specs.Bridge.{known};
-ghost use Rattle.kmer.specs.Kmer.{Shifts, HasLetters};
-ghost use Rattle.set.specs.Ready.{Ready};
+ghost use Rattle.kmer.specs.Kmer.{HasLetters};
 ghost use Rattle.bridge_ends.specs.Ends.{SolidIs};
 
-use few_keys::Found;
 use kmer::{Header, Kmer};
+use set::KmerSet;
 
 // The k-mer of a code: its letters added one after the other to letters A, which all go.
 fn kmer_of(code: u64, head: Header) -> Kmer
-    requires { Shifts head × (code < 4 ^ head.k) }
+    requires { code < 4 ^ head.k }
     ensures { HasLetters head.k (known code) result }
 {
-    let letters = [b'A'; 31];
-    let mut kmer = kmer::seq2bit(&letters, head);
-    let mut rest = head.k;
-    while 0 < rest {
-        rest -= 1;
-        kmer = kmer::add_nuc_to_end(kmer, (code >> (2 * rest)) % 4, head);
+    let mut kmer = kmer::all_a(head);
+    for i in 0..head.k {
+        let behind = head.k - 1 - i;
+        kmer = kmer::add_nuc_to_end(kmer, (code >> (2 * behind)) % 4, head);
     }
     kmer
 }
 
-// An end of a bridge, if it is solid.
-#[derive(Clone, Copy)]
-pub enum Solid {
-    Kmer(Kmer),
-    Not,
-}
-
-// A code of 4^k or more never is solid.
-pub fn solid_kmer(set: &[u8], starts: &[u32], head: Header, code: u64) -> Solid
-    requires { Ready set.now starts.now head }
-    ensures { SolidIs head.k (set_of set.now) code result }
+// An end of a bridge, if it is solid. A code of 4^k or more never is.
+pub fn solid_kmer(set: &KmerSet, code: u64) -> Option<Kmer>
+    ensures { SolidIs set.now.head.k (set_of set.now.bytes.now) code result }
 {
-    if head.mask < code {
-        return Solid::Not;
+    if set.head.mask < code {
+        return None;
     }
-    let kmer = kmer_of(code, head);
-    let found = set::get(set, starts, head, kmer);
-    let Found::At(_) = found else {
-        return Solid::Not;
-    };
-    Solid::Kmer(kmer)
+    let kmer = kmer_of(code, set.head);
+    set.get(kmer)?;
+    Some(kmer)
 }
