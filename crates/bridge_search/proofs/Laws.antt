@@ -42,6 +42,11 @@ laid_none made h =
 pub laid_one : (made x : ℕ) → made < 16 → set (replicate 16 0) made x ≡ laid made (x ∷ [])
 laid_one made x h = ap (λ (l : List ℕ). set l made x) (laid_none (made + 1) (omega arith)) ∙ laid-before made [] x (omega arith)
 
+-- a chain of one letter, the last
+pub one-is : (made x : ℕ) (r q : Search) → made < 16 → r.end ≡ Ends.Found (made + 1) → r.letters ≡ replicate 16 0 → q.end ≡ r.end
+    → q.letters ≡ set r.letters made x → ChainIs made (x ∷ []) q
+one-is made x r q h e f g k = record { end = g ∙ e; letters = k ∙ ap (λ (l : List ℕ). set l made x) f ∙ laid_one made x h }
+
 -- ---- a search's end
 
 not-tried : (made left : ℕ) (e : End) (r : Search) → EndIs made left e r → (r.end ≡ Ends.Tried → ⊥) → e ≡ tried → ⊥

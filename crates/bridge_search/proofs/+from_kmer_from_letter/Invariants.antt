@@ -14,7 +14,7 @@ abbrev pub invariant-from_kmer-loop-nuc : goal.invariant-from_kmer-loop-nuc
 invariant-from_kmer-loop-nuc l =
     (l.nuc ≤ 4)
     × (l.spent ≤ l.budget)
-    × (rules.from_kmer l.head.k (solid (set_of l.set)) l.to l.budget l.left l.kmer.code l.lookups
+    × (rules.from_kmer l.set.head.k (solid (set_of l.set.bytes.now)) l.to l.budget l.left l.kmer.code l.lookups
     ≡ rules.in_order
-    (rules.from_letter l.head.k (solid (set_of l.set)) l.to l.budget (rules.from_kmer l.head.k (solid (set_of l.set)) l.to l.budget (l.left - 1)) l.kmer.code)
+    (rules.from_letter l.set.head.k (solid (set_of l.set.bytes.now)) l.to l.budget (rules.from_kmer l.set.head.k (solid (set_of l.set.bytes.now)) l.to l.budget (l.left - 1)) l.kmer.code)
     (4 - l.nuc) l.nuc l.spent)
