@@ -31,7 +31,7 @@ fn mark(filter: &mut [u64], hash: u64, marks: u64) -> bool
 {
     let at = slot(hash, filter.len());
     let word = filter[at];
-    filter[at] = word | marks;
+    filter[at] |= marks;
     word & marks == marks
 }
 

@@ -3,26 +3,25 @@
 
 mod filter;
 
-ghost use Rattle.std.specs.Prelude.{◌≡◌, ◌<◌, length};
+ghost use Rattle.std.specs.Prelude.{◌≡◌, ◌∷◌, ◌<◌, length};
 ghost use Rattle.rules.specs.Letters.{met};
-ghost use Rattle.kmer.specs.Kmer.{Shifts, kmer_of, IsKmer};
-ghost use Rattle.passed.specs.Passed.{passed};
+ghost use Rattle.kmer.specs.Kmer.{kmer_of, IsKmer};
+ghost use Rattle.passed.specs.Passed.{onward, passed};
 ghost use Rattle.passed.specs.Filter.{all_but_last, suffix, Covers, Begun, Asked};
 
 use kmer::{Header, Kmer};
 
-// Whether a k-mer is x or one of those that the letters of that many moves lead through.
-fn seen(head: Header, x: Kmer, letters: &[u8], moves: usize, kmer: Kmer) -> bool
-    requires { Shifts head × IsKmer head.k x × (moves < length letters.now) }
-    ensures { result ≡ met (kmer_of kmer) (passed head.k (kmer_of x) moves letters.now) }
+// Whether a k-mer is x or one of those that the letters lead through from there.
+fn seen(head: Header, x: Kmer, letters: &[u8], kmer: Kmer) -> bool
+    requires { IsKmer head.k x }
+    ensures { result ≡ met (kmer_of kmer) (kmer_of x ∷ onward head.k (kmer_of x) letters.now) }
 {
     if kmer::same(kmer, x) {
         return true;
     }
     let mut at = x;
-    let end = moves + 1;
-    for i in 1..end {
-        at = scan::add_base(at, letters[i], head);
+    for &letter in letters {
+        at = scan::add_base(at, letter, head);
         if kmer::same(kmer, at) {
             return true;
         }
@@ -32,7 +31,6 @@ fn seen(head: Header, x: Kmer, letters: &[u8], moves: usize, kmer: Kmer) -> bool
 
 // The code of a k-mer's last k − 1 letters.
 fn suffix_of(head: Header, kmer: Kmer) -> u64
-    requires { Shifts head }
     ensures { result ≡ suffix head.k (kmer_of kmer) }
 {
     kmer.code & (head.mask / 4)
@@ -40,7 +38,7 @@ fn suffix_of(head: Header, kmer: Kmer) -> u64
 
 // Puts the first and the last k − 1 letters of x into the filter; whether it said maybe of the last.
 pub fn begin(head: Header, x: Kmer, filter: &mut [u64]) -> bool
-    requires { Shifts head × (0 < length filter.old) }
+    requires { 0 < length filter.old }
     ensures { Begun head.k filter.old filter.new (kmer_of x) result }
 {
     filter::note(filter, x.code >> 2);
@@ -65,11 +63,11 @@ pub fn meet(
     next: Kmer,
     filter: &mut [u64],
 ) -> Met
-    requires shifts { Shifts head × IsKmer head.k x × (moves < length letters.now) × (0 < length filter.old) }
+    requires walk { IsKmer head.k x × (moves < length letters.now) × (0 < length filter.old) }
     requires covers { Covers head.k filter.old (passed head.k (kmer_of x) moves letters.now) (all_but_last (kmer_of next)) before }
     ensures { Asked head.k filter.old filter.new (passed head.k (kmer_of x) moves letters.now) (kmer_of next) result }
 {
     let maybe = filter::note(filter, suffix_of(head, next));
-    let repeats = before && maybe && seen(head, x, letters, moves, next);
+    let repeats = before && maybe && seen(head, x, &letters[1..moves + 1], next);
     Met { repeats, maybe }
 }

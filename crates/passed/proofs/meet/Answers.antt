@@ -1,7 +1,9 @@
-use mathlib.Core.Path.{◌∙◌}
+use mathlib.Core.Path.{ap, ◌∙◌}
 use mathlib.Core.Logic.{inl, inr}
+use Rattle.rules.specs.Letters.{met}
 use Rattle.kmer.specs.Kmer.{kmer_of}
 use Rattle.passed.specs.Filter.{suffix, Noted}
+use Rattle.passed.proofs.Among.{passed-is}
 use Rattle.passed.proofs.Bits.{asked, not-passed}
 use Rattle.passed.proofs.meet.Goals.{After-note-maybe, then-before, else-before}
 use Rattle.passed.proofs.meet.Goals as goal
@@ -12,7 +14,8 @@ told c = rw c.suffix_of.ensures at c.note-maybe.ensures
 
 pub returns-then-maybe : goal.returns-then-maybe
 returns-then-maybe c =
-    asked _ _ c.requires.covers (told (goal.at.returns-then-maybe c).After-note-maybe) c.seen-repeats.ensures
+    asked _ (kmer_of c.args.next) c.requires.covers (told (goal.at.returns-then-maybe c).After-note-maybe)
+    (c.seen-repeats.ensures ∙ ap (met (kmer_of c.args.next)) (passed-is _ _ _ _))
 
 pub returns-else-maybe : goal.returns-else-maybe
 returns-else-maybe c =

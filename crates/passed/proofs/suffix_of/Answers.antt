@@ -4,4 +4,4 @@ use Rattle.passed.proofs.suffix_of.Goals as goal
 
 pub returns : goal.returns
 unfolding kmer_of
-returns c = suffix-is c.args.head c.requires (kmer_of c.args.kmer)
+returns c = suffix-is c.args.head c.args.head.shifts (kmer_of c.args.kmer)
