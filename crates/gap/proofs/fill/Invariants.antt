@@ -1,4 +1,4 @@
-use Prim.Native.Nat.{◌+◌, ◌-◌, ◌*◌, ◌≤◌, ◌<◌}
+use Prim.Native.Nat.{◌+◌, ◌*◌, ◌≤◌, ◌<◌}
 use mathlib.Core.Path.{◌≡◌}
 use lib.ListN.{length}
 use Rattle.rules.specs.Set.{solid, set_of, count_of}
@@ -17,7 +17,7 @@ invariant-loop-i l =
     × (l.lookups ≡ l.initial.lookups + 4 * l.i)
     × (length l.filter ≡ length l.initial.filter)
     × (length l.out ≡ length l.initial.out)
-    × IsKmer l.head.k l.at
+    × IsKmer l.set.head.k l.at
     × Known (kmer_of l.at)
-    × Filling l.head.k (solid (set_of l.set)) (count_of (set_with l.set l.counts)) l.moves (kmer_of l.x) (kmer_of l.at) l.i l.weakest l.out
-    × Covers l.head.k l.filter (passed l.head.k (kmer_of l.x) l.i l.out) (suffix l.head.k (kmer_of l.at)) l.before
+    × Filling l.set.head.k (solid (set_of l.set.bytes.now)) (count_of (set_with l.set.bytes.now l.set.counts.now)) l.moves (kmer_of l.x) (kmer_of l.at) l.i l.weakest l.out
+    × Covers l.set.head.k l.filter (passed l.set.head.k (kmer_of l.x) l.i l.out) (suffix l.set.head.k (kmer_of l.at)) l.before
