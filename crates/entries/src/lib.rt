@@ -4,13 +4,14 @@
 ghost use Rattle.std.specs.Prelude.{◌≡◌, ◌<◌};
 ghost use Rattle.rules.specs.Job.{method_byte, confirm_byte, entry_count};
 
+#[tactic(auto, unfolding(rules::specs::Job::entry_count))]
 pub fn count(job: &[u8]) -> usize
     ensures { result ≡ entry_count job.now }
 {
-    let bytes = job.len();
-    bytes / 2 + bytes % 2
+    job.len().div_ceil(2)
 }
 
+#[tactic(auto, unfolding(rules::specs::Job::entry_count, rules::specs::Job::method_byte))]
 pub fn method_of(job: &[u8], i: usize) -> u8
     requires { i < entry_count job.now }
     ensures { result ≡ method_byte job.now i }
@@ -19,13 +20,10 @@ pub fn method_of(job: &[u8], i: usize) -> u8
 }
 
 // An entry without its second byte has confirm 0.
+#[tactic(auto, unfolding(rules::specs::Job::entry_count, rules::specs::Job::confirm_byte))]
 pub fn confirm_of(job: &[u8], i: usize) -> u8
     requires { i < entry_count job.now }
     ensures { result ≡ confirm_byte job.now i }
 {
-    let at = 2 * i + 1;
-    if at == job.len() {
-        return 0;
-    }
-    job[at]
+    job.get(2 * i + 1).copied().unwrap_or(0)
 }

@@ -13,38 +13,29 @@ ghost use Rattle.support.specs.Support.{support_of};
 pub fn count_at(counts: &[u32], place: usize) -> u32
     ensures { result ≡ get_or counts.now place 0 }
 {
-    if place < counts.len() {
-        counts[place]
-    } else {
-        0
-    }
+    counts.get(place).copied().unwrap_or(0)
 }
 
 // Refusal 16, unless it holds: an offered list has a count for each of the n keys. An empty list counts as not offered.
 pub fn check_counts(counts: &[u32], n: usize) -> bool
     ensures { (set : KmerSet) → length set.keys ≡ n → unless result 16 ≡ counts_check set counts.now }
 {
-    if counts.len() == 0 {
-        return true;
-    }
-    counts.len() == n
+    counts.is_empty() || counts.len() == n
 }
 
 pub fn lower(a: u32, b: u32) -> u32
     ensures { result ≡ min a b }
 {
-    if a < b { a } else { b }
+    a.min(b)
 }
 
 // The support of so many accepted corrections and so many more.
 pub fn weaker(accepted: u64, support: u32, more: u64, other: u32) -> u32
     ensures { support_of (accepted + more) result ≡ rules.weaker (support_of accepted support) (support_of more other) }
 {
-    if accepted == 0 {
-        return other;
+    match (accepted, more) {
+        (0, _) => other,
+        (_, 0) => support,
+        _ => support.min(other),
     }
-    if more == 0 {
-        return support;
-    }
-    lower(support, other)
 }
