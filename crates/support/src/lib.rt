@@ -2,7 +2,7 @@
 // nothing was accepted, and the number beside it then says nothing.
 #![tactic(auto)]
 
-ghost use Rattle.std.specs.Prelude.{◌≡◌, ◌+◌, min, length, get_or};
+ghost use Rattle.std.specs.Prelude.{◌≡◌, ◌+◌, length, get_or};
 ghost use Rattle.rules.specs.Refusal.{unless};
 ghost use Rattle.rules.specs.Set.{KmerSet};
 ghost use Rattle.rules.specs.Calls.{counts_check};
@@ -21,12 +21,6 @@ pub fn check_counts(counts: &[u32], n: usize) -> bool
     ensures { (set : KmerSet) → length set.keys ≡ n → unless result 16 ≡ counts_check set counts.now }
 {
     counts.is_empty() || counts.len() == n
-}
-
-pub fn lower(a: u32, b: u32) -> u32
-    ensures { result ≡ min a b }
-{
-    a.min(b)
 }
 
 // The support of so many accepted corrections and so many more.
