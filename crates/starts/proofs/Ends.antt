@@ -5,12 +5,13 @@ use native.Mathlib.Nat.{not-suc-le-zero, eq-or-lt_of_le, le_of_lt, le_of_eq, max
 use lib.Arith.{lt_of_le-ne}
 use native.Mathlib.Decide.{dec_lt, ℕ_discrete}
 use native.Mathlib.Numerals.{add-one, add-one-le}
-use mathlib.Core.Path.{◌≡◌, refl, sym, ap, ◌∙◌}
+use mathlib.Core.Path.{◌≡◌, refl, sym, ap, ap₂, ◌∙◌}
 use mathlib.Core.Option.{none}
 use mathlib.Core.Logic.{◌⊎◌, inl, inr}
 use mathlib.Core.List.{List}
 use borrow.Author.Count.{below_more}
-use lib.ListN.{length, get_or, set}
+use lib.ListN.{length, get_or, take, set}
+use Rattle.std.proofs.lemmas.List.{get_or-take}
 use lib.Seq.{get_or-set_same, get_or-set_other}
 use Rattle.rules.specs.Set.{key_word, header_n, set_check}
 use Rattle.set.specs.Ready.{prefix, StartsAt}
@@ -109,6 +110,12 @@ starts-highest bytes shift prefixes ends opens marked zero l =
 starts-highest bytes shift prefixes ends opens marked (suc v) l =
     rw (← (add-one v)) (starts-next bytes shift v opens (highest ends v) (get_or ends (v + 1) 0)
     (starts-highest bytes shift prefixes ends opens marked v (omega arith)) (marked.1 v (omega arith)))
+
+-- It is that of the table's first entries.
+pub highest-take : (n : ℕ) (starts : List ℕ) (v : ℕ) → v < n → highest (take n starts) v ≡ highest starts v
+unfolding highest
+highest-take n starts zero l = get_or-take n starts 0 0 l
+highest-take n starts (suc v) l = ap₂ max (highest-take n starts v (omega arith)) (get_or-take n starts (suc v) 0 l)
 
 -- The first entry is carried, and one more.
 pub highest-first : (starts : List ℕ) → max 0 (get_or starts 0 0) ≡ highest starts 0

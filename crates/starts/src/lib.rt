@@ -1,21 +1,12 @@
 // The table of starts, filled: from a set's keys, or from the entries of an index.
 #![tactic(auto)]
 
-ghost use Rattle.std.specs.Prelude.{◌≡◌, ℕ, ◌+◌, ◌*◌, ◌/◌, ◌^◌, ◌≤◌, ◌<◌, max, eqb, length, get_or};
+ghost use Rattle.std.specs.Prelude.{◌≡◌, ℕ, ◌+◌, ◌*◌, ◌/◌, ◌^◌, ◌≤◌, ◌<◌, eqb, length, get_or};
 ghost use Rattle.std.proofs.Math.Option.{none};
 ghost use Rattle.rules.specs.Set.{header_n, key_word, set_check, entry_in};
 ghost use Rattle.set.specs.Ready as table;
 ghost use Rattle.set.specs.Ready.{Below, Filled};
 ghost use Rattle.starts.specs.Ends.{Marked, Run, highest};
-
-fn clear(starts: &mut [u32], entries: usize)
-    requires { entries ≤ length starts.old }
-    ensures { (v : ℕ) → v < entries → get_or starts.new v 0 ≡ 0 }
-{
-    for v in 0..entries {
-        starts[v] = 0;
-    }
-}
 
 fn has_prefix(set: &[u8], shift: u32, prefix: usize, i: usize) -> bool
     requires { (set_check set.now ≡ none) × (shift < 64) × (i < header_n set.now) }
@@ -32,15 +23,11 @@ fn run(set: &[u8], n: usize, shift: u32, prefix: usize, i: usize) -> usize
     if n < 3000000 {
         return 1;
     }
-    if i + 48 <= n {
-        if has_prefix(set, shift, prefix, i + 47) {
-            return 48;
-        }
+    if i + 48 <= n && has_prefix(set, shift, prefix, i + 47) {
+        return 48;
     }
-    if i + 6 <= n {
-        if has_prefix(set, shift, prefix, i + 5) {
-            return 6;
-        }
+    if i + 6 <= n && has_prefix(set, shift, prefix, i + 5) {
+        return 6;
     }
     1
 }
@@ -52,6 +39,7 @@ fn mark_ends(set: &[u8], n: usize, shift: u32, prefixes: usize, starts: &mut [u3
     ensures { Marked set.now shift n prefixes starts.new }
 {
     let mut i = 0;
+    // By runs, so no iterator over the keys.
     while i < n {
         let prefix = set::prefix_of(few_keys::key_at(set, 0, i), shift);
         let step = run(set, n, shift, prefix, i);
@@ -60,21 +48,14 @@ fn mark_ends(set: &[u8], n: usize, shift: u32, prefixes: usize, starts: &mut [u3
     }
 }
 
-fn higher(a: u32, b: u32) -> u32
-    ensures { result ≡ max a b }
-{
-    if a < b { b } else { a }
-}
-
 // A prefix starts where the last one before it that has keys ends.
-fn carry_ends(starts: &mut [u32], entries: usize)
-    requires { entries ≤ length starts.old }
-    ensures { (v : ℕ) → v < entries → get_or starts.new v 0 ≡ highest starts.old v }
+fn carry_ends(starts: &mut [u32])
+    ensures { (v : ℕ) → v < length starts.old → get_or starts.new v 0 ≡ highest starts.old v }
 {
     let mut most: u32 = 0;
-    for v in 0..entries {
-        most = higher(most, starts[v]);
-        starts[v] = most;
+    for start in starts {
+        most = most.max(*start);
+        *start = most;
     }
 }
 
@@ -83,9 +64,9 @@ pub fn fill(set: &[u8], n: usize, shift: u32, prefixes: usize, starts: &mut [u32
     requires { (set_check set.now ≡ none) × (n ≡ header_n set.now) × (shift < 64) × (prefixes < length starts.old) × Below set.now shift prefixes n }
     ensures { Filled set.now shift (prefixes + 1) starts.new }
 {
-    clear(starts, prefixes + 1);
+    starts[..prefixes + 1].fill(0);
     mark_ends(set, n, shift, prefixes, starts);
-    carry_ends(starts, prefixes + 1);
+    carry_ends(&mut starts[..prefixes + 1]);
 }
 
 // The entries of an index are a table too, by prefixes of m letters.
@@ -94,7 +75,7 @@ pub fn copy_entries(index: &[u8], entries: usize, starts: &mut [u32])
     requires by_index { (v : ℕ) → v < entries → entry_in index.now v < 2 ^ 32 }
     ensures { (v : ℕ) → v < entries → get_or starts.new v 0 ≡ entry_in index.now v }
 {
-    for v in 0..entries {
-        starts[v] = index::entry_at(index, v) as u32;
+    for (v, start) in starts[..entries].iter_mut().enumerate() {
+        *start = index::entry_at(index, v) as u32;
     }
 }

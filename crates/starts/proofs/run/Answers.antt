@@ -1,25 +1,12 @@
-use Prim.Native.Nat.{◌+◌, ◌≤◌}
 use native.Mathlib.Omega.{arith}
 use mathlib.Core.Path.{sym, ◌∙◌}
 use borrow.Author.Tests.{eqb-true}
-use Rattle.starts.specs.Ends.{Run}
 use Rattle.set.proofs.Opened.{opened-n-le}
-use Rattle.starts.proofs.Ends.{run-one, run_more}
-use Rattle.starts.proofs.run.Goals.{Start}
+use Rattle.starts.proofs.Ends.{run_more}
 use Rattle.starts.proofs.run.Goals as goal
-
-alone : (c : Start) → let a = c.args in (1 ≤ 1) × (a.i + 1 ≤ a.n) × Run a.set.now a.shift a.prefix a.i (a.i + 1)
-alone c = let a = c.args in (omega arith, omega (arith, c.requires.3), run-one a.set.now a.shift a.prefix a.i c.requires.4)
-
-pub returns-then-n-lt3000000 : goal.returns-then-n-lt3000000
-returns-then-n-lt3000000 c = alone (goal.at.returns-then-n-lt3000000 c).Start
 
 pub overflow_add-i : goal.overflow_add-i
 overflow_add-i c = omega (arith, c.requires.1, c.requires.3, opened-n-le _ c.requires.0)
-
-pub has_prefix-requires : goal.has_prefix-requires
-has_prefix-requires c =
-    (c.requires.0, c.requires.2, omega (arith, c.if-i-n.true, c.requires.1))
 
 pub returns-then-has_prefix : goal.returns-then-has_prefix
 returns-then-has_prefix c =
@@ -33,10 +20,6 @@ returns-then-has_prefix c =
 pub overflow_add-i-2 : goal.overflow_add-i-2
 overflow_add-i-2 c = omega (arith, c.requires.1, c.requires.3, opened-n-le _ c.requires.0)
 
-pub has_prefix-requires-then-i-n-2 : goal.has_prefix-requires-then-i-n-2
-has_prefix-requires-then-i-n-2 c =
-    (c.requires.0, c.requires.2, omega (arith, c.if-i-n-2.true, c.requires.1))
-
 pub returns-then-has_prefix-2 : goal.returns-then-has_prefix-2
 returns-then-has_prefix-2 c =
     let a = c.args in (
@@ -45,9 +28,3 @@ returns-then-has_prefix-2 c =
       run_more a.set.now a.shift a.prefix a.i 5 6 c.requires.0 (omega arith) (omega (arith, c.if-i-n-2.true, c.requires.1)) c.requires.4
           (eqb-true _ _ (sym c.has_prefix-then-i-n-2.ensures ∙ c.if-has_prefix-2.true)),
     )
-
-pub returns-else-has_prefix-2 : goal.returns-else-has_prefix-2
-returns-else-has_prefix-2 c = alone (goal.at.returns-else-has_prefix-2 c).Start
-
-pub returns-else-i-n-2 : goal.returns-else-i-n-2
-returns-else-i-n-2 c = alone (goal.at.returns-else-i-n-2 c).Start
