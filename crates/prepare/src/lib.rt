@@ -15,19 +15,8 @@ fn prefix_bits(k: usize, n: usize) -> usize
     requires { (k ≤ max_k) × (n ≤ max_keys) }
     ensures { (result ≤ 16) × (result ≤ 2 * k) }
 {
-    let mut bits = 0;
-    let mut most = 4 * n;
-    while bits < 16 {
-        if most < 2 {
-            return bits;
-        }
-        if 2 * k <= bits {
-            return bits;
-        }
-        bits += 1;
-        most /= 2;
-    }
-    bits
+    let most = (4 * n).max(1).ilog2() as usize;
+    most.min(16).min(2 * k)
 }
 
 fn header(k: usize, n: usize, bits: usize, finer: usize) -> Header
@@ -81,10 +70,8 @@ pub fn prepare(
         return by_keys(set, k, n, bits, bits, starts);
     }
     let letters = 2 * index::letters(k);
-    if letters < bits {
-        if pays(bases) {
-            return by_keys(set, k, n, bits, bits - letters, starts);
-        }
+    if letters < bits && pays(bases) {
+        return by_keys(set, k, n, bits, bits - letters, starts);
     }
     by_index(set, index, k, n, starts)
 }
