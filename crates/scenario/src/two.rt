@@ -1,203 +1,210 @@
 // Document 01, Two: II, IS, SS, SD, DD, ICI, ICS, ICD, SCI, SCS, SCD, DCI, DCD. Ports src/correct/exist/two.rs. A trial counts the lookups
 // that were made: none for a k-mer that holds an unknown letter (document 02, W5).
-ghost use Rattle.std.specs.Prelude.{Bool, List, ◌≡◌, ℕ, ◌<◌, length};
-ghost use Rattle.rules.specs.Letters as letters;
+ghost use Rattle.std.specs.Prelude.{◌≡◌, ◌<◌, ◌≤◌, length, Some, None};
 ghost use Rattle.rules.specs.Set.{solid, set_of};
-ghost use Rattle.rules.specs.Scan;
+ghost use Rattle.rules.specs.Scan as scans;
 ghost use Rattle.rules.specs.Exist as rules;
-ghost use Rattle.kmer.specs.Kmer.{Shifts, kmer_of, IsKmer, HasLetters};
-ghost use Rattle.set.specs.Ready.{Ready};
-ghost use Rattle.scenario.specs.Scenario.{nth, RowIs, trial_of, plus, sole_after, solid_after, passing_of, instead_of, instead_after, TrialIs, LettersAre, Gives};
+ghost use Rattle.kmer.specs.Kmer.{kmer_of, IsKmer, HasLetters};
+ghost use Rattle.scenario.specs.Scenario.{two_of, plus, sole_after, solid_after, passing_of, instead_of, instead_after, TrialIs, NextIs};
 
-use super::{Mend, Row, Trial};
+use super::{Row, Scenario, Trial};
 use kmer::{Header, Kmer};
-use successors::Next;
+use set::KmerSet;
 
-pub fn row_of(number: usize) -> Row
-    requires { number < 13 }
-    ensures { (k : ℕ) (sol : ℕ → Bool) (x : letters.Kmer) (s : List ℕ) → RowIs (nth (rules.two k sol x s) number) result }
-{
-    match number {
-        0 => Row(0, 3, 2), // II
-        1 => Row(0, 2, 2), // IS
-        2 => Row(2, 2, 2), // SS
-        3 => Row(1, 1, 1), // SD
-        4 => Row(0, 0, 0), // DD
-        5 => Row(4, 4, 3), // ICI
-        6 => Row(4, 3, 4), // ICS
-        7 => Row(4, 3, 2), // ICD
-        8 => Row(4, 4, 4), // SCI
-        9 => Row(3, 3, 3), // SCS
-        10 => Row(2, 2, 2), // SCD
-        11 => Row(4, 4, 1), // DCI
-        _ => Row(2, 1, 1), // DCD
+#[derive(Clone, Copy)]
+pub enum ScenarioTwo {
+    II,
+    IS,
+    SS,
+    SD,
+    DD,
+    ICI,
+    ICS,
+    ICD,
+    SCI,
+    SCS,
+    SCD,
+    DCI,
+    DCD,
+}
+
+impl ScenarioTwo {
+    const ALL: [ScenarioTwo; 13] = [
+        ScenarioTwo::II,
+        ScenarioTwo::IS,
+        ScenarioTwo::SS,
+        ScenarioTwo::SD,
+        ScenarioTwo::DD,
+        ScenarioTwo::ICI,
+        ScenarioTwo::ICS,
+        ScenarioTwo::ICD,
+        ScenarioTwo::SCI,
+        ScenarioTwo::SCS,
+        ScenarioTwo::SCD,
+        ScenarioTwo::DCI,
+        ScenarioTwo::DCD,
+    ];
+}
+
+impl Scenario for ScenarioTwo {
+    ghost scenarios = { rules.two };
+
+    ghost scenario = { two_of };
+
+    fn all() -> &'static [ScenarioTwo] {
+        &ScenarioTwo::ALL
+    }
+
+    fn row(self) -> Row {
+        let (least, start, letters, resume) = match self {
+            ScenarioTwo::II => (0, 3, 1, 2),
+            ScenarioTwo::IS => (0, 2, 1, 2),
+            ScenarioTwo::SS => (2, 2, 2, 2),
+            ScenarioTwo::SD => (1, 1, 2, 1),
+            ScenarioTwo::DD => (0, 0, 2, 0),
+            ScenarioTwo::ICI => (4, 4, 1, 3),
+            ScenarioTwo::ICS => (4, 3, 2, 4),
+            ScenarioTwo::ICD => (4, 3, 2, 2),
+            ScenarioTwo::SCI => (4, 4, 3, 4),
+            ScenarioTwo::SCS => (3, 3, 3, 3),
+            ScenarioTwo::SCD => (2, 2, 3, 2),
+            ScenarioTwo::DCI => (4, 4, 0, 1),
+            ScenarioTwo::DCD => (2, 1, 3, 1),
+        };
+        Row {
+            least,
+            start,
+            letters,
+            resume,
+        }
+    }
+
+    fn apply(self, set: &KmerSet, x: Kmer, s: &[u8]) -> Trial {
+        if s.len() < self.row().least {
+            return refused(0);
+        }
+        match self {
+            ScenarioTwo::II | ScenarioTwo::IS => given(x, 0),
+            ScenarioTwo::SS | ScenarioTwo::ICS => instead(set, x, s),
+            ScenarioTwo::SD | ScenarioTwo::DD => sole(set, x),
+            ScenarioTwo::ICI => solid_after(set, x, s),
+            ScenarioTwo::SCI | ScenarioTwo::DCI => passing(set.head, x, s),
+            ScenarioTwo::SCS => instead_after(set, x, s),
+            ScenarioTwo::ICD => sole_after(set, x, s, 2),
+            ScenarioTwo::SCD => sole_after(set, x, s, 1),
+            ScenarioTwo::DCD => sole_after(set, x, s, 0),
+        }
     }
 }
 
-// How many letters are given.
-fn letters(number: usize) -> usize
-    requires { number < 13 }
-    ensures { (k : ℕ) (sol : ℕ → Bool) (x : letters.Kmer) (s : List ℕ) (t : letters.Kmer) → LettersAre (nth (rules.two k sol x s) number) x t result }
+fn refused(lookups: u64) -> Trial
+    ensures { (result.tried ≡ None) × (result.lookups ≡ lookups) }
 {
-    match number {
-        0..=1 => 1,
-        2..=4 => 2,
-        5 => 1,
-        6..=7 => 2,
-        8..=10 => 3,
-        11 => 0,
-        _ => 3,
+    Trial {
+        tried: None,
+        lookups,
     }
 }
 
-// A single letter is x's last; more are the tried k-mer's.
-pub fn correct(number: usize, x: Kmer, tried: Kmer, place: usize) -> Mend
-    requires { (number < 13) × (tried.unknown ≡ 0) }
-    ensures { (k : ℕ) (sol : ℕ → Bool) (s : List ℕ) → Gives (nth (rules.two k sol (kmer_of x) s) number) (kmer_of tried) place result }
+fn given(kmer: Kmer, lookups: u64) -> Trial
+    ensures { (result.tried ≡ Some kmer) × (result.lookups ≡ lookups) }
 {
-    let letters = letters(number);
-    let resume = row_of(number).2;
-    let code = if letters == 1 { x.code } else { tried.code };
-    Mend {
-        code,
-        letters,
-        resume,
-        tried: tried.code,
-        place,
+    Trial {
+        tried: Some(kmer),
+        lookups,
     }
 }
 
 // y+si
 fn with(kmer: Kmer, s: &[u8], i: usize, head: Header) -> Kmer
-    requires { Shifts head × IsKmer head.k kmer × (i < length s.now) }
+    requires { IsKmer head.k kmer × (i < length s.now) }
     ensures { HasLetters head.k (plus head.k (kmer_of kmer) s.now i) result }
 {
     scan::add_base(kmer, s[i], head)
 }
 
+fn sole_next(set: &KmerSet, x: Kmer) -> Option<Kmer>
+    requires { IsKmer set.now.head.k x }
+    ensures { NextIs set.now.head.k (scans.sole set.now.head.k (solid (set_of set.now.bytes.now)) (kmer_of x)).answer result }
+{
+        match successors::sole_next(set.bytes, set.starts, set.head, x) { successors::Next::Kmer(y) => Some(y), successors::Next::Refused => None }
+}
+
 // x+u(x)
-fn sole(set: &[u8], starts: &[u32], head: Header, x: Kmer) -> Trial
-    requires { Ready set.now starts.now head × IsKmer head.k x }
-    ensures { TrialIs head.k (Scan.sole head.k (solid (set_of set.now)) (kmer_of x)) result }
+fn sole(set: &KmerSet, x: Kmer) -> Trial
+    requires { IsKmer set.now.head.k x }
+    ensures { TrialIs set.now.head.k (scans.sole set.now.head.k (solid (set_of set.now.bytes.now)) (kmer_of x)) result × (result.lookups ≤ 4) }
 {
     Trial {
-        tried: successors::sole_next(set, starts, head, x),
-        lookups: successors::next_cost(x, head),
+        tried: sole_next(set, x),
+        lookups: successors::next_cost(x, set.head),
     }
 }
 
 // y = x+si, y+u(y)
-fn sole_after(set: &[u8], starts: &[u32], head: Header, x: Kmer, s: &[u8], i: usize) -> Trial
-    requires { Ready set.now starts.now head × IsKmer head.k x × (i < length s.now) }
-    ensures { TrialIs head.k (sole_after head.k (solid (set_of set.now)) (kmer_of x) s.now i) result }
+fn sole_after(set: &KmerSet, x: Kmer, s: &[u8], i: usize) -> Trial
+    requires { IsKmer set.now.head.k x × (i < length s.now) }
+    ensures { TrialIs set.now.head.k (sole_after set.now.head.k (solid (set_of set.now.bytes.now)) (kmer_of x) s.now i) result }
 {
-    sole(set, starts, head, with(x, s, i, head))
+    sole(set, with(x, s, i, set.head))
 }
 
 // x+s3, solid
-fn solid_after(set: &[u8], starts: &[u32], head: Header, x: Kmer, s: &[u8]) -> Trial
-    requires { Ready set.now starts.now head × IsKmer head.k x × (3 < length s.now) }
-    ensures { TrialIs head.k (solid_after head.k (solid (set_of set.now)) (kmer_of x) s.now) result }
+fn solid_after(set: &KmerSet, x: Kmer, s: &[u8]) -> Trial
+    requires { IsKmer set.now.head.k x × (3 < length s.now) }
+    ensures { TrialIs set.now.head.k (solid_after set.now.head.k (solid (set_of set.now.bytes.now)) (kmer_of x) s.now) result }
 {
-    let kmer = with(x, s, 3, head);
-    let asked = set::ask(set, starts, head, kmer);
+    let kmer = with(x, s, 3, set.head);
+    let asked = set.ask(kmer);
     if asked.solid {
-        Trial {
-            tried: Next::Kmer(kmer),
-            lookups: asked.lookups,
-        }
+        given(kmer, asked.lookups)
     } else {
-        Trial {
-            tried: Next::Refused,
-            lookups: asked.lookups,
-        }
+        refused(asked.lookups)
     }
 }
 
 // x+s1+s3
 fn passing(head: Header, x: Kmer, s: &[u8]) -> Trial
-    requires { Shifts head × IsKmer head.k x × (3 < length s.now) }
+    requires { IsKmer head.k x × (3 < length s.now) }
     ensures { TrialIs head.k (passing_of head.k (kmer_of x) s.now) result }
 {
-    Trial {
-        tried: Next::Kmer(with(with(x, s, 1, head), s, 3, head)),
-        lookups: 0,
-    }
+    given(with(with(x, s, 1, head), s, 3, head), 0)
 }
 
 // x+s1 not solid, x+u(x)
-fn instead(set: &[u8], starts: &[u32], head: Header, x: Kmer, s: &[u8]) -> Trial
-    requires { Ready set.now starts.now head × IsKmer head.k x × (1 < length s.now) }
-    ensures { TrialIs head.k (instead_of head.k (solid (set_of set.now)) (kmer_of x) s.now) result }
+fn instead(set: &KmerSet, x: Kmer, s: &[u8]) -> Trial
+    requires { IsKmer set.now.head.k x × (1 < length s.now) }
+    ensures { TrialIs set.now.head.k (instead_of set.now.head.k (solid (set_of set.now.bytes.now)) (kmer_of x) s.now) result }
 {
-    let asked = set::ask(set, starts, head, with(x, s, 1, head));
-    let mut lookups = asked.lookups;
+    let asked = set.ask(with(x, s, 1, set.head));
     if asked.solid {
-        return Trial {
-            tried: Next::Refused,
-            lookups,
-        };
+        return refused(asked.lookups);
     }
-    lookups += successors::next_cost(x, head);
+    let on = sole(set, x);
     Trial {
-        tried: successors::sole_next(set, starts, head, x),
-        lookups,
+        tried: on.tried,
+        lookups: asked.lookups + on.lookups,
     }
 }
 
 // y = x+s1 solid, y+s2 not, y+u(y)
-fn instead_after(set: &[u8], starts: &[u32], head: Header, x: Kmer, s: &[u8]) -> Trial
-    requires { Ready set.now starts.now head × IsKmer head.k x × (2 < length s.now) }
-    ensures { TrialIs head.k (instead_after head.k (solid (set_of set.now)) (kmer_of x) s.now) result }
+fn instead_after(set: &KmerSet, x: Kmer, s: &[u8]) -> Trial
+    requires { IsKmer set.now.head.k x × (2 < length s.now) }
+    ensures { TrialIs set.now.head.k (instead_after set.now.head.k (solid (set_of set.now.bytes.now)) (kmer_of x) s.now) result }
 {
-    let y = with(x, s, 1, head);
-    let first = set::ask(set, starts, head, y);
-    let mut lookups = first.lookups;
+    let y = with(x, s, 1, set.head);
+    let first = set.ask(y);
     if !first.solid {
-        return Trial {
-            tried: Next::Refused,
-            lookups,
-        };
+        return refused(first.lookups);
     }
-    let second = set::ask(set, starts, head, with(y, s, 2, head));
-    lookups += second.lookups;
+    let second = set.ask(with(y, s, 2, set.head));
+    let lookups = first.lookups + second.lookups;
     if second.solid {
-        return Trial {
-            tried: Next::Refused,
-            lookups,
-        };
+        return refused(lookups);
     }
-    lookups += successors::next_cost(y, head);
+    let on = sole(set, y);
     Trial {
-        tried: successors::sole_next(set, starts, head, y),
-        lookups,
-    }
-}
-
-pub fn apply(set: &[u8], starts: &[u32], head: Header, number: usize, x: Kmer, s: &[u8]) -> Trial
-    requires { Ready set.now starts.now head × IsKmer head.k x × (number < 13) }
-    ensures { TrialIs head.k (trial_of s.now (nth (rules.two head.k (solid (set_of set.now)) (kmer_of x) s.now) number)) result }
-{
-    if s.len() < row_of(number).0 {
-        return Trial {
-            tried: Next::Refused,
-            lookups: 0,
-        };
-    }
-    match number {
-        0..=1 => Trial {
-            tried: Next::Kmer(x),
-            lookups: 0,
-        },
-        2 => instead(set, starts, head, x, s),
-        3..=4 => sole(set, starts, head, x),
-        5 => solid_after(set, starts, head, x, s),
-        6 => instead(set, starts, head, x, s),
-        7 => sole_after(set, starts, head, x, s, 2),
-        8 => passing(head, x, s),
-        9 => instead_after(set, starts, head, x, s),
-        10 => sole_after(set, starts, head, x, s, 1),
-        11 => passing(head, x, s),
-        _ => sole_after(set, starts, head, x, s, 0),
+        tried: on.tried,
+        lookups: lookups + on.lookups,
     }
 }
