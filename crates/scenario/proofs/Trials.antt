@@ -20,8 +20,9 @@ use Rattle.kmer.specs.declared.Kmer.{Kmer as KmerOf}
 use Rattle.kmer.specs.Kmer.{kmer_of, IsKmer}
 use Rattle.set.specs.declared.Asked.{Asked}
 use Rattle.set.specs.Asked.{AskedIs}
+use Rattle.successors.specs.Successors.{NextIs}
 use Rattle.scenario.specs.declared.Trial.{Trial}
-use Rattle.scenario.specs.Scenario.{NextIs, nth, one_of, trial_of, plus, sole_after, solid_after, passing_of, instead_of, instead_after, TrialIs}
+use Rattle.scenario.specs.Scenario.{nth, one_of, trial_of, plus, sole_after, solid_after, passing_of, instead_of, instead_after, TrialIs}
 
 pub trial-short : (s : List ℕ) (sc : Scenario) → length s < sc.least → trial_of s sc ≡ refuse
 unfolding trial_of

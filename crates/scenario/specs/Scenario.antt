@@ -1,13 +1,11 @@
 -- The scenarios of One and Two, and what their functions give by the rules.
-use Rattle.std.specs.Prelude.{ℕ, zero, suc, ◌≤◌, ◌≡◌, Bool, true, false, List, [], ◌∷◌, length, get_or, ltb, Option, Some, None}
-use Rattle.std.proofs.Math.Option.{Option as MaybeOf, none, some}
-use Rattle.kmer.specs.declared.Kmer.{Kmer as KmerOf}
-use Rattle.kmer.specs.Kmer.{kmer_of, IsKmer}
+use Rattle.std.specs.Prelude.{ℕ, zero, suc, ◌≤◌, ◌≡◌, Bool, true, false, List, [], ◌∷◌, length, get_or, ltb}
 use Rattle.rules.specs.Letters.{Kmer, add_base, last}
 use Rattle.rules.specs.Counted.{Try, refuse, give, ◌>>◌}
 use Rattle.rules.specs.Scan.{is_solid, not_solid, sole}
 use Rattle.rules.specs.Exist.{Scenario, one, two}
 use Rattle.rules.specs.Exist as rules
+use Rattle.successors.specs.Successors.{NextIs}
 use Rattle.scenario.specs.declared.one.ScenarioOne.{ScenarioOne}
 use Rattle.scenario.specs.declared.one.ScenarioOne.TheVariants as ones
 use Rattle.scenario.specs.declared.two.ScenarioTwo.{ScenarioTwo}
@@ -87,10 +85,6 @@ module _ (k : ℕ) (sol : ℕ → Bool) (x : Kmer) (s : List ℕ) where
   -- SCS: y = x+s1 solid, y+s2 not, y+u(y).
   unfoldable pub instead_after : Try Kmer
   instead_after = is_solid k sol (plus k x s 1) >> not_solid k sol (plus k (plus k x s 1) s 2) >> sole k sol (plus k x s 1)
-
-abbrev pub NextIs : ℕ → MaybeOf Kmer → Option KmerOf → Type 0
-NextIs k o (Some y) = (o ≡ some (kmer_of y)) × IsKmer k y
-NextIs k o None = o ≡ none
 
 -- The tried k-mer or a refusal, after the lookups made.
 pub record TrialIs (k : ℕ) (t : Try Kmer) (r : Trial) : Type 0 where

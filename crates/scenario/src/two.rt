@@ -5,7 +5,7 @@ ghost use Rattle.rules.specs.Set.{solid, set_of};
 ghost use Rattle.rules.specs.Scan as scans;
 ghost use Rattle.rules.specs.Exist as rules;
 ghost use Rattle.kmer.specs.Kmer.{kmer_of, IsKmer, HasLetters};
-ghost use Rattle.scenario.specs.Scenario.{two_of, plus, sole_after, solid_after, passing_of, instead_of, instead_after, TrialIs, NextIs};
+ghost use Rattle.scenario.specs.Scenario.{two_of, plus, sole_after, solid_after, passing_of, instead_of, instead_after, TrialIs};
 
 use super::{Row, Scenario, Trial};
 use kmer::{Header, Kmer};
@@ -123,20 +123,13 @@ fn with(kmer: Kmer, s: &[u8], i: usize, head: Header) -> Kmer
     scan::add_base(kmer, s[i], head)
 }
 
-fn sole_next(set: &KmerSet, x: Kmer) -> Option<Kmer>
-    requires { IsKmer set.now.head.k x }
-    ensures { NextIs set.now.head.k (scans.sole set.now.head.k (solid (set_of set.now.bytes.now)) (kmer_of x)).answer result }
-{
-        match successors::sole_next(set.bytes, set.starts, set.head, x) { successors::Next::Kmer(y) => Some(y), successors::Next::Refused => None }
-}
-
 // x+u(x)
 fn sole(set: &KmerSet, x: Kmer) -> Trial
     requires { IsKmer set.now.head.k x }
     ensures { TrialIs set.now.head.k (scans.sole set.now.head.k (solid (set_of set.now.bytes.now)) (kmer_of x)) result × (result.lookups ≤ 4) }
 {
     Trial {
-        tried: sole_next(set, x),
+        tried: successors::sole_next(set, x),
         lookups: successors::next_cost(x, set.head),
     }
 }

@@ -5,26 +5,36 @@ use native.Mathlib.Numerals.{add-one}
 use mathlib.Core.Path.{◌≡◌, refl, sym, ap, ◌∙◌, subst}
 use mathlib.Core.Bool.{Bool, true, false}
 use mathlib.Core.Option.{Option, none, some}
-use mathlib.Core.List.{List, [], ◌∷◌, ◌++◌, append_assoc, append-nil}
-use lib.Dec.{ltb, lit≤}
-use lib.ListN.{length, take, drop, get_or, drop_of_length-le}
-use lib.Seq.{drop-cons, slice, slice-cons, slice_empty, take-add, drop_at, length-take-le}
+use mathlib.Core.List.{List, [], ◌∷◌, ◌++◌, map, append_assoc, append-nil}
+use lib.Dec.{ltb, eqb}
+use lib.ListN.{length, take, drop, get_or, length-map, get_or-map, drop_of_length-le}
+use lib.Seq.{drop-cons, length-take-le}
+use Rattle.std.proofs.Common.{length-drop}
 use borrow.Author.Tests.{lt-ltb, le-ltb, eq-eqb, ne_eqb}
+use Rattle.std.specs.Prelude.{Option as Found}
 use Rattle.rules.specs.Letters.{Kmer, add_base}
 use Rattle.rules.specs.Set.{KmerSet, lookup, solid}
-use Rattle.rules.specs.Counted.{Counted, after, refuse, ◌>>=◌}
+use Rattle.rules.specs.Counted.{Counted, Try, after, refuse, ◌>>=◌}
 use Rattle.rules.specs.Scan.{ask}
-use Rattle.rules.specs.Exist.{Scenario, Mend, cons, one, two, solid_run, score, keep, tried, kept}
+use Rattle.rules.specs.Exist.{Scenario, Mend, cons, solid_run, score, keep, tried, kept}
 use Rattle.rules_laws.proofs.Kmer.{Known, ne-known}
 use Rattle.rules_laws.proofs.Scan.{ask-is, ask-one, ask-none}
-use Rattle.few_keys.specs.declared.Found.{Found}
 use Rattle.set.specs.declared.Asked.{Asked}
 use Rattle.set.specs.Asked.{AskedIs}
 use Rattle.set.specs.Found.{index_of, is_key}
 use Rattle.set.proofs.Among.{found-solid}
-use Rattle.scenario.specs.Scenario.{number_of, scenarios, nth, trial_of}
-use Rattle.scenario.proofs.Trials.{asked_is, solid-one, refused-bind, given-bind}
-use Rattle.trials.specs.Trials.{confirm}
+use Rattle.scenario.specs.Scenario.{trial_of}
+use Rattle.scenario.proofs.Trials.{asked_is, asked-le, solid-one, refused-bind, given-bind}
+use Rattle.trials.specs.Trials.{Confirmed}
+
+-- What is left of a scenario's score where its tried k-mer t is solid and s long enough: the c bases from o.
+unfoldable pub confirm : ℕ → (ℕ → Bool) → ℕ → List ℕ → Scenario → Kmer → Try Mend
+confirm k sol c s sc t =
+    let m : Counted ℕ = solid_run k sol t (take c (drop sc.o s)) in
+    record {
+      answer = elim (eqb m.answer c) [ true ↦ some (record { letters = sc.letters t; resume = sc.r; on = t ∷ [] }) | false ↦ none ];
+      lookups = m.lookups;
+    }
 
 module _ (k : ℕ) (sol : ℕ → Bool) (c : ℕ) (s : List ℕ) (pos : 1 ≤ c) (sc : Scenario) where
   -- ---- before any base is added
@@ -81,7 +91,7 @@ module _ (k : ℕ) (sol : ℕ → Bool) (c : ℕ) (s : List ℕ) (pos : 1 ≤ c)
         eligible-weak e (ask-none sol t (ne-known t f)) refl ∙ (λ i. record { answer = none; lookups = z i })
 
 -- a k-mer without unknown letters looked up, and answered by r
-pub looked-up : (set : KmerSet) (y : Kmer) → Known y → (r : Found) → index_of r ≡ lookup set y.code
+pub looked-up : (set : KmerSet) (y : Kmer) → Known y → (r : Found ℕ) → index_of r ≡ lookup set y.code
     → ask (solid set) y ≡ record { answer = is_key r; lookups = 1 }
 looked-up set y known r found =
     let a = ask-is (solid set) y known ∙ sym (found-solid r set y.code found) in
@@ -90,82 +100,89 @@ looked-up set y known r found =
 
 -- ---- the bases added
 
--- t at index o leads to z at index j, all solid between; e is the end
-module _ (k : ℕ) (sol : ℕ → Bool) (o e : ℕ) (s : List ℕ) (t : Kmer) where
+-- t, and z after j of the bases, all solid between
+module _ (k : ℕ) (sol : ℕ → Bool) (bases : List ℕ) (t : Kmer) where
   abbrev from : ℕ → Kmer → Counted ℕ
-  from j z = solid_run k sol z (slice j e s)
+  from j z = solid_run k sol z (drop j bases)
+
+  abbrev whole : Counted ℕ
+  whole = solid_run k sol t bases
 
   pub record Run (j : ℕ) (z : Kmer) : Type 0 where
-    pub answer : (from o t).answer ≡ (j - o) + (from j z).answer
-    pub lookups : (from o t).lookups ≡ (j - o) + (from j z).lookups
+    pub answer : whole.answer ≡ j + (from j z).answer
+    pub lookups : whole.lookups ≡ j + (from j z).lookups
 
-  pub run_none : Run o t
-  run_none = record { answer = omega arith; lookups = omega arith }
+  pub run-none : Run 0 t
+  run-none = record { answer = omega arith; lookups = omega arith }
 
   -- base j added gives z', which is asked and answered by p
-  module _ {j : ℕ} {z z' : Kmer} {p : Asked} (r : Run j z) (l : o ≤ j) (h : j < e) (g : e ≤ length s) (z-is : z' ≡ add_base k z (get_or s j 0)) (asked : AskedIs (ask sol z') p) where
+  module _ {j : ℕ} {z z' : Kmer} {p : Asked} (r : Run j z) (h : j < length bases) (z-is : z' ≡ add_base k z (get_or bases j 0)) (asked : AskedIs (ask sol z') p) where
     abbrev after-base : Kmer
-    after-base = add_base k z (get_or s j 0)
+    after-base = add_base k z (get_or bases j 0)
 
     here : AskedIs (ask sol after-base) p
     here = subst (λ (w : Kmer). AskedIs (ask sol w) p) z-is asked
 
-    pub run_on : p.solid ≡ true → Run (j + 1) z'
+    pub run-on : p.solid ≡ true → Run (j + 1) z'
     unfolding solid_run
-    run_on f =
+    run-on f =
         let one : (ask sol after-base).lookups ≡ 1 = sym here.lookups ∙ solid-one sol after-base here f in
         let n : from j z ≡ record { answer = suc (from (j + 1) z').answer; lookups = 1 + (from (j + 1) z').lookups } =
-        rw (slice-cons j e s 0 h g, solid_run, asked_is sol after-base here f, one, z-is, add-one) in
+        rw (drop-cons bases j 0 h, solid_run, asked_is sol after-base here f, one, z-is, add-one) in
         record {
           answer = omega (arith, r.answer, ap (λ (m : Counted ℕ). m.answer) n);
           lookups = omega (arith, r.lookups, ap (λ (m : Counted ℕ). m.lookups) n);
         }
 
-    pub run-bad : p.solid ≡ false → from o t ≡ record { answer = j - o; lookups = j - o + p.lookups }
+    pub run-bad : p.solid ≡ false → {l : ℕ} → l ≡ j → Confirmed whole (length bases) (record { solid = false; lookups = l + p.lookups })
     unfolding solid_run
-    run-bad f =
-        let n : from j z ≡ record { answer = 0; lookups = p.lookups } =
-        rw (slice-cons j e s 0 h g, solid_run, asked_is sol after-base here f, here.lookups) in
-        let a : (from o t).answer ≡ j - o = omega (arith, r.answer, ap (λ (m : Counted ℕ). m.answer) n) in
-        let b : (from o t).lookups ≡ j - o + p.lookups = omega (arith, r.lookups, ap (λ (m : Counted ℕ). m.lookups) n) in
-        λ i. record { answer = a i; lookups = b i }
+    run-bad f e =
+        let n : from j z ≡ record { answer = 0; lookups = p.lookups } = rw (drop-cons bases j 0 h, solid_run, asked_is sol after-base here f, here.lookups) in
+        record {
+          solid = ne_eqb whole.answer (length bases) (λ g. omega (arith, r.answer, ap (λ (m : Counted ℕ). m.answer) n));
+          lookups = omega (arith, r.lookups, ap (λ (m : Counted ℕ). m.lookups) n);
+          few = omega (arith, asked-le sol z' asked);
+        }
 
-  pub run-all : {j : ℕ} {z : Kmer} → Run j z → e ≤ j → j ≤ e → from o t ≡ record { answer = e - o; lookups = e - o }
+  pub run-all : {j l : ℕ} {z : Kmer} → Run j z → l ≡ j → j ≡ length bases → Confirmed whole (length bases) (record { solid = true; lookups = l })
   unfolding solid_run
-  run-all {j} {z} r h g =
-      let q : j ≡ e = omega arith in
-      let n : from j z ≡ record { answer = 0; lookups = 0 } = rw (q, slice_empty e s) in
-      let a : (from o t).answer ≡ e - o = omega (arith, r.answer, ap (λ (m : Counted ℕ). m.answer) n) in
-      let b : (from o t).lookups ≡ e - o = omega (arith, r.lookups, ap (λ (m : Counted ℕ). m.lookups) n) in
-      λ i. record { answer = a i; lookups = b i }
+  run-all {j} {l} {z} r e g =
+      let n : from j z ≡ record { answer = 0; lookups = 0 } = rw (drop_of_length-le bases {i = j} (omega arith)) in
+      record {
+        solid = eq-eqb whole.answer (length bases) (omega (arith, r.answer, ap (λ (m : Counted ℕ). m.answer) n));
+        lookups = omega (arith, r.lookups, ap (λ (m : Counted ℕ). m.lookups) n);
+        few = omega arith;
+      }
 
 -- ---- the c bases of a scenario
 
-part : (o c : ℕ) (s : List ℕ) → o + c ≤ length s → slice o (o + c) s ≡ take c (drop o s)
-part o c s h = rw (take-add o c s) (drop_at (take o s) (take c (drop o s)) o (length-take-le o s (omega arith)))
+module _ (k : ℕ) (sol : ℕ → Bool) (c : ℕ) (s : List ℕ) (sc : Scenario) (t : Kmer) where
+  -- the bases from o, as they are lent
+  pub confirmed-at : (o : ℕ) → o ≡ sc.o → sc.o + c ≤ length s → {r : Asked}
+      → Confirmed (solid_run k sol t (take (o + c - o) (drop o s))) (length (take (o + c - o) (drop o s))) r
+      → Confirmed (solid_run k sol t (take c (drop sc.o s))) c r
+  confirmed-at o e long {r} q =
+      let n : o + c - o ≡ c = omega arith in
+      let l : length (take c (drop sc.o s)) ≡ c = length-take-le c (drop sc.o s) (omega (arith, length-drop sc.o s)) in
+      subst (λ (m : ℕ). Confirmed (solid_run k sol t (take c (drop sc.o s))) m r) l (rw (n, e) at q)
 
-module _ (k : ℕ) (sol : ℕ → Bool) (c : ℕ) (s : List ℕ) (sc : Scenario) (o : ℕ) (t : Kmer) (o_is : o ≡ sc.o)
-    (long : sc.o + c ≤ length s)
-    {a n : ℕ}
-    (run : solid_run k sol t (slice o (o + c) s) ≡ record { answer = a; lookups = n })
-    (l : ℕ)
-    (left : tried k sol c s sc ≡ after l (confirm k sol c s sc t)) where
-  bases : solid_run k sol t (take c (drop sc.o s)) ≡ record { answer = a; lookups = n }
-  bases = ap (solid_run k sol t) (sym (part o c s (rw o_is long) ∙ ap (λ (i : ℕ). take c (drop i s)) o_is)) ∙ run
+  module _ (l : ℕ) {r : Asked} (left : tried k sol c s sc ≡ after l (confirm k sol c s sc t)) (q : Confirmed (solid_run k sol t (take c (drop sc.o s))) c r) where
+    pub tried-bad : r.solid ≡ false → tried k sol c s sc ≡ record { answer = none; lookups = l + r.lookups }
+    unfolding confirm after
+    tried-bad f = left ∙ rw (q.solid, confirm, f, q.lookups)
 
-  pub tried-bad : a < c → tried k sol c s sc ≡ record { answer = none; lookups = l + n }
-  unfolding confirm after
-  tried-bad h = left ∙ rw (bases, confirm, ne_eqb a c (λ e. omega arith))
-
-  pub tried-all : a ≡ c → tried k sol c s sc ≡ record { answer = some (record { letters = sc.letters t; resume = sc.r; on = t ∷ [] }); lookups = l + n }
-  unfolding confirm after
-  tried-all h = left ∙ rw (bases, confirm, eq-eqb a c h)
+    pub tried-all : r.solid ≡ true → tried k sol c s sc ≡ record { answer = some (record { letters = sc.letters t; resume = sc.r; on = t ∷ [] }); lookups = l + r.lookups }
+    unfolding confirm after
+    tried-all f = left ∙ rw (q.solid, confirm, f, q.lookups)
 
 -- ---- the scenarios in their order
 
-nth-cons : (scs : List Scenario) (i : ℕ) → i < length scs → drop i scs ≡ nth scs i ∷ drop (i + 1) scs
-unfolding nth
-nth-cons scs i h = rw (add-one) (drop-cons scs i _ h)
+-- what stands for a is the next one
+pub next-is : {A B : Type 0} (f : A → B) (all : List A) {scs : List B} → map f all ≡ scs → (i : ℕ) (a : A) → a ≡ get_or all i a → i < length all
+    → drop i scs ≡ f a ∷ drop (i + 1) scs
+next-is f all e i a is h =
+    let q : get_or (map f all) i (f a) ≡ f a = get_or-map f all i a ∙ ap f (sym is) in
+    rw (← e) (drop-cons (map f all) i (f a) (omega (arith, length-map all f)) ∙ rw (q, add-one))
 
 module _ (k : ℕ) (sol : ℕ → Bool) (c : ℕ) (s : List ℕ) (scs : List Scenario) where
   abbrev of : List Scenario → Counted (List Mend)
@@ -176,17 +193,17 @@ module _ (k : ℕ) (sol : ℕ → Bool) (c : ℕ) (s : List ℕ) (scs : List Sce
     pub answer : (of scs).answer ≡ ms ++ (of (drop i scs)).answer
     pub lookups : (of scs).lookups ≡ l + (of (drop i scs)).lookups
 
-  pub done_none : Done 0 [] 0
-  done_none = record { answer = refl; lookups = omega arith }
+  pub done-none : Done 0 [] 0
+  done-none = record { answer = refl; lookups = omega arith }
 
-  module _ {i l : ℕ} {ms : List Mend} (d : Done i ms l) (h : i < length scs) where
+  module _ {i l : ℕ} {ms : List Mend} {sc : Scenario} (d : Done i ms l) (here : drop i scs ≡ sc ∷ drop (i + 1) scs) where
     abbrev rest : Counted (List Mend)
     rest = of (drop (i + 1) scs)
 
-    module _ {n : ℕ} {o : Option Mend} (e : tried k sol c s (nth scs i) ≡ record { answer = o; lookups = n }) where
+    module _ {n : ℕ} {o : Option Mend} (e : tried k sol c s sc ≡ record { answer = o; lookups = n }) where
       next : of (drop i scs) ≡ record { answer = cons o rest.answer; lookups = n + rest.lookups }
       unfolding kept
-      next = rw (nth-cons scs i h, kept, e)
+      next = rw (here, kept, e)
 
       answered : (of scs).answer ≡ ms ++ cons o rest.answer
       answered = d.answer ∙ ap (λ (t : Counted (List Mend)). ms ++ t.answer) next
@@ -194,11 +211,11 @@ module _ (k : ℕ) (sol : ℕ → Bool) (c : ℕ) (s : List ℕ) (scs : List Sce
       paid : (of scs).lookups ≡ l + n + rest.lookups
       paid = omega (arith, d.lookups, ap (λ (t : Counted (List Mend)). t.lookups) next)
 
-    pub done_refused : {n : ℕ} → tried k sol c s (nth scs i) ≡ record { answer = none; lookups = n } → Done (i + 1) ms (l + n)
+    pub done-refused : {n : ℕ} → tried k sol c s sc ≡ record { answer = none; lookups = n } → Done (i + 1) ms (l + n)
     unfolding cons
-    done_refused e = record { answer = answered e; lookups = paid e }
+    done-refused e = record { answer = answered e; lookups = paid e }
 
-    pub done-kept : {n : ℕ} {m : Mend} → tried k sol c s (nth scs i) ≡ record { answer = some m; lookups = n } → Done (i + 1) (ms ++ (m ∷ [])) (l + n)
+    pub done-kept : {n : ℕ} {m : Mend} → tried k sol c s sc ≡ record { answer = some m; lookups = n } → Done (i + 1) (ms ++ (m ∷ [])) (l + n)
     unfolding cons
     done-kept {m = m} e = record { answer = answered e ∙ sym (append_assoc ms (m ∷ []) rest.answer); lookups = paid e }
 
@@ -212,12 +229,3 @@ module _ (k : ℕ) (sol : ℕ → Bool) (c : ℕ) (s : List ℕ) (scs : List Sce
 
     pub done-lookups : (of scs).lookups ≡ l
     done-lookups = omega (arith, d.lookups, ap (λ (t : Counted (List Mend)). t.lookups) ended)
-
-pub scenarios-length : (b : Bool) (k : ℕ) (sol : ℕ → Bool) (x : Kmer) (s : List ℕ) → length (scenarios b k sol x s) ≡ number_of b
-unfolding one two
-scenarios-length true k sol x s = refl
-scenarios-length false k sol x s = refl
-
-pub number-le : (b : Bool) → number_of b ≤ 13
-number-le true = lit≤ tt
-number-le false = lit≤ tt

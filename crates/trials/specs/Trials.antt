@@ -1,62 +1,41 @@
 -- What the trials of One and Two give by the rules.
-use Rattle.std.specs.Prelude.{ℕ, ◌+◌, ◌≤◌, ◌<◌, ◌≡◌, Bool, true, false, List, [], ◌∷◌, map, length, get_or, take, drop, eqb}
-use Rattle.std.proofs.Math.Option.{none, some}
-use Rattle.rules.specs.Letters as letters
-use Rattle.rules.specs.Set.{KmerSet, lookup, solid}
-use Rattle.rules.specs.Counted.{Counted, Try, after}
-use Rattle.rules.specs.Exist.{Scenario}
+use Rattle.std.specs.Prelude.{ℕ, ◌≤◌, ◌≡◌, List, map, length, eqb, Option, Some, None}
+use Rattle.std.specs.List.{All}
+use Rattle.std.proofs.Math.Option.{Option as MaybeOf, none, some}
+use Rattle.rules.specs.Set.{KmerSet, lookup}
+use Rattle.rules.specs.Counted.{Counted, Try}
 use Rattle.rules.specs.Exist as rules
-use Rattle.kmer.specs.Kmer.{kmer_of, IsKmer}
-use Rattle.scenario.specs.declared.Mend.{Mend}
-use Rattle.scenario.specs.Scenario.{spelled_out, Small}
-use Rattle.trials.specs.declared.Tried.{Tried}
-use Rattle.trials.specs.declared.Tried.TheVariants.{Kmer, Refused}
-use Rattle.trials.specs.declared.Candidate.{Candidate}
+use Rattle.set.specs.declared.Asked.{Asked}
+use Rattle.scenario.specs.declared.mend.Mend.{Mend}
+use Rattle.scenario.specs.Scenario.{spelled_out}
+use Rattle.trials.specs.declared.Pick.{Pick}
 use Rattle.trials.specs.declared.Scenarii.{Scenarii}
 
--- What is left of a scenario's score where its tried k-mer t is solid and s long enough: the c bases from o.
-unfoldable pub confirm : ℕ → (ℕ → Bool) → ℕ → List ℕ → Scenario → letters.Kmer → Try rules.Mend
-confirm k sol c s sc t =
-    let m : Counted ℕ = rules.solid_run k sol t (take c (drop sc.o s)) in
-    record {
-      answer = elim (eqb m.answer c) [ true ↦ some (record { letters = sc.letters t; resume = sc.r; on = t ∷ [] }) | false ↦ none ];
-      lookups = m.lookups;
-    }
-
--- After l lookups a scenario is refused, or a k-mer is left to confirm, for which s is long enough, and place is its key's index.
-abbrev pub EligibleIs : ℕ → KmerSet → ℕ → List ℕ → Scenario → ℕ → Tried → Type 0
-EligibleIs k set c s sc l (Kmer y place) =
-    (rules.tried k (solid set) c s sc ≡ after l (confirm k (solid set) c s sc (kmer_of y)))
-    × IsKmer k y × (sc.o + c ≤ length s) × (y.unknown ≡ 0) × (lookup set y.code ≡ some place)
-EligibleIs k set c s sc l Refused = rules.tried k (solid set) c s sc ≡ record { answer = none; lookups = l }
-
--- A trial as far as its first confirm base; at most 8 lookups, so that the counts fit.
-pub record Eligible (k : ℕ) (set : KmerSet) (c : ℕ) (s : List ℕ) (sc : Scenario) (r : Candidate) : Type 0 where
-  pub is : EligibleIs k set c s sc r.lookups r.tried
-  pub few : r.lookups ≤ 8
-
--- The entry of a place of the group where no scenario is kept yet.
-abbrev pub blank : Mend
-blank = record { code = 0; letters = 0; resume = 0; tried = 0; place = 0 }
+-- Whether a run of solid k-mers went over all of c bases, after its lookups.
+pub record Confirmed (m : Counted ℕ) (c : ℕ) (r : Asked) : Type 0 where
+  pub solid : eqb m.answer c ≡ r.solid
+  pub lookups : m.lookups ≡ r.lookups
+  pub few : r.lookups ≤ c
 
 -- The index of the key of a mend's tried k-mer is the mend's place.
 abbrev pub Placed : KmerSet → Mend → Type 0
 Placed set m = lookup set m.tried ≡ some m.place
 
--- The mends of the group.
-abbrev pub mends_of : Scenarii → List rules.Mend
-mends_of r = map spelled_out (take r.count r.kept)
+-- The mend of the answer o, with its key's place, or a refusal.
+abbrev pub MendIs : KmerSet → MaybeOf rules.Mend → Option Mend → Type 0
+MendIs set o (Some m) = (o ≡ some (spelled_out m)) × Placed set m
+MendIs set o None = o ≡ none
 
--- The group has room for all scenarios, and what is kept is small and has its key's place.
-pub record Held (set : KmerSet) (r : Scenarii) : Type 0 where
-  pub group : length r.kept ≡ 13
-  pub count_le : r.count ≤ 13
-  pub small : (i : ℕ) → i < r.count → Small (get_or r.kept i blank)
-  pub placed : (i : ℕ) → i < r.count → Placed set (get_or r.kept i blank)
+-- A mend or a refusal, after at most `most` lookups.
+pub record PickIs (set : KmerSet) (most : ℕ) (t : Try rules.Mend) (r : Pick) : Type 0 where
+  pub mend : MendIs set t.answer r.mend
+  pub lookups : t.lookups ≡ r.lookups
+  pub few : r.lookups ≤ most
 
--- The scenarios kept by the rules, with all lookups.
+-- The scenarios kept by the rules, with all lookups; each has its key's place.
 pub record KeptIs (set : KmerSet) (k : Counted (List rules.Mend)) (r : Scenarii) : Type 0 where
-  pub answer : k.answer ≡ mends_of r
+  pub answer : k.answer ≡ map spelled_out r.kept
+  pub many : length r.kept ≤ 13
   pub lookups : k.lookups ≡ r.lookups
   pub few : r.lookups ≤ 4000
-  pub held : Held set r
+  pub placed : All (Placed set) r.kept

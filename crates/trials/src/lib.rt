@@ -1,140 +1,118 @@
-// Document 01, "Correctors", One and Two: the trials of src/correct/exist/mod.rs. A scenario is its number in the source's order. A k-mer that
-// holds an unknown letter isn't solid, and no lookup is made or counted for it (document 02, W5).
+// Document 01, "Correctors", One and Two: the trials of src/correct/exist/mod.rs. A k-mer that holds an unknown letter isn't solid, and no
+// lookup is made or counted for it (document 02, W5).
 #![tactic(auto)]
 
-ghost use Rattle.std.specs.Prelude.{◌≤◌, ◌<◌};
+mod group;
+
+ghost use Rattle.std.specs.Prelude.{◌≡◌, ◌≤◌, ◌<◌, length, None};
 ghost use Rattle.rules.specs.Set.{solid, set_of};
 ghost use Rattle.rules.specs.Exist as rules;
 ghost use Rattle.kmer.specs.Kmer.{kmer_of, IsKmer};
-ghost use Rattle.set.specs.Ready.{Ready};
-ghost use Rattle.scenario.specs.Scenario.{number_of, scenarios, nth};
-ghost use Rattle.trials.specs.Trials.{Eligible, KeptIs};
+ghost use Rattle.trials.specs.Trials.{Confirmed, PickIs, KeptIs};
 
-use few_keys::Found;
-use kmer::{Header, Kmer};
-use scenario::Mend;
-use successors::Next;
+pub use group::Group;
+use kmer::Kmer;
+use scenario::{Mend, Scenario};
+use set::{Asked, KmerSet};
 
-// The scenarios kept, the first `count` of the group, and the lookups of all scenarios.
-#[derive(Clone, Copy)]
+// The scenarios kept, and the lookups of all.
+#[derive(Drop)]
 pub struct Scenarii {
-    pub kept: [Mend; 13],
-    pub count: usize,
+    pub kept: Group,
     pub lookups: u64,
 }
 
-// A solid tried k-mer and its key's index.
+// A mend, if it is one to use, and the lookups that tell.
 #[derive(Clone, Copy)]
-enum Tried {
-    Kmer(Kmer, usize),
-    Refused,
+pub struct Pick {
+    pub mend: Option<Mend>,
+    pub lookups: u64,
 }
 
-// A trial as far as its first confirm base, and the lookups made.
-#[derive(Clone, Copy)]
-struct Candidate {
-    tried: Tried,
-    lookups: u64,
-}
-
-// The tried k-mer, unless the score is 0 from the outset: the trial refuses, its k-mer isn't solid, or o + c exceeds the length of s.
-fn eligible(
-    set: &[u8],
-    starts: &[u32],
-    head: Header,
-    two: bool,
-    number: usize,
-    c: usize,
-    x: Kmer,
-    s: &[u8],
-) -> Candidate
-    requires { Ready set.now starts.now head × IsKmer head.k x × (number < number_of two) × (1 ≤ c) × (c < 256) }
-    ensures { Eligible head.k (set_of set.now) c s.now
-        (nth (scenarios two head.k (solid (set_of set.now)) (kmer_of x) s.now) number) result }
+fn refused(lookups: u64) -> Pick
+    ensures { (result.mend ≡ None) × (result.lookups ≡ lookups) }
 {
-    let trial = scenario::apply(set, starts, head, two, number, x, s);
-    let mut lookups = trial.lookups;
-    let tried = trial.tried;
-    let Next::Kmer(kmer) = tried else {
-        return Candidate {
-            tried: Tried::Refused,
-            lookups,
-        };
-    };
-    if kmer.unknown != 0 {
-        return Candidate {
-            tried: Tried::Refused,
-            lookups,
-        };
-    }
-    lookups += 1;
-    let Found::At(place) = set::get(set, starts, head, kmer) else {
-        return Candidate {
-            tried: Tried::Refused,
-            lookups,
-        };
-    };
-    let start = scenario::check_start(two, number);
-    if s.len() < start + c {
-        return Candidate {
-            tried: Tried::Refused,
-            lookups,
-        };
-    }
-    Candidate {
-        tried: Tried::Kmer(kmer, place),
+    Pick {
+        mend: None,
         lookups,
     }
 }
 
-// The scenarios that score c: the c bases of s from o are added, and the trial ends at the first base whose k-mer isn't solid.
-pub fn get_scenarii(
-    set: &[u8],
-    starts: &[u32],
-    head: Header,
-    two: bool,
-    c: usize,
-    x: Kmer,
-    s: &[u8],
-) -> Scenarii
-    requires { Ready set.now starts.now head × IsKmer head.k x × (1 ≤ c) × (c < 256) }
-    ensures { KeptIs (set_of set.now) (rules.kept head.k (solid (set_of set.now)) c s.now
-        (scenarios two head.k (solid (set_of set.now)) (kmer_of x) s.now)) result }
+// The bases are added to the k-mer, each asked, up to the first whose k-mer isn't solid: whether all are.
+fn confirm(set: &KmerSet, kmer: Kmer, bases: &[u8]) -> Asked
+    requires { IsKmer set.now.head.k kmer × (length bases.now < 256) }
+    ensures { Confirmed (rules.solid_run set.now.head.k (solid (set_of set.now.bytes.now)) (kmer_of kmer) bases.now) (length bases.now) result }
 {
-    let mut kept = [Mend {
-        code: 0,
-        letters: 0,
-        resume: 0,
-        tried: 0,
-        place: 0,
-    }; 13];
-    let mut count = 0;
+    let mut last = kmer;
     let mut lookups = 0;
-    let end = scenario::number_of(two);
-    'scenarios: for number in 0..end {
-        let candidate = eligible(set, starts, head, two, number, c, x, s);
-        lookups += candidate.lookups;
-        let tried = candidate.tried;
-        let Tried::Kmer(first, place) = tried else {
-            continue 'scenarios;
-        };
-        let start = scenario::check_start(two, number);
-        let last = start + c;
-        let mut kmer = first;
-        for j in start..last {
-            kmer = scan::add_base(kmer, s[j], head);
-            let asked = set::ask(set, starts, head, kmer);
-            lookups += asked.lookups;
-            if !asked.solid {
-                continue 'scenarios;
-            }
+    for base in bases {
+        last = scan::add_base(last, *base, set.head);
+        let asked = set.ask(last);
+        lookups += asked.lookups;
+        if !asked.solid {
+            return Asked {
+                solid: false,
+                lookups,
+            };
         }
-        kept[count] = scenario::correct(two, number, x, first, place);
-        count += 1;
+    }
+    Asked {
+        solid: true,
+        lookups,
+    }
+}
+
+// A scenario that scores c gives its mend. The score is 0 from the outset where the trial refuses, its k-mer isn't solid, or o + c exceeds the
+// length of s.
+fn tried<S: Scenario>(scenario: S, set: &KmerSet, c: usize, x: Kmer, s: &[u8]) -> Pick
+    requires { IsKmer set.now.head.k x × (1 ≤ c) × (c < 256) }
+    ensures { PickIs (set_of set.now.bytes.now) 263 (rules.tried set.now.head.k (solid (set_of set.now.bytes.now)) c s.now
+        (S.scenario scenario set.now.head.k (solid (set_of set.now.bytes.now)) (kmer_of x) s.now)) result }
+{
+    let trial = scenario.apply(set, x, s);
+    let mut lookups = trial.lookups;
+    let Some(kmer) = trial.tried else {
+        return refused(lookups);
+    };
+    if kmer.unknown != 0 {
+        return refused(lookups);
+    }
+    lookups += 1;
+    let Some(place) = set.get(kmer) else {
+        return refused(lookups);
+    };
+    let start = scenario.row().start;
+    if s.len() < start + c {
+        return refused(lookups);
+    }
+    let confirmed = confirm(set, kmer, &s[start..start + c]);
+    lookups += confirmed.lookups;
+    if !confirmed.solid {
+        return refused(lookups);
+    }
+    Pick {
+        mend: Some(scenario.correct(x, kmer, place)),
+        lookups,
+    }
+}
+
+// The scenarios that score c.
+pub fn get_scenarii<S: Scenario>(set: &KmerSet, c: usize, x: Kmer, s: &[u8]) -> Scenarii
+    requires { IsKmer set.now.head.k x × (1 ≤ c) × (c < 256) }
+    ensures { KeptIs (set_of set.now.bytes.now) (rules.kept set.now.head.k (solid (set_of set.now.bytes.now)) c s.now
+        (S.scenarios set.now.head.k (solid (set_of set.now.bytes.now)) (kmer_of x) s.now)) result }
+{
+    let mut kept = Group::new();
+    let mut lookups = 0;
+    for scenario in S::all() {
+        let pick = tried(*scenario, set, c, x, s);
+        lookups += pick.lookups;
+        if let Some(mend) = pick.mend {
+            kept.push(mend);
+        }
     }
     Scenarii {
         kept,
-        count,
         lookups,
     }
 }
