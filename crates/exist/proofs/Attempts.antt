@@ -4,7 +4,7 @@ use native.Mathlib.Omega.{arith}
 use mathlib.Core.Path.{◌≡◌, refl, sym, ap, ◌∙◌}
 use mathlib.Core.Bool.{Bool}
 use mathlib.Core.Option.{Option, none, some}
-use mathlib.Core.List.{List, [], ◌∷◌}
+use mathlib.Core.List.{List, [], ◌∷◌, map}
 use lib.ListN.{length, take}
 use Rattle.rules.specs.Letters.{Kmer, in_place}
 use Rattle.rules.specs.Set.{KmerSet}
@@ -18,11 +18,11 @@ use Rattle.kmer.specs.Kmer.{HasLetters}
 use Rattle.scan.specs.Attempt.{Attempted}
 use Rattle.successors.proofs.Laws.{alternative-four}
 use Rattle.scan.specs.declared.Attempt.TheVariants.{Mend as Mended, Refused}
-use Rattle.scenario.specs.declared.Mend.{Mend}
+use Rattle.scenario.specs.declared.mend.Mend.{Mend}
 use Rattle.scenario.specs.Scenario.{of_code, spelled_out}
 use Rattle.scenario.proofs.Trials.{refused-bind, given-bind}
 use Rattle.trials.specs.declared.Scenarii.{Scenarii}
-use Rattle.trials.specs.Trials.{mends_of, KeptIs}
+use Rattle.trials.specs.Trials.{KeptIs}
 use Rattle.exist.proofs.Letters.{spelled-length}
 
 -- made lookups before it
@@ -36,17 +36,17 @@ module _ (k : ℕ) (sol : ℕ → Bool) (c : ℕ) (s : List ℕ) (scs : Kmer →
   exist-none e f = ap (after made) (refused-bind _ (λ i. record { answer = e i; lookups = sym f i }))
 
   module _ (low : 1 ≤ k) {x : Kmer} (a : (alternative k sol y).answer ≡ some x) {set : KmerSet} (r : Scenarii) (q : KeptIs set (kept k sol c s (scs x s)) r) where
-    chosen : attempt ≡ after made (after 4 (after r.lookups (choose k sol c s y (mends_of r))))
+    chosen : attempt ≡ after made (after 4 (after r.lookups (choose k sol c s y (map spelled_out r.kept))))
     unfolding exist
     chosen =
         let four = alternative-four k y low sol x a in
         ap (after made) (given-bind _ (λ i. record { answer = a i; lookups = four i }) ∙ rw (q.answer, q.lookups))
 
-    pub exist-answer : attempt.answer ≡ (choose k sol c s y (mends_of r)).answer
+    pub exist-answer : attempt.answer ≡ (choose k sol c s y (map spelled_out r.kept)).answer
     unfolding after
     exist-answer = ap (λ (t : Try rules.Mend). t.answer) chosen
 
-    pub exist-lookups : {l : ℕ} → (choose k sol c s y (mends_of r)).lookups ≡ l → attempt.lookups ≡ made + 4 + r.lookups + l
+    pub exist-lookups : {l : ℕ} → (choose k sol c s y (map spelled_out r.kept)).lookups ≡ l → attempt.lookups ≡ made + 4 + r.lookups + l
     unfolding after
     exist-lookups e = ap (λ (t : Try rules.Mend). t.lookups) chosen ∙ omega arith
 

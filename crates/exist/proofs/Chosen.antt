@@ -4,21 +4,24 @@ use native.Mathlib.Omega.{arith}
 use native.Mathlib.Numerals.{add-one}
 use mathlib.Core.Path.{◌≡◌, refl, ap, ◌∙◌, subst}
 use mathlib.Core.Bool.{Bool, true, false}
+use mathlib.Core.Option as maybe
 use mathlib.Core.Option.{none, some}
 use mathlib.Core.List.{List, [], ◌∷◌, ◌++◌, map}
-use lib.ListN.{length, take, drop, get_or, replicate, length-map, get_or-map, drop_of_length-le}
-use lib.Seq.{length-take-le, get_or-take, drop-cons}
+use lib.ListN.{length, take, drop, get_or, replicate, length-map, drop_of_length-le}
 use borrow.Author.Tests.{lt-ltb, le-ltb}
+use Rattle.std.specs.Prelude.{Option, Some, None}
 use Rattle.rules.specs.Letters.{Kmer, in_place, add_all}
+use Rattle.rules.specs.Set.{KmerSet}
 use Rattle.rules.specs.Counted.{Counted, refuse, give, after, ◌>>◌}
 use Rattle.rules.specs.Scan.{only, ask, is_solid}
 use Rattle.rules.specs.Exist.{Mend, cons, one_more, one_more_of, choose}
 use Rattle.set.specs.declared.Asked.{Asked as More}
 use Rattle.set.specs.Asked.{AskedIs}
 use Rattle.scenario.proofs.Trials.{solid-yes, solid-no, refused-then, given-then}
-use Rattle.scenario.specs.declared.Mend.{Mend as Kept}
+use Rattle.scenario.specs.declared.mend.Mend.{Mend as Kept}
 use Rattle.scenario.specs.Scenario.{spelled_out}
-use Rattle.trials.specs.Trials.{blank}
+use Rattle.trials.specs.Trials.{Placed, MendIs}
+use Rattle.trials.proofs.Scores.{next-is}
 use Rattle.exist.specs.Exist.{more_of}
 
 -- ---- one base more
@@ -50,24 +53,25 @@ module _ (k : ℕ) (sol : ℕ → Bool) (c : ℕ) (s : List ℕ) (y : Kmer) (m :
       let z-is : z ≡ end (c + 1) = q ∙ ap end n in
       rw (lt-ltb (c + m.resume + 1) (length s) h, one_more) (asked (end (c + 1)) r (subst (λ (w : Kmer). AskedIs (ask sol w) r) z-is a))
 
--- ---- the mends of the group
-
-module _ (l : List Kept) (n : ℕ) (h : n ≤ length l) where
-  abbrev mends : List Mend
-  mends = map spelled_out (take n l)
-
-  pub mends-length : length mends ≡ n
-  mends-length = length-map (take n l) spelled_out ∙ length-take-le n l h
-
-  pub mends-cons : (i : ℕ) → i < n → drop i mends ≡ spelled_out (get_or l i blank) ∷ drop (i + 1) mends
-  mends-cons i g =
-      let e : get_or mends i (spelled_out blank) ≡ spelled_out (get_or l i blank) = get_or-map spelled_out (take n l) i blank ∙ ap spelled_out (get_or-take n l i blank g) in
-      drop-cons mends i (spelled_out blank) (omega (arith, mends-length)) ∙ rw (e, add-one)
-
-  pub mends-one : n ≡ 1 → mends ≡ spelled_out (get_or l 0 blank) ∷ []
-  mends-one e = mends-cons 0 (omega arith) ∙ rw (drop_of_length-le mends {i = 0 + 1} (omega (arith, mends-length)))
-
 -- ---- the choice
+
+-- the mend chosen last
+abbrev pub last_of : Option Kept → Mend
+last_of (Some m) = spelled_out m
+last_of None = record { letters = []; resume = 0; on = [] }
+
+-- it has its key's place; none is chosen only where none of n remains
+abbrev pub ChosenIs : KmerSet → ℕ → Option Kept → Type 0
+ChosenIs set n (Some m) = Placed set m
+ChosenIs set n None = n ≡ 0
+
+pub chosen-one : (set : KmerSet) (n : ℕ) (o : Option Kept) {a : maybe.Option Mend} → ChosenIs set n o → n ≡ 1 → a ≡ some (last_of o) → MendIs set a o
+chosen-one set n (Some m) q e h = (h, q)
+chosen-one set n None q e h = absurd (omega arith)
+
+-- one mend alone
+pub one-is : (l : List Kept) (m : Kept) → length l ≡ 1 → m ≡ get_or l 0 m → map spelled_out l ≡ spelled_out m ∷ []
+one-is l m e is = next-is spelled_out l refl 0 m is (omega arith) ∙ rw (drop_of_length-le (map spelled_out l) {i = 0 + 1} (omega (arith, length-map l spelled_out)))
 
 only_next : (n : ℕ) (m m' : Mend) (l : List Mend) → only (replicate n m ++ (m' ∷ l)) ≡ only (replicate (suc n) m' ++ l)
 unfolding only

@@ -10,7 +10,7 @@ use lib.Seq.{get_or_at, take-suc, take-suc-set, take_all}
 use lib.Bits.{bit_and, and_mask}
 use Rattle.rules.specs.Letters.{Kmer, code, letter, last_letter, drop_last, last, add_all, in_place}
 use Rattle.rules_laws.proofs.Kmer.{two-four, code-letter}
-use Rattle.scenario.specs.declared.Mend.{Mend}
+use Rattle.scenario.specs.declared.mend.Mend.{Mend}
 use Rattle.scenario.specs.Scenario.{of_code, spelled_out}
 use Rattle.exist.specs.Exist.{LetterIs}
 

@@ -111,8 +111,5 @@ pub fn get_scenarii<S: Scenario>(set: &KmerSet, c: usize, x: Kmer, s: &[u8]) -> 
             kept.push(mend);
         }
     }
-    Scenarii {
-        kept,
-        lookups,
-    }
+    Scenarii { kept, lookups }
 }

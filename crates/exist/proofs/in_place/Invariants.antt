@@ -9,5 +9,5 @@ use Rattle.exist.proofs.in_place.Given as goal
 
 abbrev pub invariant-loop-i : goal.invariant-loop-i
 invariant-loop-i l =
-    (l.letters ≡ l.mend.letters) × (l.i ≤ l.letters) × IsKmer l.head.k l.placed
+    (l.i ≤ l.mend.letters) × IsKmer l.head.k l.placed
     × (add_all l.head.k (kmer_of l.initial.placed) (spelled_out l.mend).letters ≡ add_all l.head.k (kmer_of l.placed) (drop l.i (spelled_out l.mend).letters))

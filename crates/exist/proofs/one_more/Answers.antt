@@ -12,5 +12,5 @@ returns-then-s-end c =
 pub returns : goal.returns
 returns c =
     let a = c.args in
-    let e = rw c.in_place.ensures.is at c.add_all-after.ensures.is in
+    let e = rw c.in_place-placed.ensures.is at c.add_all.ensures.is in
     record { is = more-long _ _ _ _ _ (spelled_out a.mend) c.if-s-end.false refl e c.ask.ensures; few = asked-le _ _ c.ask.ensures }

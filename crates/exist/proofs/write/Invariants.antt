@@ -6,4 +6,4 @@ use Rattle.exist.proofs.write.Given as goal
 
 abbrev pub invariant-loop-i : goal.invariant-loop-i
 invariant-loop-i l =
-    (l.letters ≡ l.mend.letters) × (l.i ≤ l.letters) × (length l.out ≡ length l.initial.out) × (take l.i l.out ≡ take l.i (spelled_out l.mend).letters)
+    (l.i ≤ l.mend.letters) × (length l.out ≡ length l.initial.out) × (take l.i l.out ≡ take l.i (spelled_out l.mend).letters)

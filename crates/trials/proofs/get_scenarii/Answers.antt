@@ -22,23 +22,23 @@ loop-scenario-preserved g c =
     (c.all-scenario-items.ensures.whole _ _ _ _) c.loop-scenario.scenario-index c.scenario-item.result c.scenario-item.is c.loop-scenario-test.true in
     elim c.match-pick.branch [
       | in-Some w ↦
-        let m = w.in-Some.mend in
-        let q = subst (MendIs _ _) w.in-Some.is p.mend in
-        let n = length-append c.loop-scenario.kept (m ∷ []) in
-        rw (w.kept-is, w.push.ensures) (
-          omega (arith, n),
-          omega (arith, p.few),
-          All-push (Placed (set_of a.set.now.bytes.now)) c.loop-scenario.kept m i.2 q.1,
-          rw (map-append spelled_out c.loop-scenario.kept (m ∷ [])) (done-kept _ _ _ _ _ i.3 next (λ j. record { answer = q.0 j; lookups = p.lookups j })),
-        )
+          let m = w.in-Some.mend in
+          let q = subst (MendIs _ _) w.in-Some.is p.mend in
+          let n = length-append c.loop-scenario.kept (m ∷ []) in
+          rw (w.kept-is, w.push.ensures) (
+            omega (arith, n),
+            omega (arith, p.few),
+            All-push (Placed (set_of a.set.now.bytes.now)) c.loop-scenario.kept m i.2 q.1,
+            rw (map-append spelled_out c.loop-scenario.kept (m ∷ [])) (done-kept _ _ _ _ _ i.3 next (λ j. record { answer = q.0 j; lookups = p.lookups j })),
+          )
       | in_default w ↦
-        let q = subst (MendIs _ _) w.in_default.is p.mend in
-        rw w.kept-is (
-          omega arith,
-          omega (arith, p.few),
-          i.2,
-          done-refused _ _ _ _ _ i.3 next (λ j. record { answer = q j; lookups = p.lookups j }),
-        )
+          let q = subst (MendIs _ _) w.in_default.is p.mend in
+          rw w.kept-is (
+            omega arith,
+            omega (arith, p.few),
+            i.2,
+            done-refused _ _ _ _ _ i.3 next (λ j. record { answer = q j; lookups = p.lookups j }),
+          )
     ]
 
 pub returns : goal.returns

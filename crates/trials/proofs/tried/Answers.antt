@@ -38,7 +38,7 @@ starts-at g c = (c.row-start.ensures _ _ _ _).start
 
 confirmed : (g : Over) (c : After-confirm-confirmed g)
     → (let a = c.args in let sc = sc g (goal.at.After-confirm-confirmed g c).Start in
-      Confirmed (solid_run a.set.now.head.k (solid (set_of a.set.now.bytes.now)) (kmer_of c.in-Some.kmer) (take a.c (drop sc.o a.s.now))) a.c c.confirm-confirmed.result)
+    Confirmed (solid_run a.set.now.head.k (solid (set_of a.set.now.bytes.now)) (kmer_of c.in-Some.kmer) (take a.c (drop sc.o a.s.now))) a.c c.confirm-confirmed.result)
 confirmed g c =
     confirmed-at _ _ _ _ (sc g (goal.at.After-confirm-confirmed g c).Start) _ _ (starts-at g (goal.at.After-confirm-confirmed g c).After-row-start)
     (rw (← starts-at g (goal.at.After-confirm-confirmed g c).After-row-start) c.if-s-start.false) c.confirm-confirmed.ensures
