@@ -2,6 +2,7 @@
 use Prim.Native.Nat.{ℕ, ◌+◌, ◌-◌, ◌≤◌, ◌<◌, max}
 use native.Mathlib.Omega.{arith}
 use mathlib.Core.Path.{◌≡◌, refl, sym, ap, ◌∙◌, subst}
+use mathlib.Core.Bool.{false≢true}
 use mathlib.Core.List.{List, [], ◌∷◌}
 use lib.ListN.{length, take}
 use lib.Seq.{length-take-le}
@@ -10,14 +11,40 @@ use Rattle.rules.specs.Job.{Entry, entry_at, entry_count, entries_of, result}
 use Rattle.rules.specs.Counts.{sum, passes_of, support_over}
 use Rattle.rules.specs.Calls.{max_read, longest}
 use Rattle.rules_laws.proofs.Job.{entries_of-length}
-use Rattle.correct.specs.declared.Counts.{Counts}
-use Rattle.correct.specs.declared.Pass.{Pass}
-use Rattle.correct.specs.declared.Pass.TheVariants.{Done, Full}
+use Rattle.std.specs.Prelude.{Result, Ok, Err, IsErr}
+use Rattle.turn.specs.declared.Counts.{Counts}
+use Rattle.turn.specs.declared.Full.{Full}
+use Rattle.turn.specs.Turn.{summed, Summed}
 use Rattle.correct.specs.Pass.{Tally, with_bases, one_pass, tally_of, returned, PassIs, Small}
-use Rattle.through.specs.Through.{joined, JoinIs, through, held, ThroughIs, entries_left, both, go_on, GoneOn}
+use Rattle.through.specs.Through.{through, held, ThroughIs, entries_left, both, go_on, GoneOn}
 use Rattle.through.proofs.InTurn.{held-even, held-length, entries-all, entries_next, entries_over, add_small, begun, next, over, fits, long, longest-end}
 
+-- ---- passes that do not fit
+
+pub gone-full : (set : KmerSet) (job : List ℕ) (p : Tally) (room : ℕ) (out : List ℕ) (r : Result Counts Full) → IsErr r
+    → room < longest set (entries_left job 1) p.bytes → GoneOn set job p room out r
+gone-full set job p room out (Err e) is h = h
+gone-full set job p room out (Ok r) is h = absurd (false≢true is)
+
+pub through-full : (set : KmerSet) (es : List Entry) (read : List ℕ) (room : ℕ) (out : List ℕ) (r : Result Counts Full) → IsErr r
+    → room < longest set es read → ThroughIs set es read room out r
+through-full set es read room out (Err e) is h = h
+through-full set es read room out (Ok r) is h = absurd (false≢true is)
+
 -- ---- the passes behind the first
+
+-- what r wrote, and the sums s
+abbrev pub behind : Counts → Counts → Counts
+behind r s =
+    record {
+      written = r.written;
+      turns = s.turns;
+      lookups = s.lookups;
+      attempts = s.attempts;
+      accepted = s.accepted;
+      support = s.support;
+      bases = s.bases;
+    }
 
 module _ (set : KmerSet) (job : List ℕ) where
   abbrev n : ℕ
@@ -79,32 +106,32 @@ module _ (set : KmerSet) (job : List ℕ) where
       next_small out r one d = add_small i 1 (tally_of p h) (tally_of r out) u.small (subst (Small 1) (sym d) one)
 
       -- one pass more
-      pub next-done : (output' work' : List ℕ) (r j : Counts) → JoinIs p r j → length output' ≡ length output → length work' ≡ length work
+      pub next-done : (output' work' : List ℕ) (r s : Counts) → Summed p r s → length output' ≡ length output → length work' ≡ length work
           → Small 1 (one_pass set e fed)
-          → PassIs (length output) (held (n - i - 1) output' work') (one_pass set e fed) (Done r)
-          → Underway whole most output' work' j (i + 1)
-      next-done output' work' r j joins o w one told =
+          → PassIs (length output) (held (n - i - 1) output' work') (one_pass set e fed) (Ok r)
+          → Underway whole most output' work' (behind r s) (i + 1)
+      next-done output' work' r s sum o w one told =
           let l = entries_left job (i + 1) in
           let split = entries_next job i more in
           let one_less : n - i - 1 ≡ n - (i + 1) = omega arith in
-          let d = subst (λ (j : ℕ). PassIs (length output) (held j output' work') (one_pass set e fed) (Done r)) one_less told in
+          let d = subst (λ (j : ℕ). PassIs (length output) (held j output' work') (one_pass set e fed) (Ok r)) one_less told in
           let h' = held (n - (i + 1)) output' work' in
           let rooms : length work' ≡ length output' = w ∙ u.rooms ∙ sym o in
           let room = held-length (n - i) output work u.rooms in
           let room' = held-length (n - (i + 1)) output' work' rooms in
           let bytes = ap (λ (q : Tally). q.bytes) d.0 in
           let len : length (one_pass set e fed).bytes ≤ length output = omega (arith, ap length bytes, length-take-le r.written h' d.1, d.1) in
-          let joint : tally_of (joined p r joins.support) h' ≡ both (tally_of p h) (tally_of r h') =
+          let joint : tally_of (behind r (summed p r s.support)) h' ≡ both (tally_of p h) (tally_of r h') =
           λ v. record {
             bytes = take r.written h';
             turns = p.turns + r.turns;
             lookups = p.lookups + r.lookups;
             attempts = p.attempts + r.attempts;
             accepted = p.accepted + r.accepted;
-            support = joins.weighed v;
+            support = sum.weaker_is v;
             bases = p.bases + r.bases;
           } in
-          subst (λ (q : Counts). Underway whole most output' work' q (i + 1)) (sym joins.is)
+          subst (λ (q : Counts). Underway whole most output' work' (behind r q) (i + 1)) (sym sum.is)
           (record {
             low = omega arith;
             high = omega arith;
@@ -157,10 +184,10 @@ module _ (set : KmerSet) (job read : List ℕ) where
   entries = entry_count job
 
   -- without entries
-  pub none_done : (output output' : List ℕ) (r : Pass) → entries ≡ 0 → length output' ≡ length output
+  pub none_done : (output output' : List ℕ) (r : Result Counts Full) → entries ≡ 0 → length output' ≡ length output
       → PassIs (length output) output' (with_bases (returned read) 0) r → ThroughIs set es read (length output) output' r
   unfolding through passes_of sum support_over result longest
-  none_done output output' (Done r) none o d =
+  none_done output output' (Ok r) none o d =
       let end : es ≡ [] = entries-all job ∙ entries_over job 0 (omega arith) in
       let len = ap (λ (p : Tally). length p.bytes) d.0 in
       rw end (
@@ -169,7 +196,7 @@ module _ (set : KmerSet) (job read : List ℕ) where
         omega (arith, len, length-take-le r.written output' d.1, d.1),
         subst (Small 0) (sym d.0) (record { turns = omega arith; lookups = omega arith; attempts = omega arith; accepted = omega arith; bases = omega arith }),
       )
-  none_done output output' Full none o d =
+  none_done output output' (Err full) none o d =
       let end : es ≡ [] = entries-all job ∙ entries_over job 0 (omega arith) in
       rw end d
 
@@ -187,7 +214,7 @@ module _ (set : KmerSet) (job read : List ℕ) where
     first-full room g = subst (λ (x : List Entry). room < longest set x read) (sym split) (long set room (entry_at job 0) l read g)
 
     -- The first pass, held by a buffer with that room, and those behind it.
-    pub all-through : (room : ℕ) (h out : List ℕ) (first : Counts) (r : Pass) → tally_of first h ≡ p → first.written ≤ length h → length h ≡ room
+    pub all-through : (room : ℕ) (h out : List ℕ) (first : Counts) (r : Result Counts Full) → tally_of first h ≡ p → first.written ≤ length h → length h ≡ room
         → GoneOn set job (tally_of first h) room out r → ThroughIs set es read room out r
     all-through room h out first r e w same g = go r (subst (λ (q : Tally). GoneOn set job q room out r) e g)
       where
@@ -197,11 +224,11 @@ module _ (set : KmerSet) (job read : List ℕ) where
         longs : max room (longest set l p.bytes) ≡ max room (longest set es read)
         longs = fits set room (entry_at job 0) l read len ∙ ap (λ (x : List Entry). max room (longest set x read)) (sym split)
 
-        go : (r : Pass) → GoneOn set job p room out r → ThroughIs set es read room out r
-        go (Done r) d = (
+        go : (r : Result Counts Full) → GoneOn set job p room out r → ThroughIs set es read room out r
+        go (Ok r) d = (
           d.0 ∙ begun set (entry_at job 0) l read ∙ ap (λ (x : List Entry). through set x read) (sym split),
           d.1,
           omega (arith, longs, d.2),
           subst (λ (j : ℕ). Small j (tally_of r out)) (sym (entries_of-length job)) d.3,
         )
-        go Full d = omega (arith, longs, d)
+        go (Err full) d = omega (arith, longs, d)

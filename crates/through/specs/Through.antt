@@ -1,14 +1,12 @@
 -- Document 01, "Records", Job and Counts, and refusal 11, and document 02, W8 and W10: a read through the entries of a job.
-use Rattle.std.specs.Prelude.{ℕ, ◌+◌, ◌-◌, ◌≤◌, ◌<◌, ◌%◌, ◌≡◌, true, false, List, length, eqb}
+use Rattle.std.specs.Prelude.{ℕ, ◌+◌, ◌-◌, ◌≤◌, ◌<◌, ◌%◌, ◌≡◌, true, false, List, length, eqb, Result, Ok, Err}
 use Rattle.rules.specs.Set.{KmerSet}
 use Rattle.rules.specs.Driver as rules
 use Rattle.rules.specs.Job.{Entry, entry_count, entries_from, entries_of, result}
 use Rattle.rules.specs.Counts.{Fed, sum, passes_of, turns, lookups, attempts, corrections, support_over, w_of}
 use Rattle.rules.specs.Calls.{longest}
-use Rattle.support.specs.Support.{support_of}
-use Rattle.correct.specs.declared.Pass.{Pass}
-use Rattle.correct.specs.declared.Pass.TheVariants.{Done, Full}
-use Rattle.correct.specs.declared.Counts.{Counts}
+use Rattle.turn.specs.declared.Counts.{Counts}
+use Rattle.turn.specs.declared.Full.{Full}
 use Rattle.correct.specs.Pass.{Tally, tally_of, PassIs, Small}
 
 -- The entries' result, and what their passes count.
@@ -28,18 +26,18 @@ through set es read =
 
 -- The answer to a read through a list of entries: the result with its counts; Full exactly where a pass result (the read, if no
 -- entries) is longer than the room.
-abbrev pub ThroughIs : KmerSet → List Entry → List ℕ → ℕ → List ℕ → Pass → Type 0
-ThroughIs set es read room out (Done r) =
+abbrev pub ThroughIs : KmerSet → List Entry → List ℕ → ℕ → List ℕ → Result Counts Full → Type 0
+ThroughIs set es read room out (Ok r) =
     (tally_of r out ≡ through set es read) × (r.written ≤ length out) × (longest set es read ≤ room) × Small (length es) (tally_of r out)
-ThroughIs set es read room out Full = room < longest set es read
+ThroughIs set es read room out (Err full) = room < longest set es read
 
-pub record Through (set : KmerSet) (job read output output' work work' : List ℕ) (r : Pass) : Type 0 where
+pub record Through (set : KmerSet) (job read output output' work work' : List ℕ) (r : Result Counts Full) : Type 0 where
   pub is : ThroughIs set (entries_of job) read (length output) output' r
   pub output_room : length output' ≡ length output
   pub work_room : length work' ≡ length work
 
 -- A pass of an entry into the buffer out, whose room it may use.
-pub record PassInto (room : ℕ) (out : List ℕ) (n : Tally) (r : Pass) : Type 0 where
+pub record PassInto (room : ℕ) (out : List ℕ) (n : Tally) (r : Result Counts Full) : Type 0 where
   pub is : PassIs room out n r
   pub small : Small 1 n
 
@@ -66,34 +64,14 @@ go_on set p es = both p (through set es p.bytes)
 
 -- The answer to the entries behind the first, whose pass is p: the result with the counts of all passes; Full exactly where the result of a
 -- later pass (that of the first, if there is none) is longer than the room.
-abbrev pub GoneOn : KmerSet → List ℕ → Tally → ℕ → List ℕ → Pass → Type 0
-GoneOn set job p room out (Done r) =
+abbrev pub GoneOn : KmerSet → List ℕ → Tally → ℕ → List ℕ → Result Counts Full → Type 0
+GoneOn set job p room out (Ok r) =
     (tally_of r out ≡ go_on set p (entries_left job 1))
     × (r.written ≤ length out)
     × (longest set (entries_left job 1) p.bytes ≤ room)
     × Small (entry_count job) (tally_of r out)
-GoneOn set job p room out Full = room < longest set (entries_left job 1) p.bytes
+GoneOn set job p room out (Err full) = room < longest set (entries_left job 1) p.bytes
 
 -- The buffer that holds what is read while n passes are left: the last pass ends in the output.
 unfoldable pub held : ℕ → List ℕ → List ℕ → List ℕ
 held n output work = elim (eqb (n % 2) 0) [ true ↦ output | false ↦ work ]
-
--- The counts of passes so far and of the next, with a support.
-abbrev pub joined : Counts → Counts → ℕ → Counts
-joined a b support =
-    record {
-      written = b.written;
-      turns = a.turns + b.turns;
-      lookups = a.lookups + b.lookups;
-      attempts = a.attempts + b.attempts;
-      accepted = a.accepted + b.accepted;
-      support = support;
-      bases = a.bases + b.bases;
-    }
-
--- The support is the smaller one, where there are two.
-pub record JoinIs (a b r : Counts) : Type 0 where
-  pub support : ℕ
-  pub weighed : support_of (a.accepted + b.accepted) support
-      ≡ rules.weaker (support_of a.accepted a.support) (support_of b.accepted b.support)
-  pub is : r ≡ joined a b support

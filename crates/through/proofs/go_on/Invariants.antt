@@ -1,7 +1,6 @@
-use Prim.Native.Nat.{◌-◌}
 use mathlib.Core.Path.{◌≡◌}
 use lib.ListN.{length}
-use Rattle.set.specs.Counted.{set_with}
+use Rattle.turn.specs.Turn.{offered}
 use Rattle.through.proofs.Underway.{Underway, whole_of, most_of}
 use Rattle.through.proofs.go_on.Given as goal
 
@@ -9,4 +8,4 @@ use Rattle.through.proofs.go_on.Given as goal
 abbrev pub invariant-loop-i : goal.invariant-loop-i
 invariant-loop-i l =
     (length l.output ≡ length l.initial.output) × (length l.work ≡ length l.initial.work)
-    × Underway (set_with l.set l.counts) l.job (whole_of (set_with l.set l.counts) l.job l.initial.output l.initial.work l.initial.done) (most_of (set_with l.set l.counts) l.job l.initial.output l.initial.work l.initial.done) l.output l.work l.done l.i
+    × Underway (offered l.set) l.job (whole_of (offered l.set) l.job l.initial.output l.initial.work l.initial.done) (most_of (offered l.set) l.job l.initial.output l.initial.work l.initial.done) l.output l.work l.done l.i
