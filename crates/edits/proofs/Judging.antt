@@ -3,7 +3,9 @@ use Prim.Native.Nat.{ℕ, ◌≤◌}
 use native.Mathlib.Omega.{arith}
 use borrow.Author.Tests.{eqb-true, eqb-false}
 use mathlib.Core.Path.{◌≡◌, refl, sym, ap, ap₂, ◌∙◌, subst}
-use mathlib.Core.Bool.{Bool, true, false, ◌&&◌}
+use mathlib.Core.Bool.{Bool, true, false, ◌&&◌, true≢false}
+use Rattle.std.specs.Prelude.{Result, Ok, Err}
+use Rattle.std.specs.Result.{is_ok, MatchResult, IsErrAnd}
 use mathlib.Core.Option.{Option, none, some}
 use mathlib.Core.List.{List, [], ◌∷◌}
 use lib.ListN.{length, drop, drop_of_length-le}
@@ -12,6 +14,7 @@ use lib.Dec.{eqb}
 use Rattle.rules.specs.Refusal.{◌or_else◌, at_place, first_failing}
 use Rattle.rules.specs.Index.{same_bytes}
 use Rattle.rules_edits.specs.Edits.{Sheet, count, letters_to, formed, supported, made, joins, differs, judge}
+use Rattle.refusal.specs.declared.Refusal.{Refusal}
 use Rattle.refusal.specs.declared.Refusal.TheVariants.{Edit}
 use Rattle.refusal.specs.Refusal.{refusal_of}
 use Rattle.edit_walk.specs.declared.Walk.{Walk}
@@ -119,3 +122,16 @@ module _ (k : ℕ) (sol : ℕ → Bool) (s : Sheet) (n total : ℕ) (n_is : coun
 
     pub walk-joins : (w.same && eqb w.at (length s.mended) && eqb total (length s.letters)) ≡ true → judge k sol s ≡ none
     walk-joins e = judge-none k sol s formed-all paid (sym joins-is ∙ e)
+
+-- ---- an edit that offends, told as a refusal
+
+pub was_ok : {A : Type 0} (r : Result A ℕ) (x : A) → true ≡ is_ok r
+    → MatchResult r (λ z. ◌≡◌ {A = Result A Refusal} (Ok x) (Ok z)) (λ e. IsErrAnd {T = A} {E = Refusal} (Ok x) (λ z. z ≡ Edit e)) → r ≡ Ok x
+was_ok (Ok z) x h m = let e : z ≡ x = cc in ap Ok e
+was_ok (Err e) x h m = absurd (true≢false h)
+
+pub was_err : {A : Type 0} (r : Result A ℕ) (y : Refusal) → false ≡ is_ok r
+    → MatchResult r (λ z. ◌≡◌ {A = Result A Refusal} (Err y) (Ok z)) (λ e. IsErrAnd {T = A} (Err y) (λ z. z ≡ Edit e))
+    → (e : ℕ) × (r ≡ Err e) × (y ≡ Edit e)
+was_err (Ok x) y h m = absurd (true≢false (sym h))
+was_err (Err e) y h m = (e, refl, m)

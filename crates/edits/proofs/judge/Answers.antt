@@ -1,74 +1,70 @@
-use mathlib.Core.Path.{◌≡◌, sym, ◌∙◌, subst}
-use mathlib.Core.Option.{none}
-use borrow.Author.Tests.{not-true, not-false}
-use Rattle.rules.specs.Refusal.{first_failing}
+use Rattle.std.proofs.Common.{sym, ◌∙◌, Ok}
+use mathlib.Core.Path.{subst}
+use Rattle.std.proofs.lemmas.Result.{err_from_is_err_and}
 use Rattle.rules.specs.Set.{solid, set_of}
-use Rattle.rules_edits.specs.Edits.{sheet, count, formed, letters_to}
+use Rattle.rules_edits.specs.Edits.{sheet}
 use Rattle.edit_forms.specs.Formed.{FormedIs}
-use Rattle.edit_forms.proofs.Forms.{is-offending}
-use Rattle.edit_walk.specs.Walk.{Sound, stand_of, on, walk, StepIs}
-use Rattle.edit_walk.proofs.Steps.{went_on, is-offending as is-offending-2}
-use Rattle.edits.proofs.Judging.{judge-first, walk-offends, walk-differs, walk-joins}
-use borrow.Author.Rules.{rules}
-use Rattle.edits.proofs.judge.Goals.{In-All, In-On}
+use Rattle.edit_walk.specs.Walk.{walk, StepIs}
+use Rattle.edits.proofs.Judging.{judge-first, walk-offends, walk-differs, walk-joins, was_ok, was_err}
+use Rattle.edits.proofs.judge.Goals.{In_ok-formed, In_ok-walk}
 use Rattle.edits.proofs.judge.Goals as goal
 
-pub offending-requires : goal.offending-requires
-offending-requires c = is-offending c.in_default.is
-
-pub returns-in_default : goal.returns-in_default
-returns-in_default c =
+pub returns-in_err-formed : goal.returns-in_err-formed
+returns-in_err-formed c =
     let a = c.args in
     let s = sheet a.read.now a.mended.now a.edits.now a.letters.now in
-    let f = subst (FormedIs a.head.k s) c.offending.ensures (c.judge_forms-formed.ensures a.mended.now) in
-    sym (judge-first a.head.k (solid (set_of a.set.now)) s f)
+    let p = err_from_is_err_and c.from_residual.result c.from_residual.ensures.1 in
+    let q = was_err c.judge_forms.result c.in_err-formed.field-0.0 c.in_err-formed.ensures.variant c.in_err-formed.ensures.cases in
+    rw (p.1, p.2, q.2)
+    (sym (judge-first a.set.now.head.k (solid (set_of a.set.now.bytes.now)) s
+    (subst (FormedIs a.set.now.head.k s) q.1 (c.judge_forms.ensures a.mended.now))))
 
 -- So many edits, all formed, which give so many letters.
-all-formed : (c : In-All) → let a = c.args in
-    let s = sheet a.read.now a.mended.now a.edits.now a.letters.now in
-    let n = c.in-All.n in
-    (count s ≡ n) × (first_failing (formed a.head.k s) 0 n ≡ none) × (c.in-All.given ≡ letters_to s n)
+all-formed : (c : In_ok-formed) → let a = c.args in
+    FormedIs a.set.now.head.k (sheet a.read.now a.mended.now a.edits.now a.letters.now) (Ok c.in_ok-formed.formed)
 all-formed c =
     let a = c.args in
-    subst (FormedIs a.head.k (sheet a.read.now a.mended.now a.edits.now a.letters.now)) c.in-All.is
-    (c.judge_forms-formed.ensures a.mended.now)
+    subst (FormedIs a.set.now.head.k (sheet a.read.now a.mended.now a.edits.now a.letters.now))
+    (was_ok c.judge_forms.result c.in_ok-formed.formed c.in_ok-formed.ensures.variant c.in_ok-formed.ensures.cases) (c.judge_forms.ensures a.mended.now)
 
-pub over_edits-step-requires : goal.over_edits-step-requires
-over_edits-step-requires c = let f = all-formed c in (search rules, f.0, f.1)
+pub over_edits-walked-requires : goal.over_edits-walked-requires
+over_edits-walked-requires c = let f = all-formed c in (f.0, f.1)
 
-pub offending-requires-in_default-step : goal.offending-requires-in_default-step
-offending-requires-in_default-step c = is-offending-2 c.in_default-step.is
-
-pub returns-in_default-step : goal.returns-in_default-step
-returns-in_default-step c =
-    let f = all-formed (goal.at.returns-in_default-step c).In-All in
+pub returns-in_err-walk : goal.returns-in_err-walk
+returns-in_err-walk c =
+    let f = all-formed (goal.at.returns-in_err-walk c).In_ok-formed in
     let a = c.args in
     let s = sheet a.read.now a.mended.now a.edits.now a.letters.now in
-    let sol = solid (set_of a.set.now) in
-    let e = subst (StepIs a.head.k a.mended.now (walk a.head.k sol s)) c.offending-in_default-step.ensures c.over_edits-step.ensures in
-    sym (walk-offends a.head.k sol s _ _ f.0 f.1 f.2 e)
+    let sol = solid (set_of a.set.now.bytes.now) in
+    let p = err_from_is_err_and c.from_residual-in_err-walk.result c.from_residual-in_err-walk.ensures.1 in
+    let q = was_err c.over_edits-walked.result c.in_err-walk.field-0.0 c.in_err-walk.ensures.variant c.in_err-walk.ensures.cases in
+    let e = subst (StepIs a.set.now.head.k a.mended.now (walk a.set.now.head.k sol s)) q.1 c.over_edits-walked.ensures in
+    rw (p.1, p.2, q.2) (sym (walk-offends a.set.now.head.k sol s _ _ f.0 f.1 f.2 e))
 
 -- The walk went on to the end.
-went : (c : In-On) → let a = c.args in
+went : (c : In_ok-walk) → let a = c.args in
     let s = sheet a.read.now a.mended.now a.edits.now a.letters.now in
-    (walk a.head.k (solid (set_of a.set.now)) s ≡ on (stand_of a.mended.now c.in-On.walk))
-    × Sound a.head.k a.mended.now c.in-On.walk
-went c = went_on _ _ c.over_edits-step.result c.in-On.walk c.in-On.is c.over_edits-step.ensures
+    StepIs a.set.now.head.k a.mended.now (walk a.set.now.head.k (solid (set_of a.set.now.bytes.now)) s) (Ok c.in_ok-walk.walk)
+went c =
+    let a = c.args in
+    let s = sheet a.read.now a.mended.now a.edits.now a.letters.now in
+    subst (StepIs a.set.now.head.k a.mended.now (walk a.set.now.head.k (solid (set_of a.set.now.bytes.now)) s))
+    (was_ok c.over_edits-walked.result c.in_ok-walk.walk c.in_ok-walk.ensures.variant c.in_ok-walk.ensures.cases) c.over_edits-walked.ensures
 
 pub returns-then-not-joins : goal.returns-then-not-joins
 returns-then-not-joins c =
-    let f = all-formed (goal.at.returns-then-not-joins c).In-All in
-    let w = went (goal.at.returns-then-not-joins c).In-On in
+    let f = all-formed (goal.at.returns-then-not-joins c).In_ok-formed in
+    let w = went (goal.at.returns-then-not-joins c).In_ok-walk in
     let a = c.args in
     let s = sheet a.read.now a.mended.now a.edits.now a.letters.now in
-    sym (walk-differs a.head.k (solid (set_of a.set.now)) s _ _ f.0 f.1 f.2 c.in-On.walk w.0 w.1.within
-    (sym c.joins.ensures ∙ not-true _ c.if-not-joins.true-raw))
+    sym (walk-differs a.set.now.head.k (solid (set_of a.set.now.bytes.now)) s _ _ f.0 f.1 f.2 c.in_ok-walk.walk w.0 w.1.within
+    (sym c.joins.ensures ∙ c.if-not-joins.true))
 
 pub returns : goal.returns
 returns c =
-    let f = all-formed (goal.at.returns c).In-All in
-    let w = went (goal.at.returns c).In-On in
+    let f = all-formed (goal.at.returns c).In_ok-formed in
+    let w = went (goal.at.returns c).In_ok-walk in
     let a = c.args in
     let s = sheet a.read.now a.mended.now a.edits.now a.letters.now in
-    sym (walk-joins a.head.k (solid (set_of a.set.now)) s _ _ f.0 f.1 f.2 c.in-On.walk w.0 w.1.within
-    (sym c.joins.ensures ∙ not-false _ c.if-not-joins.false-raw))
+    sym (walk-joins a.set.now.head.k (solid (set_of a.set.now.bytes.now)) s _ _ f.0 f.1 f.2 c.in_ok-walk.walk w.0 w.1.within
+    (sym c.joins.ensures ∙ c.if-not-joins.false))
