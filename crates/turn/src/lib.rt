@@ -11,6 +11,7 @@ ghost use Rattle.turn.specs.Turn.{Fits, Summed, offered, attempt_of, kept_by, me
 
 use kmer::Kmer;
 use scan::Attempt;
+use scenario::{ScenarioOne, ScenarioTwo};
 use set::KmerSet;
 
 // What was written and counted, the smallest count behind the accepted corrections, if there are any, and the bases beyond the first k (W).
@@ -66,14 +67,10 @@ fn correct_error(set: &KmerSet, method: u8, c: u8, kmer: Kmer, s: &[u8], out: &m
         result }
 {
     match method {
-        1 => exist::correct_error(
-            set.bytes, set.starts, set.head, set.counts, false, c, 0, kmer, s, out,
-        ),
-        2 => exist::correct_error(
-            set.bytes, set.starts, set.head, set.counts, true, c, 0, kmer, s, out,
-        ),
-        3 => graph::correct_error(set.bytes, set.starts, set.head, set.counts, kmer, s, out),
-        _ => gap_size::correct_error(set.bytes, set.starts, set.head, set.counts, c, kmer, s, out),
+        1 => exist::correct_error::<ScenarioOne>(set, c, 0, kmer, s, out),
+        2 => exist::correct_error::<ScenarioTwo>(set, c, 0, kmer, s, out),
+        3 => graph::correct_error(set, kmer, s, out),
+        _ => gap_size::correct_error(set, c, kmer, s, out),
     }
 }
 
