@@ -1,20 +1,16 @@
 -- The call up to its search.
 use Prim.Native.Nat.{ℕ}
-use mathlib.Core.Path.{◌≡◌, refl}
+use mathlib.Core.Path.{◌≡◌}
 use mathlib.Core.Bool.{Bool, true, false}
 use mathlib.Core.Option.{none, some}
 use mathlib.Core.List.{List, [], ◌∷◌}
-use lib.ListN.{get_or, replicate}
+use lib.ListN.{get_or}
 use Rattle.rules.specs.Refusal as Rules
 use Rattle.rules.specs.Refusal.{Outcome, accepted, refused, at_place, first_failing}
 use Rattle.rules.specs.Set.{KmerSet, header_k, set_of, solid, opened}
-use Rattle.rules_bridge.specs.Bridge.{Bridge, bridge, solid_code, ends_check, find_bridge, Told, told, told_of}
-use Rattle.refusal.specs.declared.Refusal.{Refusal}
+use Rattle.rules_bridge.specs.Bridge.{bridge, solid_code, ends_check, find_bridge}
 use Rattle.refusal.specs.declared.Refusal.TheVariants.{NotSolid}
 use Rattle.refusal.specs.Refusal.{refusal_of}
-use Rattle.bridge.specs.declared.Outcome.TheVariants as Outcomes
-use Rattle.bridge.specs.declared.Answer.{Answer}
-use Rattle.bridge.specs.Answer.{Exact}
 
 -- ---- the ends
 
@@ -69,15 +65,3 @@ module _ (bytes : List ℕ) (from to budget : ℕ) where
         → find_bridge bytes from to budget ≡ accepted (bridge k (solid (set_of bytes)) to budget y)
     unfolding find_bridge set_of
     both-solid k y k_is y-is e f = rw (y-is, k_is, o, find_bridge, ends-both (set_of bytes) from to e f)
-
--- ---- answers
-
-pub refused-exact : (o : Outcome Bridge) (x : Refusal) → o ≡ refused (refusal_of x)
-    → Exact (told_of o) (record { letters = replicate 16 0; outcome = Outcomes.Refused x })
-unfolding told_of
-refused-exact o x e = rw e (record { answer = refl; cleared = refl })
-
-pub accepted-exact : (o : Outcome Bridge) (b : Bridge) (r : Answer) (t : Told) → o ≡ accepted b → t ≡ told b
-    → r ≡ record { letters = t.letters; outcome = Outcomes.Bridge t.moves t.lookups t.floor } → Exact (told_of o) r
-unfolding told_of
-accepted-exact o b r t e f g = rw (e, g, ← f) (record { answer = refl; cleared = tt })

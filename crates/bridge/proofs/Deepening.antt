@@ -5,10 +5,8 @@ use native.Mathlib.Nat.{zero-add}
 use native.Mathlib.Numerals.{add-one}
 use mathlib.Core.Path.{◌≡◌, refl, sym, ap, ◌∙◌}
 use mathlib.Core.Bool.{Bool, true, false}
-use types.Run.{OneOf}
-use mathlib.Core.Logic.{inl, inr}
 use mathlib.Core.Option.{none, some}
-use mathlib.Core.List.{List, [], ◌∷◌, ◌++◌}
+use mathlib.Core.List.{List, ◌++◌}
 use lib.ListN.{length, take, replicate}
 use lib.Seq.{take-append_seam}
 use Rattle.rules.specs.Counted.{Counted}
@@ -44,16 +42,10 @@ module _ (left : ℕ) (s : Counted End) (r : Search) where
   was-found n tried q h f = absurd (let z : ◌≡◌ {A = ℕ} 0 1 = cc in omega arith)
   was-found n stopped q h f = absurd (let z : ◌≡◌ {A = ℕ} 0 1 = cc in omega arith)
 
-  -- neither all tried nor found
-  was-neither : (e : End) → EndIs 0 left e r → (r.end ≡ Ends.Tried → ⊥) → ((n : ℕ) → r.end ≡ Ends.Found n → ⊥) → e ≡ stopped
-  was-neither (found bs) h t f = absurd (f (0 + length bs) h.0.end)
-  was-neither tried h t f = absurd (t h)
-  was-neither stopped h t f = refl
-
--- the tags of the other ends: that of Found is 0
-pub not_found : OneOf (1 ∷ 2 ∷ []) 0 → ⊥
-not_found (inl e) = omega arith
-not_found (inr e) = omega arith
+  was-stopped : (e : End) → EndIs 0 left e r → r.end ≡ Ends.Stopped → e ≡ stopped
+  was-stopped (found bs) h f = absurd (let g = h.0.end in let z : ◌≡◌ {A = ℕ} 0 1 = cc in omega arith)
+  was-stopped tried h f = absurd (let z : ◌≡◌ {A = ℕ} 0 1 = cc in omega arith)
+  was-stopped stopped h f = refl
 
 -- the letters of the array are the chain's
 best-is : {left : ℕ} {s : Counted End} {r : Search} {n : ℕ} (f : Chained left s r n) → take n r.letters ≡ f.bs
@@ -116,10 +108,10 @@ module _ (k : ℕ) (sol : ℕ → Bool) (to budget from : ℕ) (deep : List ℕ)
           let f = was-found d (from_kmer k sol to budget d from l) r n (from_kmer k sol to budget d from l).answer refl s.end e in
           chain-told whole f.bs r.letters n r.lookups d false (is ∙ round-found h r.lookups (sym s.lookups) f.bs f.is) f.moves f.letters
 
-      pub stopped-told : (letters : List ℕ) → (r.end ≡ Ends.Tried → ⊥) → ((n : ℕ) → r.end ≡ Ends.Found n → ⊥) → length deep ≡ moves → letters ≡ laid 0 deep
+      pub stopped-told : (letters : List ℕ) → r.end ≡ Ends.Stopped → length deep ≡ moves → letters ≡ laid 0 deep
           → telling moves r.lookups d letters ≡ told whole
-      stopped-told letters t f m g =
-          let e = was-neither d (from_kmer k sol to budget d from l) r (from_kmer k sol to budget d from l).answer s.end t f in
+      stopped-told letters t m g =
+          let e = was-stopped d (from_kmer k sol to budget d from l) r (from_kmer k sol to budget d from l).answer s.end t in
           chain-told whole deep letters moves r.lookups d true (is ∙ round-stopped h r.lookups (sym s.lookups) e) (sym m) g
 
       pub tried-on : r.end ≡ Ends.Tried → whole ≡ rounds k sol to budget from deep (moves - (d + 1)) (d + 1) r.lookups
@@ -162,8 +154,7 @@ module _ (k : ℕ) (sol : ℕ → Bool) (to budget from : ℕ) where
         let a = was-tried 0 max_moves (from_kmer k sol to budget max_moves from 0).answer r s.end e in
         g false ∙ ap told (ap (λ (l : ℕ). bridge_by none l 17 false) s.lookups ∙ sym (deep-tried a))
 
-    pub stopped-deep : (t : Told) → (r.end ≡ Ends.Tried → ⊥) → ((n : ℕ) → r.end ≡ Ends.Found n → ⊥)
-        → ((stop : Bool) → t ≡ told (bridge_by none r.lookups 1 stop)) → t ≡ told (bridge k sol to budget from)
-    stopped-deep t e f g =
-        let a = was-neither max_moves (from_kmer k sol to budget max_moves from 0) r (from_kmer k sol to budget max_moves from 0).answer s.end e f in
+    pub stopped-deep : (t : Told) → r.end ≡ Ends.Stopped → ((stop : Bool) → t ≡ told (bridge_by none r.lookups 1 stop)) → t ≡ told (bridge k sol to budget from)
+    stopped-deep t e g =
+        let a = was-stopped max_moves (from_kmer k sol to budget max_moves from 0) r (from_kmer k sol to budget max_moves from 0).answer s.end e in
         g true ∙ ap told (ap (λ (l : ℕ). bridge_by none l 1 true) s.lookups ∙ sym (deep-stopped a))

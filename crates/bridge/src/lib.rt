@@ -6,93 +6,59 @@ ghost use Rattle.std.proofs.Math.Option.{none};
 ghost use Rattle.rules.specs.Set.{solid, set_of, opened};
 ghost use Rattle.rules.specs.Refusal as Rules;
 ghost use Rattle.rules_bridge.specs.Bridge as rules;
-ghost use Rattle.refusal.specs.Refusal.{refusal_of};
 ghost use Rattle.kmer.specs.Kmer.{IsKmer};
-ghost use Rattle.set.specs.Ready.{Ready};
 ghost use Rattle.bridge_search.specs.Search.{laid};
-ghost use Rattle.bridge.specs.Answer.{told_by, Exact};
+ghost use Rattle.bridge.specs.Answer.{told_by, answer_of};
 
-use bridge_ends::Solid;
 use bridge_search::{End, Search};
-use kmer::{Header, Kmer};
-use opening::Opened;
+use kmer::Kmer;
 use refusal::Refusal;
-use set::STARTS;
+use set::{KmerSet, STARTS};
 
 // The most moves of a chain.
 const MOVES: usize = 16;
 
 // The chain's moves (0: none), the lookups made, the floor, and the chain's letters, 0 behind the last.
 #[derive(Clone, Copy)]
-struct Bridge {
-    moves: usize,
-    lookups: u64,
-    floor: u64,
-    letters: [u8; 16],
-}
-
-// What the call answers beside the letters: moves, lookups and floor, or why it is refused.
-#[derive(Clone, Copy)]
-pub enum Outcome {
-    Bridge(usize, u64, u64),
-    Refused(Refusal),
-}
-
-// The chain's letters, 0 behind the last; an enum can't hold an array.
-#[derive(Clone, Copy)]
-pub struct Answer {
+pub struct Bridge {
+    pub moves: usize,
+    pub lookups: u64,
+    pub floor: u64,
     pub letters: [u8; 16],
-    pub outcome: Outcome,
 }
 
-// Rounds of 1 move, 2 moves and so on, while shorter than the deep search's chain of so many moves.
-fn rounds(
-    set: &[u8],
-    starts: &[u32],
-    head: Header,
-    from: Kmer,
-    to: u64,
-    budget: u64,
-    deep: Search,
-    moves: usize,
-) -> Bridge
-    requires { Ready set.now starts.now head × IsKmer head.k from × (from.unknown ≡ 0) × (deep.lookups ≤ budget) × (moves ≤ 16)
+// Rounds of 1 move, 2 moves and so on, while shorter than the deep search's chain of so many moves. The floor is the round's moves.
+fn rounds(set: &KmerSet, from: Kmer, to: u64, budget: u64, deep: Search, moves: usize) -> Bridge
+    requires { IsKmer set.now.head.k from × (from.unknown ≡ 0) × (deep.lookups ≤ budget) × (moves ≤ 16)
         × (deep.letters ≡ laid 0 (take moves deep.letters)) × (length (take moves deep.letters) ≡ moves) }
     ensures { told_by result
-        ≡ rules.told (rules.rounds head.k (solid (set_of set.now)) to budget from.code (take moves deep.letters) (moves - 1) 1 deep.lookups) }
+        ≡ rules.told (rules.rounds set.now.head.k (solid (set_of set.now.bytes.now)) to budget from.code (take moves deep.letters) (moves - 1) 1 deep.lookups) }
 {
-    let best = deep.letters;
-    let mut lookups = deep.lookups;
-    let mut round = 1;
-    while round < moves {
-        let r = bridge_search::from_kmer(set, starts, head, from, to, 0, round, budget, lookups);
-        let end = r.end;
-        let End::Tried = end else {
-            let End::Found(n) = end else {
-                return Bridge {
-                    moves,
-                    lookups: r.lookups,
-                    floor: round as u64,
-                    letters: best,
-                };
-            };
-            let letters = r.letters;
-            return Bridge {
-                moves: n,
-                lookups: r.lookups,
-                floor: round as u64,
-                letters,
-            };
-        };
-        lookups = r.lookups;
-        round += 1;
-    }
-    Bridge {
+    let letters = deep.letters;
+    let mut best = Bridge {
         moves,
-        lookups,
-        floor: round as u64,
-        letters: best,
+        lookups: deep.lookups,
+        floor: 1,
+        letters,
+    };
+    while best.floor < moves as u64 {
+        let round = best.floor as usize;
+        let r = bridge_search::from_kmer(set, from, to, 0, round, budget, best.lookups);
+        best.lookups = r.lookups;
+        match r.end {
+            End::Tried => best.floor += 1,
+            End::Stopped => return best,
+            End::Found(n) => {
+                let letters = r.letters;
+                return Bridge {
+                    moves: n,
+                    letters,
+                    ..best
+                };
+            }
+        }
     }
+    best
 }
 
 // No chain.
@@ -103,65 +69,45 @@ fn nothing(lookups: u64, floor: u64) -> Bridge
         moves: 0,
         lookups,
         floor,
-        letters: [0u8; 16],
+        letters: [0; 16],
     }
 }
 
 // First it goes deep.
-fn shortest(set: &[u8], starts: &[u32], head: Header, from: Kmer, to: u64, budget: u64) -> Bridge
-    requires { Ready set.now starts.now head × IsKmer head.k from × (from.unknown ≡ 0) }
-    ensures { told_by result ≡ rules.told (rules.bridge head.k (solid (set_of set.now)) to budget from.code) }
+fn shortest(set: &KmerSet, from: Kmer, to: u64, budget: u64) -> Bridge
+    requires { IsKmer set.now.head.k from × (from.unknown ≡ 0) }
+    ensures { told_by result ≡ rules.told (rules.bridge set.now.head.k (solid (set_of set.now.bytes.now)) to budget from.code) }
 {
-    let deep = bridge_search::from_kmer(set, starts, head, from, to, 0, MOVES, budget, 0);
-    let end = deep.end;
-    let End::Found(moves) = end else {
-        let End::Tried = end else {
-            return nothing(deep.lookups, 1);
-        };
-        return nothing(deep.lookups, 17);
-    };
-    rounds(set, starts, head, from, to, budget, deep, moves)
-}
-
-fn refused(refusal: Refusal) -> Answer
-    ensures { (o : Rules.Outcome rules.Bridge) → o ≡ Rules.refused (refusal_of refusal) → Exact (rules.told_of o) result }
-{
-    Answer {
-        letters: [0u8; 16],
-        outcome: Outcome::Refused(refusal),
+    let deep = bridge_search::from_kmer(set, from, to, 0, MOVES, budget, 0);
+    match deep.end {
+        End::Found(moves) => rounds(set, from, to, budget, deep, moves),
+        End::Tried => nothing(deep.lookups, 17),
+        End::Stopped => nothing(deep.lookups, 1),
     }
 }
 
 // Refusal 20, and else the search.
-fn between(set: &[u8], starts: &[u32], head: Header, from: u64, to: u64, budget: u64) -> Answer
-    requires { Ready set.now starts.now head × (opened set.now ≡ Rules.accepted (set_of set.now)) }
-    ensures { Exact (rules.told_of (rules.find_bridge set.now from to budget)) result }
+fn between(set: &KmerSet, from: u64, to: u64, budget: u64) -> Result<Bridge, Refusal>
+    requires { opened set.now.bytes.now ≡ Rules.accepted (set_of set.now.bytes.now) }
+    ensures { answer_of result ≡ rules.told_of (rules.find_bridge set.now.bytes.now from to budget) }
 {
-    let first = bridge_ends::solid_kmer(set, starts, head, from);
-    let Solid::Kmer(start) = first else {
-        return refused(Refusal::NotSolid(0));
-    };
-    let last = bridge_ends::solid_kmer(set, starts, head, to);
-    let Solid::Kmer(_) = last else {
-        return refused(Refusal::NotSolid(1));
-    };
-    let bridge = shortest(set, starts, head, start, to, budget);
-    let letters = bridge.letters;
-    Answer {
-        letters,
-        outcome: Outcome::Bridge(bridge.moves, bridge.lookups, bridge.floor),
-    }
+    let start = bridge_ends::solid_kmer(set, from).ok_or(Refusal::NotSolid(0))?;
+    bridge_ends::solid_kmer(set, to).ok_or(Refusal::NotSolid(1))?;
+    Ok(shortest(set, start, to, budget))
 }
 
 // The call. No index is offered, and no counts.
-pub fn find_bridge(set: &[u8], from: u64, to: u64, budget: u64) -> Answer
-    ensures { Exact (rules.told_of (rules.find_bridge set.now from to budget)) result }
+pub fn find_bridge(set: &[u8], from: u64, to: u64, budget: u64) -> Result<Bridge, Refusal>
+    ensures { answer_of result ≡ rules.told_of (rules.find_bridge set.now from to budget) }
 {
-    let opened = opening::open(set);
-    let Opened::Set(k, n) = opened else {
-        return refused(opening::refused(opened));
+    let opened = opening::open(set)?;
+    let mut starts = [0; STARTS];
+    let head = prepare::prepare(set, b"", opened.k, opened.n, 0, &mut starts);
+    let set = KmerSet {
+        bytes: set,
+        starts: &starts,
+        counts: &[],
+        head,
     };
-    let mut starts = [0u32; STARTS];
-    let head = prepare::prepare(set, b"", k, n, 0, &mut starts);
-    between(set, &starts, head, from, to, budget)
+    between(&set, from, to, budget)
 }

@@ -1,39 +1,50 @@
-use mathlib.Core.Path.{◌≡◌, refl}
-use mathlib.Core.Bool.{true}
+use Rattle.std.proofs.Common.{◌≡◌, Some}
+use mathlib.Core.Path.{subst}
+use Rattle.std.proofs.lemmas.Result.{err_from_is_err_and}
 use Rattle.rules.specs.Set.{set_of}
-use Rattle.rules_bridge.specs.Bridge.{known, solid_code}
-use Rattle.kmer.specs.Kmer.{HasLetters}
-use Rattle.bridge_ends.proofs.Ends.{known-all, known_is, solid_found, not-solid}
-use Rattle.bridge.specs.Answer.{told_by}
-use Rattle.bridge.proofs.Call.{not_first, not-second, both-solid, accepted-exact}
-use borrow.Author.Rules.{rules}
-use Rattle.bridge.proofs.between.Goals.{In-Kmer}
+use Rattle.rules_bridge.specs.Bridge.{told_of}
+use Rattle.refusal.specs.declared.Refusal.TheVariants.{NotSolid}
+use Rattle.bridge_ends.specs.Ends.{SolidIs}
+use Rattle.bridge_ends.proofs.Ends.{known-all, known_is}
+use Rattle.bridge.proofs.Call.{not_first, not-second, both-solid}
+use Rattle.bridge.proofs.between.Goals.{In_ok-start}
 use Rattle.bridge.proofs.between.Goals as goal
 
-pub returns-in_default : goal.returns-in_default
-returns-in_default c =
-    c.refused.ensures _ (not_first _ _ _ _ c.requires.1 (not-solid _ _ _ _ c.solid_kmer-first.ensures c.in_default.is))
+pub returns-in_err-start : goal.returns-in_err-start
+unfolding told_of
+returns-in_err-start c =
+    let a = c.args.set.now in
+    let none = c.in_err-start.ensures.ok_part in
+    let p = err_from_is_err_and c.from_residual.result c.from_residual.ensures.1 in
+    let value = rw none at c.in_err-start.ensures.value in
+    let e : c.in_err-start.field-0.0 ≡ NotSolid 0 = cc in
+    rw (p.1, p.2, e, not_first _ _ _ _ c.requires (subst (SolidIs a.head.k (set_of a.bytes.now) c.args.from) none c.solid_kmer.ensures))
 
 -- The first end is solid.
-starting : (c : In-Kmer) → let a = c.args in
-    (solid_code (set_of a.set.now) a.from ≡ true) × HasLetters a.head.k (known a.from) c.in-Kmer.start
-starting c = solid_found _ _ _ _ c.solid_kmer-first.ensures _ c.in-Kmer.is
+starting : (c : In_ok-start) → let a = c.args in
+    SolidIs a.set.now.head.k (set_of a.set.now.bytes.now) a.from (Some c.in_ok-start.start)
+starting c = let a = c.args.set.now in subst (SolidIs a.head.k (set_of a.bytes.now) c.args.from) c.in_ok-start.ensures.ok_part c.solid_kmer.ensures
 
-pub returns-in_default-last : goal.returns-in_default-last
-returns-in_default-last c =
-    c.refused-in_default-last.ensures _
-    (not-second _ _ _ _ c.requires.1 (starting (goal.at.returns-in_default-last c).In-Kmer).0
-    (not-solid _ _ _ _ c.solid_kmer-last.ensures c.in_default-last.is))
+pub returns-in_err-ok_or : goal.returns-in_err-ok_or
+unfolding told_of
+returns-in_err-ok_or c =
+    let a = c.args.set.now in
+    let none = c.in_err-ok_or.ensures.ok_part in
+    let p = err_from_is_err_and c.from_residual-in_err-ok_or.result c.from_residual-in_err-ok_or.ensures.1 in
+    let value = rw none at c.in_err-ok_or.ensures.value in
+    let e : c.in_err-ok_or.field-0.0 ≡ NotSolid 1 = cc in
+    let first = (starting (goal.at.returns-in_err-ok_or c).In_ok-start).0 in
+    rw (p.1, p.2, e, not-second _ _ _ _ c.requires first (subst (SolidIs a.head.k (set_of a.bytes.now) c.args.to) none c.solid_kmer-2.ensures))
 
-pub shortest-bridge-requires : goal.shortest-bridge-requires
-shortest-bridge-requires c =
-    let e = (starting (goal.at.shortest-bridge-requires c).In-Kmer).1 in
-    (search rules, e.kmer, known-all c.in-Kmer.start e.is)
+pub shortest-requires : goal.shortest-requires
+shortest-requires c =
+    let e = (starting (goal.at.shortest-requires c).In_ok-start).1 in
+    (e.kmer, known-all c.in_ok-start.start e.is)
 
 pub returns : goal.returns
+unfolding told_of
 returns c =
-    let p = c.requires in
-    let to = (solid_found _ _ _ _ c.solid_kmer-last.ensures _ c.in-Kmer-last.is).0 in
-    accepted-exact _ _ _ (told_by c.shortest-bridge.result)
-    (both-solid _ _ _ _ p.1 _ _ p.0.k_is (known_is c.in-Kmer.start (starting (goal.at.returns c).In-Kmer).1.is) (starting (goal.at.returns c).In-Kmer).0 to)
-    c.shortest-bridge.ensures refl
+    let a = c.args.set.now in
+    let from = starting (goal.at.returns c).In_ok-start in
+    let to = subst (SolidIs a.head.k (set_of a.bytes.now) c.args.to) c.in_ok-ok_or.ensures.ok_part c.solid_kmer-2.ensures in
+    rw (both-solid _ _ _ _ c.requires _ _ a.ready.k_is (known_is c.in_ok-start.start from.1.is) from.0 to.0, ← c.shortest.ensures)
