@@ -3,19 +3,16 @@ use Prim.Native.Nat.{ℕ, ◌+◌, ◌*◌, ◌-◌, ◌≤◌, ◌<◌}
 use native.Mathlib.Omega.{arith}
 use mathlib.Core.Path.{◌≡◌, ap}
 use mathlib.Core.List.{List}
-use lib.ListN.{drop}
-use Rattle.rules.specs.Set.{little}
+use lib.ListN.{drop, length}
+use Rattle.rules.specs.Set.{max_keys, little}
 use Rattle.few_keys.specs.Find.{place, key_in, Sorted}
-use Rattle.cache_line.specs.Lines.{first_key, Lines}
+use Rattle.cache_line.specs.Lines.{first_key}
 
 module _ {skip : ℕ} {part : List ℕ} {first last : ℕ} (sorted : Sorted skip part first last) where
-  -- Three lines of these keys.
-  pub three-lines : (line : ℕ) → first ≤ first_key line → first_key (line + 3) ≤ last → Lines skip part line (line + 3)
-  three-lines line l h = record {
-    few = omega (arith, sorted.few);
-    starts = omega (arith, sorted.room (omega arith));
-    ends = omega (arith, sorted.room (omega arith));
-  }
+  -- Lines of these keys lie in the part.
+  pub line-room : (line next : ℕ) → line < next → first ≤ first_key line → first_key next ≤ last
+      → (next ≤ max_keys) × (skip ≤ 512 + 64 * line) × (512 + 64 * next ≤ skip + length part)
+  line-room line next some l h = omega (arith, sorted.few, sorted.room (omega arith))
 
 -- Word t of a line, if it is no check word, is key t of it.
 pub line_word : (skip : ℕ) (part : List ℕ) (line t : ℕ) → first_key line + t < first_key (line + 1)

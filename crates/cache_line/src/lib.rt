@@ -2,10 +2,13 @@
 // line, or in three that follow one another.
 #![tactic(auto)]
 
-ghost use Rattle.std.specs.Prelude.{◌≡◌, ◌&&◌, ◌+◌, ◌≤◌, ◌<◌, min, leb};
+ghost use Rattle.std.specs.Prelude.{◌≡◌, ◌+◌, ◌≤◌, ◌<◌, min};
 ghost use Rattle.rules.specs.Set.{max_keys};
-ghost use Rattle.few_keys.specs.Find.{key_in, Sorted, Bracket, Answers};
-ghost use Rattle.cache_line.specs.Lines.{first_key, Lines};
+ghost use Rattle.few_keys.specs.Part.{key_of, BracketIn, AnswersIn};
+ghost use Rattle.cache_line.specs.Lines;
+ghost use Rattle.cache_line.specs.Lines.{first_key, HasLines};
+
+use few_keys::KeyPart;
 
 // The key at the start of a line.
 pub fn first_key(line: usize) -> usize
@@ -24,22 +27,22 @@ pub fn line_of(i: usize) -> usize
 }
 
 // One of a line's first seven words, which are never the check word.
-pub fn line_key(part: &[u8], skip: usize, line: usize, at: usize) -> u64
-    requires { Lines skip part.now line (line + 1) × (at < 7) }
-    ensures { result ≡ key_in skip part.now (first_key line + at) }
+pub fn line_key(part: &KeyPart, line: usize, at: usize) -> u64
+    requires { HasLines part.now line (line + 1) × (at < 7) }
+    ensures { result ≡ key_of part.now (first_key line + at) }
 {
-    blocks::word_at(part, 512 + 64 * line + 8 * at - skip)
+    blocks::word_at(part.bytes, 512 + 64 * line + 8 * at - part.skip)
 }
 
 // Two words of a line, but no check word: it is the last word in the last line of a block.
-fn in_pair(part: &[u8], skip: usize, key: u64, line: usize, at: usize) -> Option<usize>
-    requires { Lines skip part.now line (line + 1) × (at < 7) }
-    ensures { Answers skip part.now key (first_key line + at) (min (first_key (line + 1)) (first_key line + at + 2)) result }
+fn in_pair(part: &KeyPart, key: u64, line: usize, at: usize) -> Option<usize>
+    requires { HasLines part.now line (line + 1) × (at < 7) }
+    ensures { AnswersIn part.now key (first_key line + at) (min (first_key (line + 1)) (first_key line + at + 2)) result }
 {
     // The index comes from numbers that are at hand, or else it would be worked out behind a branch for each of the two.
     let word = 8 * line + at;
-    let next = blocks::word_at(part, 520 + 8 * word - skip);
-    let is_first = key == blocks::word_at(part, 512 + 8 * word - skip);
+    let next = blocks::word_at(part.bytes, 520 + 8 * word - part.skip);
+    let is_first = key == blocks::word_at(part.bytes, 512 + 8 * word - part.skip);
     let is_second = (key == next) & (at + line % 8 < 13);
     if is_first | is_second {
         return Some(word + number::pick(is_second, 1, 0) - line / 8);
@@ -48,43 +51,29 @@ fn in_pair(part: &[u8], skip: usize, key: u64, line: usize, at: usize) -> Option
 }
 
 // The half of a line that the key belongs to, and the half of that.
-pub fn in_line(
-    part: &[u8],
-    skip: usize,
-    key: u64,
-    first: usize,
-    last: usize,
-    line: usize,
-) -> Option<usize>
-    requires { Sorted skip part.now first last × Bracket skip part.now first last key (first_key line) (first_key (line + 1)) × Lines skip part.now line (line + 1) }
-    ensures { Answers skip part.now key first last result }
+pub fn in_line(part: &KeyPart, key: u64, line: usize) -> Option<usize>
+    requires { BracketIn part.now key (first_key line) (first_key (line + 1)) }
+    ensures { AnswersIn part.now key part.now.first part.now.last result }
 {
-    let half = number::pick(line_key(part, skip, line, 4) <= key, 4, 0);
-    let quarter = number::pick(line_key(part, skip, line, half + 2) <= key, 2, 0);
-    in_pair(part, skip, key, line, half + quarter)
+    let half = number::pick(line_key(part, line, 4) <= key, 4, 0);
+    let quarter = number::pick(line_key(part, line, half + 2) <= key, 2, 0);
+    in_pair(part, key, line, half + quarter)
 }
 
 // Whether the key stands between the first of three lines' keys and the last that is surely none of their check words.
-pub fn in_window(part: &[u8], skip: usize, key: u64, line: usize) -> bool
-    requires { Lines skip part.now line (line + 3) }
-    ensures { result ≡ (leb (key_in skip part.now (first_key line)) key && leb key (key_in skip part.now (first_key (line + 2) + 6))) }
+pub fn in_window(part: &KeyPart, key: u64, line: usize) -> bool
+    requires { HasLines part.now line (line + 3) }
+    ensures { result ≡ Lines.in_window part.now key line }
 {
-    (line_key(part, skip, line, 0) <= key) & (key <= line_key(part, skip, line + 2, 6))
+    (line_key(part, line, 0) <= key) & (key <= line_key(part, line + 2, 6))
 }
 
 // Which of three lines the key belongs to.
-pub fn window_line(
-    part: &[u8],
-    skip: usize,
-    key: u64,
-    first: usize,
-    last: usize,
-    line: usize,
-) -> usize
-    requires { Sorted skip part.now first last × Bracket skip part.now first last key (first_key line) (first_key (line + 3)) × Lines skip part.now line (line + 3) }
-    ensures { Bracket skip part.now first last key (first_key result) (first_key (result + 1)) × Lines skip part.now result (result + 1) }
+pub fn window_line(part: &KeyPart, key: u64, line: usize) -> usize
+    requires { BracketIn part.now key (first_key line) (first_key (line + 3)) }
+    ensures { BracketIn part.now key (first_key result) (first_key (result + 1)) }
 {
-    let second = number::pick(line_key(part, skip, line + 1, 0) <= key, 1, 0);
-    let third = number::pick(line_key(part, skip, line + 2, 0) <= key, 1, 0);
+    let second = number::pick(line_key(part, line + 1, 0) <= key, 1, 0);
+    let third = number::pick(line_key(part, line + 2, 0) <= key, 1, 0);
     line + second + third
 }

@@ -1,12 +1,13 @@
-// Where a key stands among a set's keys, which rise strictly. Only a part of the set's bytes is searched, from byte `skip` of the set on:
-// it holds the keys from `first` on and before `last`, and no other key is read.
+// Where a key stands among some of a set's keys.
 #![tactic(auto)]
 
-ghost use Rattle.std.specs.Prelude.{◌≡◌, false, ◌&&◌, ◌+◌, ◌≤◌, ◌<◌, leb};
+ghost use Rattle.std.specs.Prelude.{◌≡◌, false, ◌+◌, ◌≤◌, ◌<◌};
 ghost use Rattle.rules.specs.Set.{max_keys};
-ghost use Rattle.few_keys.specs.Find.{key_in, Sorted, Bracket, Answers};
-ghost use Rattle.cache_line.specs.Lines.{first_key};
+ghost use Rattle.few_keys.specs.Part.{BracketIn, AnswersIn};
+ghost use Rattle.cache_line.specs.Lines.{first_key, HasLines, in_window};
 ghost use Rattle.keys.specs.Within.{WithinKeys};
+
+use few_keys::KeyPart;
 
 // The line before that of key i, where there is one.
 fn line_before(i: usize) -> usize
@@ -36,12 +37,12 @@ fn back(low: usize, high: usize, step: usize) -> usize
     high - 1 - step.min((high - low) / 2)
 }
 
-// Whether one of three lines is not wholly within the keys from `first` on and before `last`.
-fn beyond(line: usize, first: usize, last: usize) -> bool
+// Whether one of three lines is not wholly within the part.
+fn beyond(part: &KeyPart, line: usize) -> bool
     requires { line + 3 ≤ max_keys }
-    ensures { result ≡ false → (first ≤ first_key line) × (first_key (line + 3) ≤ last) }
+    ensures { result ≡ false → HasLines part.now line (line + 3) }
 {
-    (cache_line::first_key(line) < first) | (last < cache_line::first_key(line + 3))
+    (cache_line::first_key(line) < part.first) | (part.last < cache_line::first_key(line + 3))
 }
 
 // From the end of three lines to the middle of the next three.
@@ -49,18 +50,9 @@ const STEP: usize = 12;
 
 // Steps from a guess, each to the lines next to those read, for nearly always the key is close; the steps double, so that a bad guess costs
 // no more than a bisection.
-fn search(
-    part: &[u8],
-    skip: usize,
-    key: u64,
-    first: usize,
-    last: usize,
-    from: usize,
-    end: usize,
-    guessed: usize,
-) -> Option<usize>
-    requires { Sorted skip part.now first last × Bracket skip part.now first last key from end × (from ≤ guessed) × (guessed < end) }
-    ensures { Answers skip part.now key first last result }
+fn search(part: &KeyPart, key: u64, from: usize, end: usize, guessed: usize) -> Option<usize>
+    requires { BracketIn part.now key from end × (from ≤ guessed) × (guessed < end) }
+    ensures { AnswersIn part.now key part.now.first part.now.last result }
 {
     let mut low = from;
     let mut high = end;
@@ -68,15 +60,15 @@ fn search(
     let mut step = STEP;
     while low < high {
         let line = line_before(i);
-        if beyond(line, first, last) {
-            return few_keys::bisect(part, skip, key, first, last, low, high);
+        if beyond(part, line) {
+            return part.bisect(key, low, high);
         }
-        if cache_line::in_window(part, skip, key, line) {
-            let found = cache_line::window_line(part, skip, key, first, last, line);
-            return cache_line::in_line(part, skip, key, first, last, found);
+        if cache_line::in_window(part, key, line) {
+            let found = cache_line::window_line(part, key, line);
+            return cache_line::in_line(part, key, found);
         }
         step = (2 * step).min(16777216);
-        if key < cache_line::line_key(part, skip, line, 0) {
+        if key < cache_line::line_key(part, line, 0) {
             high = cache_line::first_key(line);
             i = back(low, high, step);
         } else {
@@ -150,54 +142,34 @@ pub fn touch(set: &[u8], line: u32) -> u64 {
 }
 
 // A key that belongs to none of three lines. At an end of the range only a few keys are left.
-fn beside(
-    part: &[u8],
-    skip: usize,
-    key: u64,
-    first: usize,
-    last: usize,
-    from: usize,
-    end: usize,
-    line: usize,
-) -> Option<usize>
-    requires { Sorted skip part.now first last × Bracket skip part.now first last key from end × (from < end)
-        × (first ≤ first_key line) × (first_key (line + 3) ≤ last)
-        × ((leb (key_in skip part.now (first_key line)) key && leb key (key_in skip part.now (first_key (line + 2) + 6))) ≡ false) }
-    ensures { Answers skip part.now key first last result }
+fn beside(part: &KeyPart, key: u64, from: usize, end: usize, line: usize) -> Option<usize>
+    requires { BracketIn part.now key from end × (from < end) × HasLines part.now line (line + 3) × (in_window part.now key line ≡ false) }
+    ensures { AnswersIn part.now key part.now.first part.now.last result }
 {
-    let below = key < cache_line::line_key(part, skip, line, 0);
+    let below = key < cache_line::line_key(part, line, 0);
     let low = number::pick(below, from, cache_line::first_key(line + 2) + 7);
     let high = number::pick(below, cache_line::first_key(line), end);
     if high <= low + 8 {
-        return few_keys::in_eight(part, skip, key, low, high);
+        return part.in_eight(key, low, high);
     }
     let guessed = number::pick(below, back(low, high, STEP), on(low, high, STEP));
-    search(part, skip, key, first, last, low, high, guessed)
+    search(part, key, low, high, guessed)
 }
 
 // A key that can stand only from key `from` on and before key `end`. The keys there are guessed to be spread evenly by their bits below `shift`.
 // The line of the guess and the two beside it are read at once, and no branch depends on which of them the key belongs to: it would often be
 // guessed wrong, and all that follows would wait for memory.
-pub fn find(
-    part: &[u8],
-    skip: usize,
-    key: u64,
-    shift: u32,
-    first: usize,
-    last: usize,
-    from: usize,
-    end: usize,
-) -> Option<usize>
-    requires { Sorted skip part.now first last × (shift < 64) × Bracket skip part.now first last key from end × (from < end) }
-    ensures { Answers skip part.now key first last result }
+pub fn find(part: &KeyPart, key: u64, shift: u32, from: usize, end: usize) -> Option<usize>
+    requires { (shift < 64) × BracketIn part.now key from end × (from < end) }
+    ensures { AnswersIn part.now key part.now.first part.now.last result }
 {
-    if last < first + 31 {
-        return few_keys::bisect(part, skip, key, first, last, from, end);
+    if part.last < part.first + 31 {
+        return part.bisect(key, from, end);
     }
-    let line = guessed_line(key, shift, first, last, from, end);
-    if cache_line::in_window(part, skip, key, line) {
-        let found = cache_line::window_line(part, skip, key, first, last, line);
-        return cache_line::in_line(part, skip, key, first, last, found);
+    let line = guessed_line(key, shift, part.first, part.last, from, end);
+    if cache_line::in_window(part, key, line) {
+        let found = cache_line::window_line(part, key, line);
+        return cache_line::in_line(part, key, found);
     }
-    beside(part, skip, key, first, last, from, end, line)
+    beside(part, key, from, end, line)
 }

@@ -19,7 +19,7 @@ pub overflow_add-half : goal.overflow_add-half
 overflow_add-half c = omega (arith, half_le c)
 
 pub line_key-requires-2 : goal.line_key-requires-2
-line_key-requires-2 c = (c.requires.2, omega (arith, half_le c))
+line_key-requires-2 c = (c.requires.within, omega (arith, half_le c))
 
 quarter-le : (c : After-pick-quarter) → c.pick-quarter.result ≤ 2
 quarter-le c =
@@ -29,14 +29,14 @@ pub overflow_add-half-2 : goal.overflow_add-half-2
 overflow_add-half-2 c = omega (arith, half_le (goal.at.overflow_add-half-2 c).After-pick-half, quarter-le c)
 
 pub in_pair-requires : goal.in_pair-requires
-in_pair-requires c = (c.requires.2, omega (arith, half_le (goal.at.in_pair-requires c).After-pick-half, quarter-le c))
+in_pair-requires c = (c.requires.within, omega (arith, half_le (goal.at.in_pair-requires c).After-pick-half, quarter-le c))
 
 pub returns : goal.returns
 returns c =
     let a = c.args in
-    let four : c.pick-half.result ≡ cond (leb (key_in a.skip a.part.now (first_key a.line + 4)) a.key) 4 0 =
+    let four : c.pick-half.result ≡ cond (leb (key_in a.part.now.skip a.part.now.bytes.now (first_key a.line + 4)) a.key) 4 0 =
     c.pick-half.ensures ∙ ap (λ (w : ℕ). cond (leb w a.key) 4 0) c.line_key.ensures in
-    let two : c.pick-quarter.result ≡ cond (leb (key_in a.skip a.part.now (first_key a.line + (c.pick-half.result + 2))) a.key) 2 0 =
+    let two : c.pick-quarter.result ≡ cond (leb (key_in a.part.now.skip a.part.now.bytes.now (first_key a.line + (c.pick-half.result + 2))) a.key) 2 0 =
     c.pick-quarter.ensures ∙ ap (λ (w : ℕ). cond (leb w a.key) 2 0) c.line_key-2.ensures in
-    answers-all (quarters c.requires.0 a.key a.line c.pick-half.result c.pick-quarter.result c.requires.1 four two)
+    answers-all (quarters a.part.now.sorted a.key a.line c.pick-half.result c.pick-quarter.result c.requires four two)
     c.in_pair.result c.in_pair.ensures

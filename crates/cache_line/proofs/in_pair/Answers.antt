@@ -28,30 +28,30 @@ word-key : (skip : ℕ) (part : List ℕ) (line t at : ℕ) → at ≡ 512 + 64 
 word-key skip part line t at e h = rw e (line_word skip part line t h)
 
 here : (c : After-word_at) → let a = c.args in
-    c.word_at.result ≡ key_in a.skip a.part.now (first_key a.line + a.at)
+    c.word_at.result ≡ key_in a.part.now.skip a.part.now.bytes.now (first_key a.line + a.at)
 here c =
     let a = c.args in
     let low = c.requires.1 in
-    c.word_at.ensures ∙ word-key a.skip a.part.now a.line a.at _ (omega arith) (omega arith)
+    c.word_at.ensures ∙ word-key a.part.now.skip a.part.now.bytes.now a.line a.at _ (omega arith) (omega arith)
 
 -- The word behind, if it is a key.
 next : (c : After-word_at) → let a = c.args in
-    first_key a.line + a.at + 1 < first_key (a.line + 1) → c.word_at-next.result ≡ key_in a.skip a.part.now (first_key a.line + a.at + 1)
+    first_key a.line + a.at + 1 < first_key (a.line + 1) → c.word_at-next.result ≡ key_in a.part.now.skip a.part.now.bytes.now (first_key a.line + a.at + 1)
 next c h =
     let a = c.args in
     let place : first_key a.line + a.at + 1 ≡ first_key a.line + (a.at + 1) = omega arith in
-    rw place (c.word_at-next.ensures ∙ word-key a.skip a.part.now a.line (a.at + 1) _ (omega arith) (omega arith))
+    rw place (c.word_at-next.ensures ∙ word-key a.part.now.skip a.part.now.bytes.now a.line (a.at + 1) _ (omega arith) (omega arith))
 
 pub returns-then-is_first-is_second : goal.returns-then-is_first-is_second
 returns-then-is_first-is_second c =
     let a = c.args in
     let index : 8 * a.line + a.at + c.pick.result - a.line / 8 ≡ first_key a.line + a.at + c.pick.result = omega arith in
     rw (index, c.pick.ensures)
-    (pair-at a.skip a.part.now a.key a.line a.at c.word_at-next.result c.requires.1 (next (goal.at.returns-then-is_first-is_second c).After-word_at)
+    (pair-at a.part.now.skip a.part.now.bytes.now a.key a.line a.at c.word_at-next.result c.requires.1 (next (goal.at.returns-then-is_first-is_second c).After-word_at)
     (rw (here (goal.at.returns-then-is_first-is_second c).After-word_at) at c.if-is_first-is_second.true))
 
 pub returns : goal.returns
 returns c =
     let a = c.args in
-    pair-none a.skip a.part.now a.key a.line a.at c.word_at-next.result c.requires.1 (next (goal.at.returns c).After-word_at)
+    pair-none a.part.now.skip a.part.now.bytes.now a.key a.line a.at c.word_at-next.result c.requires.1 (next (goal.at.returns c).After-word_at)
     (rw (here (goal.at.returns c).After-word_at) at c.if-is_first-is_second.false)

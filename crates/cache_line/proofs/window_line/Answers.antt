@@ -19,22 +19,16 @@ few c =
     )
 
 pub overflow_add-result : goal.overflow_add-result
-overflow_add-result c = omega (arith, few c, c.requires.2.few)
+overflow_add-result c = omega (arith, few c, c.requires.within, c.args.part.now.sorted.few)
 
 pub overflow_add-result-2 : goal.overflow_add-result-2
-overflow_add-result-2 c = omega (arith, few c, c.requires.2.few)
+overflow_add-result-2 c = omega (arith, few c, c.requires.within, c.args.part.now.sorted.few)
 
 pub returns : goal.returns
 returns c =
     let a = c.args in
-    let second : c.pick-second.result ≡ cond (leb (key_in a.skip a.part.now (first_key (a.line + 1))) a.key) 1 0 =
-    c.pick-second.ensures ∙ ap (λ (w : ℕ). cond (leb w a.key) 1 0) (c.line_key.ensures ∙ ap (key_in a.skip a.part.now) (add-zero _)) in
-    let third : c.pick-third.result ≡ cond (leb (key_in a.skip a.part.now (first_key (a.line + 2))) a.key) 1 0 =
-    c.pick-third.ensures ∙ ap (λ (w : ℕ). cond (leb w a.key) 1 0) (c.line_key-2.ensures ∙ ap (key_in a.skip a.part.now) (add-zero _)) in (
-      rw (second, third) (three c.requires.0 a.key a.line c.requires.1 _ _ refl refl),
-      (let w = c.requires.2 in record {
-        few = omega (arith, few c, w.few);
-        starts = omega (arith, few c, w.starts);
-        ends = omega (arith, few c, w.ends);
-      }),
-    )
+    let second : c.pick-second.result ≡ cond (leb (key_in a.part.now.skip a.part.now.bytes.now (first_key (a.line + 1))) a.key) 1 0 =
+    c.pick-second.ensures ∙ ap (λ (w : ℕ). cond (leb w a.key) 1 0) (c.line_key.ensures ∙ ap (key_in a.part.now.skip a.part.now.bytes.now) (add-zero _)) in
+    let third : c.pick-third.result ≡ cond (leb (key_in a.part.now.skip a.part.now.bytes.now (first_key (a.line + 2))) a.key) 1 0 =
+    c.pick-third.ensures ∙ ap (λ (w : ℕ). cond (leb w a.key) 1 0) (c.line_key-2.ensures ∙ ap (key_in a.part.now.skip a.part.now.bytes.now) (add-zero _)) in
+    rw (second, third) (three a.part.now.sorted a.key a.line c.requires _ _ refl refl)

@@ -12,5 +12,5 @@ neither false q e = (refl, e)
 pub returns : goal.returns
 returns c h =
     let a = c.args in
-    let t = neither (ltb c.first_key.result a.first) (ltb a.last c.first_key-2.result) h in
-    omega (arith, ltb-false c.first_key.result a.first t.0, ltb-false a.last c.first_key-2.result t.1, c.first_key.ensures, c.first_key-2.ensures)
+    let t = neither (ltb c.first_key.result a.part.now.first) (ltb a.part.now.last c.first_key-2.result) h in
+    omega (arith, ltb-false c.first_key.result a.part.now.first t.0, ltb-false a.part.now.last c.first_key-2.result t.1, c.first_key.ensures, c.first_key-2.ensures)

@@ -6,11 +6,9 @@ use mathlib.Core.Bool.{Bool, true, false, ◌||◌, cond, false≢true}
 use mathlib.Core.List.{List}
 use lib.Dec.{eqb}
 use borrow.Author.Tests.{eqb-true, eq-eqb}
-use Rattle.std.specs.Prelude.{Option, Some, None}
+use Rattle.std.specs.Prelude.{Some, None}
 use Rattle.few_keys.specs.Find.{key_in, Answers}
-use Rattle.few_keys.proofs.Part.{key-room}
-use borrow.Author.Rules.{rules}
-use Rattle.few_keys.proofs.in_two.Goals as goal
+use Rattle.few_keys.proofs.key_part.KeyPart.in_two.Goals as goal
 
 module _ (skip : ℕ) (part : List ℕ) (x from end : ℕ) (some : from < end) (two : end ≤ from + 2) where
   abbrev is : ℕ → Bool
@@ -33,21 +31,15 @@ module _ (skip : ℕ) (part : List ℕ) (x from end : ℕ) (some : from < end) (
       go (yes a) = not (end - 1) e (omega arith)
       go (no a) = not from d (omega arith)
 
-pub key_at-requires : goal.key_at-requires
-key_at-requires c = key-room c.requires.0 _ (search rules) (search rules)
-
-pub key_at-requires-2 : goal.key_at-requires-2
-key_at-requires-2 c = key-room c.requires.0 _ (search rules) (search rules)
-
 pub returns-then-is_first-is_last : goal.returns-then-is_first-is_last
 returns-then-is_first-is_last c =
     let a = c.args in
     rw (c.pick.ensures, c.key_at.ensures)
-    (two_at a.skip a.part.now a.key a.from a.end c.requires.1 c.requires.2 _ _ refl refl
+    (two_at a.self.now.skip a.self.now.bytes.now a.key a.from a.end c.requires.1 c.requires.3 _ _ refl refl
     (rw (c.key_at.ensures, c.key_at-2.ensures) at c.if-is_first-is_last.true))
 
 pub returns : goal.returns
 returns c =
     let a = c.args in
-    two_none a.skip a.part.now a.key a.from a.end c.requires.1 c.requires.2 _ _ refl refl
+    two_none a.self.now.skip a.self.now.bytes.now a.key a.from a.end c.requires.1 c.requires.3 _ _ refl refl
     (rw (c.key_at.ensures, c.key_at-2.ensures) at c.if-is_first-is_last.false)

@@ -6,22 +6,9 @@ use mathlib.Core.Bool.{Bool, true, false, ◌||◌, cond, false≢true}
 use mathlib.Core.List.{List}
 use lib.Dec.{eqb}
 use borrow.Author.Tests.{eqb-true, eq-eqb}
-use Rattle.std.specs.Prelude.{Option, Some, None}
+use Rattle.std.specs.Prelude.{Some, None}
 use Rattle.few_keys.specs.Find.{key_in, Answers}
-use Rattle.few_keys.proofs.Part.{key-room}
-use Rattle.few_keys.proofs.in_four.Goals as goal
-
-pub key_at-requires : goal.key_at-requires
-key_at-requires c = key-room c.requires.0 _ (omega arith) (omega arith)
-
-pub key_at-requires-2 : goal.key_at-requires-2
-key_at-requires-2 c = key-room c.requires.0 _ (omega arith) (omega arith)
-
-pub key_at-requires-3 : goal.key_at-requires-3
-key_at-requires-3 c = key-room c.requires.0 _ (omega arith) (omega arith)
-
-pub key_at-requires-4 : goal.key_at-requires-4
-key_at-requires-4 c = key-room c.requires.0 _ (omega arith) (omega arith)
+use Rattle.few_keys.proofs.key_part.KeyPart.in_four.Goals as goal
 
 -- One of four tests holds, or none.
 chosen : (P : ℕ → Type 0) (p q r s : Bool) (a b c d : ℕ) → (p ≡ true → P a) → (q ≡ true → P b) → (r ≡ true → P c) → (s ≡ true → P d)
@@ -73,13 +60,13 @@ pub returns-then-is_first-is_second : goal.returns-then-is_first-is_second
 returns-then-is_first-is_second c =
     let a = c.args in
     rw (c.pick-then-is_first-is_second-2.ensures, c.pick-then-is_first-is_second.ensures, c.pick.ensures, c.key_at.ensures, c.key_at-2.ensures, c.key_at-3.ensures)
-    (few-at a.skip a.part.now a.key a.from a.end c.min-second.result c.min-third.result (a.end - 1)
-    c.requires.1 c.requires.2 c.min-second.ensures c.min-third.ensures refl
+    (few-at a.self.now.skip a.self.now.bytes.now a.key a.from a.end c.min-second.result c.min-third.result (a.end - 1)
+    c.requires.1 c.requires.3 c.min-second.ensures c.min-third.ensures refl
     (rw (c.key_at.ensures, c.key_at-2.ensures, c.key_at-3.ensures, c.key_at-4.ensures) at c.if-is_first-is_second.true))
 
 pub returns : goal.returns
 returns c =
     let a = c.args in
-    few-none a.skip a.part.now a.key a.from a.end c.min-second.result c.min-third.result (a.end - 1)
-    c.requires.1 c.requires.2 c.min-second.ensures c.min-third.ensures refl
+    few-none a.self.now.skip a.self.now.bytes.now a.key a.from a.end c.min-second.result c.min-third.result (a.end - 1)
+    c.requires.1 c.requires.3 c.min-second.ensures c.min-third.ensures refl
     (rw (c.key_at.ensures, c.key_at-2.ensures, c.key_at-3.ensures, c.key_at-4.ensures) at c.if-is_first-is_second.false)

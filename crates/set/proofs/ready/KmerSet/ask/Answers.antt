@@ -8,7 +8,7 @@ use Rattle.kmer.specs.Kmer.{kmer_of}
 use Rattle.rules.specs.Set.{set_of}
 use Rattle.set.proofs.Among.{place-solid}
 use Rattle.set.proofs.Opened.{set-count}
-use Rattle.set.proofs.ask.Goals as goal
+use Rattle.set.proofs.ready.KmerSet.ask.Goals as goal
 
 pub returns-then-kmer-ne0 : goal.returns-then-kmer-ne0
 unfolding kmer_of
@@ -19,13 +19,13 @@ returns-then-kmer-ne0 c =
 
 pub look_up-place-requires : goal.look_up-place-requires
 look_up-place-requires c =
-    let p = c.requires in
-    (p.0.table, rw (← p.0.k_is) p.1, omega arith)
+    let p = c.args.self.now.ready in
+    (p.table, rw (← p.k_is) c.requires, omega arith)
 
 pub returns : goal.returns
 unfolding kmer_of
 returns c =
-    let a = c.args in
-    let known : a.kmer.unknown ≡ 0 = omega arith in
-    let solid = place-solid (set_of a.set.now) a.kmer.code _ _ (c.requires.0.n_is ∙ sym (set-count a.set.now)) c.look_up-place.ensures in
+    let s = c.args.self.now in
+    let known : c.args.kmer.unknown ≡ 0 = omega arith in
+    let solid = place-solid (set_of s.bytes.now) c.args.kmer.code _ _ (s.ready.n_is ∙ sym (set-count s.bytes.now)) c.look_up-place.ensures in
     record { solid = solid ∙ sym (ask-is _ _ known); lookups = sym (ask-one _ _ known) }
