@@ -3,7 +3,6 @@ use Prim.Native.Nat.{ℕ, ◌+◌, ◌≤◌, ◌<◌, zero-le}
 use native.Mathlib.Omega.{arith}
 use mathlib.Core.Path.{◌≡◌, refl, sym, ap, ◌∙◌, subst}
 use mathlib.Core.Bool.{Bool, true, false}
-use mathlib.Core.Option as maybe
 use mathlib.Core.Option.{none, some}
 use Rattle.std.specs.Prelude.{Option, Some, None}
 use mathlib.Core.List.{List}
@@ -22,7 +21,7 @@ use Rattle.set.specs.declared.Asked.{Asked}
 use Rattle.set.specs.Asked.{AskedIs}
 use Rattle.successors.specs.Successors.{NextIs}
 use Rattle.scenario.specs.declared.Trial.{Trial}
-use Rattle.scenario.specs.Scenario.{nth, one_of, trial_of, plus, sole_after, solid_after, passing_of, instead_of, instead_after, TrialIs}
+use Rattle.scenario.specs.Scenario.{nth, one_of, trial_of, plus, instead_of, instead_after, TrialIs}
 
 pub trial-short : (s : List ℕ) (sc : Scenario) → length s < sc.least → trial_of s sc ≡ refuse
 unfolding trial_of

@@ -27,16 +27,16 @@ impl Scenario for ScenarioOne {
     }
 
     fn row(self) -> Row {
-        let start = match self {
-            ScenarioOne::I => 2,
-            ScenarioOne::S => 1,
-            ScenarioOne::D => 0,
+        let (start, resume) = match self {
+            ScenarioOne::I => (2, 2),
+            ScenarioOne::S => (1, 1),
+            ScenarioOne::D => (0, 0),
         };
         Row {
             least: 0,
             start,
             letters: 1,
-            resume: start,
+            resume,
         }
     }
 

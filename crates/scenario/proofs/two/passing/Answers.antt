@@ -1,4 +1,4 @@
-use mathlib.Core.Path.{refl, sym, ap}
+use mathlib.Core.Path.{sym, ap}
 use lib.Dec.{lit≤}
 use Rattle.rules.specs.Counted.{give}
 use Rattle.scenario.proofs.Trials.{by-given}

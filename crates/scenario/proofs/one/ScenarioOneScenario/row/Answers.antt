@@ -9,9 +9,9 @@ use Rattle.scenario.proofs.one.ScenarioOneScenario.row.Goals.{Joined-self, in-I,
 use Rattle.scenario.proofs.one.ScenarioOneScenario.row.Goals as goal
 
 by-name : (c : Joined-self) (k : ℕ) (sol : ℕ → Bool) (x : Kmer) (s : List ℕ)
-    → let start = c.match-self.start in
+    → let row = c.match-self.start in
     let sc : Scenario = one_of c.args.self k sol x s in
-    (0 ≡ sc.least) × (start ≡ sc.o) × ((t : Kmer) → last 1 x ≡ sc.letters t) × (start ≡ sc.r)
+    (0 ≡ sc.least) × (row.0 ≡ sc.o) × ((t : Kmer) → last 1 x ≡ sc.letters t) × (row.1 ≡ sc.r)
 unfolding nth one row
 by-name c k sol x s =
     elim c.match-self.branch [
