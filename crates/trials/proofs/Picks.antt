@@ -1,6 +1,6 @@
 -- What is picked, from its parts.
 use Prim.Native.Nat.{ℕ, ◌≤◌}
-use mathlib.Core.Path.{◌≡◌, refl, sym, ap, ◌∙◌}
+use mathlib.Core.Path.{◌≡◌, refl, sym, ap, ◌∙◌, subst}
 use mathlib.Core.Option as maybe
 use mathlib.Core.Option.{none, some}
 use mathlib.Core.List.{List, [], ◌∷◌}
@@ -13,7 +13,7 @@ use Rattle.rules.specs.Exist.{Mend, Scenario}
 use Rattle.scenario.specs.declared.mend.Mend.{Mend as Kept}
 use Rattle.scenario.specs.Scenario.{of_code, spelled_out, Gives}
 use Rattle.trials.specs.declared.Pick.{Pick}
-use Rattle.trials.specs.Trials.{Placed, PickIs}
+use Rattle.trials.specs.Trials.{Placed, MendIs, PickIs}
 
 module _ {set : KmerSet} {most l : ℕ} {t : Try Mend} where
   pub pick-refused : (r : Pick) → (r.mend ≡ None) × (r.lookups ≡ l) → t ≡ record { answer = none; lookups = l } → l ≤ most → PickIs set most t r
@@ -28,3 +28,11 @@ module _ {set : KmerSet} {most l : ℕ} {t : Try Mend} where
       let placed : Placed set m =
       ap (λ (ys : List Kmer). lookup set (get_or ys 0 (of_code 0)).code) same ∙ f ∙ ap {B = maybe.Option ℕ} some (sym g.place_is) in
       record { mend = (ap (λ (r : Try Mend). r.answer) e ∙ ap {B = maybe.Option Mend} some (sym g.is), placed); lookups = ap (λ (r : Try Mend). r.lookups) e; few = h }
+
+-- what a pick says of it
+module _ {set : KmerSet} {most : ℕ} {t : Try Mend} {r : Pick} (q : PickIs set most t r) where
+  pub none-picked : r.mend ≡ None → t ≡ record { answer = none; lookups = r.lookups }
+  none-picked e = let a = subst (MendIs set t.answer) e q.mend in λ i. record { answer = a i; lookups = q.lookups i }
+
+  pub picked : (m : Kept) → r.mend ≡ Some m → (t ≡ record { answer = some (spelled_out m); lookups = r.lookups }) × Placed set m
+  picked m e = let a = subst (MendIs set t.answer) e q.mend in (λ i. record { answer = a.0 i; lookups = q.lookups i }, a.1)

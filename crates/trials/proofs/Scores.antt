@@ -112,9 +112,6 @@ module _ (k : ℕ) (sol : ℕ → Bool) (bases : List ℕ) (t : Kmer) where
     pub answer : whole.answer ≡ j + (from j z).answer
     pub lookups : whole.lookups ≡ j + (from j z).lookups
 
-  pub run-none : Run 0 t
-  run-none = record { answer = omega arith; lookups = omega arith }
-
   -- base j added gives z', which is asked and answered by p
   module _ {j : ℕ} {z z' : Kmer} {p : Asked} (r : Run j z) (h : j < length bases) (z-is : z' ≡ add_base k z (get_or bases j 0)) (asked : AskedIs (ask sol z') p) where
     abbrev after-base : Kmer
@@ -192,9 +189,6 @@ module _ (k : ℕ) (sol : ℕ → Bool) (c : ℕ) (s : List ℕ) (scs : List Sce
   pub record Done (i : ℕ) (ms : List Mend) (l : ℕ) : Type 0 where
     pub answer : (of scs).answer ≡ ms ++ (of (drop i scs)).answer
     pub lookups : (of scs).lookups ≡ l + (of (drop i scs)).lookups
-
-  pub done-none : Done 0 [] 0
-  done-none = record { answer = refl; lookups = omega arith }
 
   module _ {i l : ℕ} {ms : List Mend} {sc : Scenario} (d : Done i ms l) (here : drop i scs ≡ sc ∷ drop (i + 1) scs) where
     abbrev rest : Counted (List Mend)

@@ -1,7 +1,7 @@
 use Prim.Native.Nat.{ℕ, ◌≤◌, ◌<◌}
 use native.Mathlib.Omega.{arith}
 use mathlib.Core.Path.{◌≡◌, refl, sym, ap, ◌∙◌, subst}
-use mathlib.Core.List.{List, map}
+use mathlib.Core.List.{map}
 use lib.ListN.{length, get_or, length-map}
 use borrow.Author.Rules.{rules}
 use Rattle.std.proofs.lemmas.List.Elements.{All-get_or}

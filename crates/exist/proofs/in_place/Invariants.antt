@@ -1,10 +1,9 @@
-use Prim.Native.Nat.{◌-◌, ◌≤◌}
+use Prim.Native.Nat.{◌≤◌}
 use mathlib.Core.Path.{◌≡◌}
 use lib.ListN.{drop}
 use Rattle.rules.specs.Letters.{add_all}
 use Rattle.kmer.specs.Kmer.{kmer_of, IsKmer}
 use Rattle.scenario.specs.Scenario.{spelled_out}
-use Rattle.exist.proofs.Letters.{placed}
 use Rattle.exist.proofs.in_place.Given as goal
 
 abbrev pub invariant-loop-i : goal.invariant-loop-i

@@ -1,6 +1,4 @@
-use Prim.Native.Nat.{◌+◌, ◌≤◌}
 use native.Mathlib.Omega.{arith}
-use borrow.Author.Rules.{rules}
 use borrow.Author.Tests.{not-true, not-false}
 use Rattle.scenario.proofs.Trials.{asked-le, solid-one}
 use Rattle.trials.proofs.Scores.{run-on, run-bad, run-all}

@@ -1,13 +1,13 @@
-use Prim.Native.Nat.{◌+◌, ◌≤◌}
+use Prim.Native.Nat.{◌≤◌}
 use native.Mathlib.Omega.{arith}
-use mathlib.Core.Path.{◌≡◌, sym, subst, ◌∙◌}
-use mathlib.Core.List.{[], ◌∷◌, ◌++◌, map, map-append}
+use mathlib.Core.List.{[], ◌∷◌, map-append}
 use lib.ListN.{length, length-append, length-map}
-use Rattle.std.proofs.lemmas.List.Elements.{All-nil, All-push}
+use Rattle.std.proofs.lemmas.List.Elements.{All-push}
 use Rattle.scenario.specs.Scenario.{spelled_out}
 use Rattle.rules.specs.Set.{set_of, solid}
 use Rattle.kmer.specs.Kmer.{kmer_of}
-use Rattle.trials.specs.Trials.{Placed, MendIs}
+use Rattle.trials.specs.Trials.{Placed}
+use Rattle.trials.proofs.Picks.{none-picked, picked}
 use Rattle.trials.proofs.Scores.{next-is, done-refused, done-kept, done-answer, done-lookups}
 use Rattle.trials.proofs.get_scenarii.Goals.{in-Some, in_default}
 use Rattle.trials.proofs.get_scenarii.Goals as goal
@@ -19,25 +19,24 @@ loop-scenario-preserved g c =
     let sol = solid (set_of a.set.now.bytes.now) in
     let p = c.tried-pick.ensures in
     let next = next-is (λ sc. g.S.Scenario.scenario sc a.set.now.head.k sol (kmer_of a.x) a.s.now) c.all-scenario-items.result.now
-    (c.all-scenario-items.ensures.whole _ _ _ _) c.loop-scenario.scenario-index c.scenario-item.result c.scenario-item.is c.loop-scenario-test.true in
+    (c.all-scenario-items.ensures.whole a.set.now.head.k sol (kmer_of a.x) a.s.now) c.loop-scenario.scenario-index c.scenario-item.result c.scenario-item.is c.loop-scenario-test.true in
     elim c.match-pick.branch [
       | in-Some w ↦
           let m = w.in-Some.mend in
-          let q = subst (MendIs _ _) w.in-Some.is p.mend in
+          let q = picked p m w.in-Some.is in
           let n = length-append c.loop-scenario.kept (m ∷ []) in
           rw (w.kept-is, w.push.ensures) (
             omega (arith, n),
             omega (arith, p.few),
             All-push (Placed (set_of a.set.now.bytes.now)) c.loop-scenario.kept m i.2 q.1,
-            rw (map-append spelled_out c.loop-scenario.kept (m ∷ [])) (done-kept _ _ _ _ _ i.3 next (λ j. record { answer = q.0 j; lookups = p.lookups j })),
+            rw (map-append spelled_out c.loop-scenario.kept (m ∷ [])) (done-kept _ _ _ _ _ i.3 next q.0),
           )
       | in_default w ↦
-          let q = subst (MendIs _ _) w.in_default.is p.mend in
           rw w.kept-is (
             omega arith,
             omega (arith, p.few),
             i.2,
-            done-refused _ _ _ _ _ i.3 next (λ j. record { answer = q j; lookups = p.lookups j }),
+            done-refused _ _ _ _ _ i.3 next (none-picked p w.in_default.is),
           )
     ]
 
