@@ -17,7 +17,7 @@ ghost use Rattle.set.specs.PartOf.{PartOf};
 ghost use Rattle.set.specs.Asked.{AskedIs};
 
 use few_keys::KeyPart;
-use kmer::{Header, Kmer};
+use kmer::Kmer;
 use lookup::Lookup;
 pub use ready::KmerSet;
 use std::ops::Range;
@@ -109,63 +109,11 @@ fn look_up(set: &[u8], starts: &[u32], kmer: Kmer, n: usize, shift: u32, finer: 
     keys::find(&part, key, shift, range.start, range.end).unwrap_or(n)
 }
 
-pub fn place_of(set: &[u8], starts: &[u32], head: Header, kmer: Kmer) -> usize
-    requires { Ready set.now starts.now head × IsKmer head.k kmer × (kmer.unknown ≡ 0) }
-    ensures { result ≡ place_in head.n (lookup (set_of set.now) kmer.code) }
-{
-    let set = KmerSet {
-        bytes: set,
-        starts,
-        counts: &[],
-        head,
-    };
-    set.place_of(kmer)
-}
-
-pub fn get(set: &[u8], starts: &[u32], head: Header, kmer: Kmer) -> Option<usize>
-    requires { Ready set.now starts.now head × IsKmer head.k kmer × (kmer.unknown ≡ 0) }
-    ensures { index_of result ≡ lookup (set_of set.now) kmer.code }
-{
-    let set = KmerSet {
-        bytes: set,
-        starts,
-        counts: &[],
-        head,
-    };
-    set.get(kmer)
-}
-
 // A k-mer asked: whether it is solid, and the lookups made.
 #[derive(Clone, Copy)]
 pub struct Asked {
     pub solid: bool,
     pub lookups: u64,
-}
-
-pub fn ask(set: &[u8], starts: &[u32], head: Header, kmer: Kmer) -> Asked
-    requires { Ready set.now starts.now head × IsKmer head.k kmer }
-    ensures { AskedIs (rules.ask (solid (set_of set.now)) (kmer_of kmer)) result }
-{
-    let set = KmerSet {
-        bytes: set,
-        starts,
-        counts: &[],
-        head,
-    };
-    set.ask(kmer)
-}
-
-pub fn first_line(set: &[u8], starts: &[u32], head: Header, kmer: Kmer) -> usize
-    requires { Ready set.now starts.now head × IsKmer head.k kmer }
-    ensures { (result ≤ max_keys) × LineOf set.now (head.shift + head.finer) (canonical head.k kmer.code) result }
-{
-    let set = KmerSet {
-        bytes: set,
-        starts,
-        counts: &[],
-        head,
-    };
-    set.first_line(kmer)
 }
 
 impl KmerSet<'_> {
