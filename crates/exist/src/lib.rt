@@ -34,6 +34,7 @@ fn write(mend: Mend, out: &mut [u8])
     requires { mend.letters ≤ length out.old }
     ensures { (take mend.letters out.new ≡ (spelled_out mend).letters) × (length out.new ≡ length out.old) }
 {
+    // By index: letter i is read off the code, so there is no list of them to go over.
     for i in 0..mend.letters {
         out[i] = kmer::bit2nuc(letter_at(mend, i));
     }

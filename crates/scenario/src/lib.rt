@@ -27,7 +27,7 @@ pub struct Trial {
     pub lookups: u64,
 }
 
-// The scenarios of One, and those of Two. The trials' count c is passed to them, so that they hold nothing.
+// The scenarios of One, and those of Two. They hold neither c nor k, as the source's do: c is the caller's and k is the set's.
 pub trait Scenario: Copy + 'static {
     // The rules' list of them.
     ghost scenarios: { ℕ → (ℕ → Bool) → letters.Kmer → List ℕ → List rules.Scenario };
