@@ -1,15 +1,15 @@
 -- Laws of an offered index as the code checks it.
-use Prim.Native.Nat.{ℕ, ◌*◌, ◌≤◌, ◌<◌}
+use Prim.Native.Nat.{ℕ, zero, suc, ◌*◌, ◌≤◌, ◌<◌}
 use native.Mathlib.Omega.{arith}
-use native.Mathlib.Decide.{dec_lt}
-use borrow.Author.Tests.{lt-ltb, le-ltb, eq-eqb, ne_eqb, eqb-true}
+use native.Mathlib.Numerals.{add-one}
+use borrow.Author.Tests.{eq-eqb, eqb-true}
 use mathlib.Core.Path.{◌≡◌, refl, sym, ap, ◌∙◌}
-use mathlib.Core.Bool.{Bool, true, false, not, false≢true}
+use mathlib.Core.Bool.{Bool, true, false, false≢true}
 use mathlib.Core.Logic.{◌↔◌}
 use mathlib.Core.Option.{none}
 use mathlib.Core.List.{List, [], ◌∷◌}
-use lib.Dec.{eqb, ltb}
 use lib.ListN.{length, get_or}
+use Rattle.std.specs.List.{list_all, range_with_len}
 use Rattle.rules.specs.Refusal.{unless, first_failing}
 use Rattle.rules.specs.Set.{KmerSet, header_k, is_none, check_right, set_check, set_of}
 use Rattle.rules.specs.Blocks.{blocks_for}
@@ -21,14 +21,6 @@ use Rattle.opening.proofs.Opening.{set-k}
 use Rattle.index.proofs.Laws.{set-keys}
 use Rattle.check_index.specs.Words.{word_right}
 
--- An entry that is no less than e is e, unless e is below it.
-pub not_behind : (e entry : ℕ) → e ≤ entry → not (ltb e entry) ≡ eqb e entry
-not_behind e entry h = go (dec_lt e entry)
-  where
-    go : Dec (e < entry) → not (ltb e entry) ≡ eqb e entry
-    go (yes l) = rw (lt-ltb e entry l, ne_eqb e entry (λ q. omega arith))
-    go (no f) = rw (le-ltb e entry (omega arith), eq-eqb e entry (omega arith))
-
 -- ---- the list
 
 module _ (bytes : List ℕ) (k : ℕ) (e : k ≡ header_k bytes) where
@@ -39,6 +31,17 @@ module _ (bytes : List ℕ) (k : ℕ) (e : k ≡ header_k bytes) where
   list-behind v l = Rules.list-behind (set_of bytes) v (rw (← (set-k bytes e)) l)
 
 -- ---- an offered index
+
+-- Tests of one number after another, as the code makes them.
+pub tests_all : (ok : ℕ → Bool) (i m : ℕ) → list_all ok (range_with_len i m) ≡ is_none (first_failing ok i m)
+unfolding first_failing is_none
+tests_all ok i zero = refl
+tests_all ok i (suc m) = go (ok i) refl (tests_all ok (suc i) m)
+  where
+    go : (b : Bool) → ok i ≡ b → list_all ok (range_with_len (suc i) m) ≡ is_none (first_failing ok (suc i) m)
+        → list_all ok (range_with_len i (suc m)) ≡ is_none (first_failing ok i (suc m))
+    go true e rest = rw (add-one, e, first_failing) rest
+    go false e rest = rw (e, first_failing)
 
 -- Tests that all hold, as the code finds them.
 all_hold : (ok : ℕ → Bool) (m : ℕ) → (is_none (first_failing ok 0 m) ≡ true) ↔ ((j : ℕ) → j < m → ok j ≡ true)

@@ -8,72 +8,50 @@ ghost use Rattle.rules.specs.Index.{index_entry, index_list, index_blocks, same_
 ghost use Rattle.index.specs.Index.{Opens};
 ghost use Rattle.check_index.specs.Words.{word_right};
 
+use index::OpenSet;
+
 // An entry is right when the key before it has first letters below v and the key at it has not: no other key is read.
-fn entry_right(set: &[u8], k: usize, n: usize, v: usize, entry: usize) -> bool
-    requires { Opens set.now k n }
-    ensures { result ≡ eqb entry (index_entry (set_of set.now) v) }
+fn entry_right(set: &OpenSet, v: usize, entry: usize) -> bool
+    ensures { result ≡ eqb entry (index_entry (set_of set.now.bytes.now) v) }
 {
-    if n < entry {
+    if set.n < entry {
         return false;
     }
-    if 0 < entry {
-        if !index::is_below(set, k, v, entry - 1) {
-            return false;
-        }
+    if 0 < entry && !set.is_below(v, entry - 1) {
+        return false;
     }
-    if entry == n {
-        return true;
-    }
-    !index::is_below(set, k, v, entry)
+    entry == set.n || !set.is_below(v, entry)
 }
 
 // Of an entry, or of a spare word.
-fn word_right(set: &[u8], k: usize, n: usize, v: usize, word: usize) -> bool
-    requires { Opens set.now k n }
-    ensures { result ≡ eqb word (get_or (index_list (set_of set.now)) v 0) }
+fn word_right(set: &OpenSet, v: usize, word: usize) -> bool
+    ensures { result ≡ eqb word (get_or (index_list (set_of set.now.bytes.now)) v 0) }
 {
-    if v < index::entry_count(k) {
-        return entry_right(set, k, n, v, word);
+    if v < index::entry_count(set.k) {
+        return entry_right(set, v, word);
     }
     word == 0
 }
 
-fn words_right(set: &[u8], k: usize, n: usize, index: &[u8], count: usize) -> bool
-    requires { Opens set.now k n × (512 * count ≤ length index.now) }
-    ensures { result ≡ is_none (first_failing (word_right (set_of set.now) index.now) 0 (63 * count)) }
+fn words_right(set: &OpenSet, index: &[u8], count: usize) -> bool
+    requires { 512 * count ≤ length index.now }
+    ensures { result ≡ is_none (first_failing (word_right (set_of set.now.bytes.now) index.now) 0 (63 * count)) }
 {
-    for v in 0..63 * count {
-        if !word_right(set, k, n, v, index::entry_at(index, v)) {
-            return false;
-        }
-    }
-    true
+    (0..63 * count).all(|v| word_right(set, v, index::entry_at(index, v)))
 }
 
 fn checks_right(index: &[u8], count: usize) -> bool
     requires { 512 * count ≤ length index.now }
     ensures { result ≡ is_none (first_failing (check_right index.now) 0 count) }
 {
-    for block in 0..count {
-        if !blocks::check_right(index, block) {
-            return false;
-        }
-    }
-    true
+    (0..count).all(|block| blocks::check_right(index, block))
 }
 
-fn index_right(set: &[u8], k: usize, n: usize, index: &[u8]) -> bool
-    requires { Opens set.now k n }
-    ensures { result ≡ same_bytes index.now (index_blocks (set_of set.now)) }
+fn index_right(set: &OpenSet, index: &[u8]) -> bool
+    ensures { result ≡ same_bytes index.now (index_blocks (set_of set.now.bytes.now)) }
 {
-    let count = index::block_count(k);
-    if index.len() != 512 * count {
-        return false;
-    }
-    if !checks_right(index, count) {
-        return false;
-    }
-    words_right(set, k, n, index, count)
+    let count = index::block_count(set.k);
+    index.len() == 512 * count && checks_right(index, count) && words_right(set, index, count)
 }
 
 // Refusal 15, unless it holds. An empty index counts as not offered.
@@ -81,8 +59,5 @@ pub fn check_index(set: &[u8], k: usize, n: usize, index: &[u8]) -> bool
     requires { Opens set.now k n }
     ensures { unless result 15 ≡ index_check (set_of set.now) index.now }
 {
-    if index.len() == 0 {
-        return true;
-    }
-    index_right(set, k, n, index)
+    index.is_empty() || index_right(&OpenSet { bytes: set, k, n }, index)
 }

@@ -7,8 +7,8 @@ use Rattle.check_index.proofs.word_right.Goals as goal
 pub returns-then-v-entry_count : goal.returns-then-v-entry_count
 returns-then-v-entry_count c =
     c.entry_right.ensures
-    ∙ ap (eqb c.args.word) (sym (list_at _ _ c.requires.k_is c.args.v (omega (arith, c.if-v-entry_count.true, c.entry_count.ensures))))
+    ∙ ap (eqb c.args.word) (sym (list_at _ _ c.args.set.now.opens.k_is c.args.v (omega (arith, c.if-v-entry_count.true, c.entry_count.ensures))))
 
 pub returns : goal.returns
 returns c =
-    ap (eqb c.args.word) (sym (list-behind _ _ c.requires.k_is c.args.v (omega (arith, c.if-v-entry_count.false, c.entry_count.ensures))))
+    ap (eqb c.args.word) (sym (list-behind _ _ c.args.set.now.opens.k_is c.args.v (omega (arith, c.if-v-entry_count.false, c.entry_count.ensures))))
