@@ -5,7 +5,7 @@ use native.Mathlib.Numerals.{add-one}
 use mathlib.Core.Path.{◌≡◌, refl, sym, ap, ap₂, ◌∙◌}
 use mathlib.Core.Option.{none}
 use mathlib.Core.List.{List, [], ◌∷◌, ◌++◌}
-use lib.ListN.{length, take, replicate}
+use lib.ListN.{length, replicate, length-replicate}
 use Rattle.rules.specs.Refusal.{Refusal, accepted, refused}
 use Rattle.rules.specs.Set.{KmerSet, header_k, set_check, set_of, opened}
 use Rattle.rules.specs.Blocks.{blocks_for, blocks_from, unmade}
@@ -14,7 +14,7 @@ use Rattle.rules_laws.proofs.Blocks.{Bytes, blocks-length}
 use Rattle.rules_laws.proofs.Index.{entries-length, entries-rise, list_length, list-words}
 use Rattle.opening.proofs.Opening.{set-k}
 use Rattle.lay.specs.Lay.{Put, Sealed, Holds, Extended}
-use Rattle.lay.proofs.Laws.{extended_none, extended-more, holds-none, sealed-is, cleared-length, laid-short, laid-fits}
+use Rattle.lay.proofs.Laws.{extended_none, extended-more, holds-none, sealed-is, laid-short, laid-fits}
 use Rattle.index.specs.Index.{Opens}
 use Rattle.index.proofs.Laws.{set-keys}
 
@@ -73,12 +73,12 @@ module _ (bytes : List ℕ) (k n : ℕ) (o : Opens bytes k n) (count : ℕ) (cou
       omega arith
 
   -- A cleared buffer, the entries, and the check words: the index and zeros.
-  pub all-written : (b₀ b₁ b₂ b₃ : List ℕ) → 512 * count ≤ length b₀ → b₁ ≡ take 0 b₀ ++ replicate (length b₀ - 0) 0
+  pub all-written : (b₀ b₁ b₂ b₃ : List ℕ) → 512 * count ≤ length b₀ → b₁ ≡ replicate (length b₀) 0
       → Extended b₁ 0 (index_list (set_of bytes)) b₂ → Sealed b₂ count b₃ → Bytes b₃ → b₃ ≡ index_blocks (set_of bytes) ++ replicate (length b₀ - 512 * count) 0
   all-written b₀ b₁ b₂ b₃ room e x y small =
       let words : List ℕ = index_list (set_of bytes) in
-      let size : length b₂ ≡ length b₀ = x.same_length ∙ cleared-length b₀ b₁ e in
-      let held : Holds b₂ words = x.holds [] refl (rw e (holds-none (length b₀ - 0))) in
+      let size : length b₂ ≡ length b₀ = x.same_length ∙ ap length e ∙ length-replicate {A = ℕ} (length b₀) 0 in
+      let held : Holds b₂ words = x.holds [] refl (rw e (holds-none (length b₀))) in
       sealed-is b₂ words count b₃ held y (list-words (set_of bytes) (set-keys bytes o.right)) few (omega arith) small
       ∙ ap₂ (λ (a : List ℕ) (m : ℕ). a ++ replicate (m - 512 * count) 0) index_is size
 

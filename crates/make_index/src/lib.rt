@@ -7,75 +7,69 @@ ghost use Rattle.rules.specs.Blocks.{blocks_for};
 ghost use Rattle.rules.specs.Index.{index_entry, index_entries, index_list, index_blocks, make_index};
 ghost use Rattle.lay.specs.Lay.{Extended};
 ghost use Rattle.lay.specs.Made.{made_of};
-ghost use Rattle.index.specs.Index.{Opens};
 
-use lay::Made;
-use opening::Opened;
+use index::OpenSet;
 use refusal::Refusal;
 
 // Keys rise, so that the last of 63 speaks for all of them.
-fn skip_below(set: &[u8], k: usize, n: usize, v: usize, from: usize) -> usize
-    requires { Opens set.now k n × (from ≤ index_entry (set_of set.now) v) }
-    ensures { result ≤ index_entry (set_of set.now) v }
+fn skip_below(set: &OpenSet, v: usize, from: usize) -> usize
+    requires { from ≤ index_entry (set_of set.now.bytes.now) v }
+    ensures { result ≤ index_entry (set_of set.now.bytes.now) v }
 {
     let mut i = from;
-    while i + 63 <= n {
-        if !index::is_below(set, k, v, i + 62) {
-            return i;
-        }
+    while i + 63 <= set.n && set.is_below(v, i + 62) {
         i += 63;
     }
     i
 }
 
 // Entry v, which is no less than `from`.
-fn next_entry(set: &[u8], k: usize, n: usize, v: usize, from: usize) -> usize
-    requires { Opens set.now k n × (from ≤ index_entry (set_of set.now) v) }
-    ensures { result ≡ index_entry (set_of set.now) v }
+fn next_entry(set: &OpenSet, v: usize, from: usize) -> usize
+    requires { from ≤ index_entry (set_of set.now.bytes.now) v }
+    ensures { result ≡ index_entry (set_of set.now.bytes.now) v }
 {
-    let mut i = skip_below(set, k, n, v, from);
-    while i < n {
-        if !index::is_below(set, k, v, i) {
-            return i;
-        }
+    let mut i = skip_below(set, v, from);
+    while i < set.n && set.is_below(v, i) {
         i += 1;
     }
     i
 }
 
 // One walk over the keys, since entries rise.
-fn write_entries(set: &[u8], k: usize, n: usize, blocks: &mut [u8])
-    requires { Opens set.now k n × (512 * blocks_for (index_entries k) ≤ length blocks.old) }
-    ensures { Extended blocks.old 0 (index_list (set_of set.now)) blocks.new }
+fn write_entries(set: &OpenSet, blocks: &mut [u8])
+    requires { 512 * blocks_for (index_entries set.now.k) ≤ length blocks.old }
+    ensures { Extended blocks.old 0 (index_list (set_of set.now.bytes.now)) blocks.new }
 {
     let mut entry = 0;
-    for v in 0..index::entry_count(k) {
-        entry = next_entry(set, k, n, v, entry);
+    for v in 0..index::entry_count(set.k) {
+        entry = next_entry(set, v, entry);
         lay::put(blocks, v, entry as u64);
     }
 }
 
 // The blocks, and zeros behind them.
-fn write(set: &[u8], k: usize, n: usize, count: usize, blocks: &mut [u8])
-    requires { Opens set.now k n × (count ≡ blocks_for (index_entries k)) × (512 * count ≤ length blocks.old) }
-    ensures { blocks.new ≡ index_blocks (set_of set.now) ++ replicate (length blocks.old - 512 * count) 0 }
+fn write(set: &OpenSet, count: usize, blocks: &mut [u8])
+    requires { (count ≡ blocks_for (index_entries set.now.k)) × (512 * count ≤ length blocks.old) }
+    ensures { blocks.new ≡ index_blocks (set_of set.now.bytes.now) ++ replicate (length blocks.old - 512 * count) 0 }
 {
-    input::clear(blocks, 0);
-    write_entries(set, k, n, blocks);
+    blocks.fill(0);
+    write_entries(set, blocks);
     lay::seal(blocks, count);
 }
 
-pub fn make_index(set: &[u8], blocks: &mut [u8]) -> Made
+pub fn make_index(set: &[u8], blocks: &mut [u8]) -> Result<usize, Refusal>
     ensures { made_of result blocks.new ≡ make_index set.now blocks.old }
 {
-    let opened = opening::open(set);
-    let Opened::Set(k, n) = opened else {
-        return Made::Refused(opening::refused(opened));
+    let opened = opening::open(set)?;
+    let open = OpenSet {
+        bytes: set,
+        k: opened.k,
+        n: opened.n,
     };
-    let count = index::block_count(k);
+    let count = index::block_count(open.k);
     if blocks.len() < 512 * count {
-        return Made::Refused(Refusal::TooShort);
+        return Err(Refusal::TooShort);
     }
-    write(set, k, n, count, blocks);
-    Made::Blocks(512 * count)
+    write(&open, count, blocks);
+    Ok(512 * count)
 }

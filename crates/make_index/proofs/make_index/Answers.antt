@@ -1,41 +1,31 @@
 use native.Mathlib.Omega.{arith}
-use mathlib.Core.Path.{◌≡◌}
-use Rattle.rules.specs.Refusal.{accepted}
-use Rattle.rules.specs.Set.{set_of, opened}
-use Rattle.opening.proofs.Opening.{is-refused, set-opened, set-checked, set-refused}
+use Rattle.std.proofs.lemmas.Result.{err_from_is_err_and}
+use Rattle.opening.proofs.Opening.{set-checked}
 use Rattle.index.specs.Index.{Opens}
 use Rattle.index.proofs.Laws.{count-few}
 use Rattle.make_index.proofs.Makes.{index-refused, index_short, index-fits}
-use Rattle.make_index.proofs.make_index.Goals.{In-Set}
+use Rattle.make_index.proofs.make_index.Goals.{In_ok-opened}
 use Rattle.make_index.proofs.make_index.Goals as goal
 
-pub refused-requires : goal.refused-requires
-refused-requires c = is-refused c.in_default.is
-
-pub returns-in_default : goal.returns-in_default
-returns-in_default c =
-    index-refused _ _ _ (set-refused _ _ _ c.refused.ensures c.open-opened.ensures)
+pub returns-in_err-opened : goal.returns-in_err-opened
+returns-in_err-opened c =
+    let p = err_from_is_err_and c.from_residual.result c.from_residual.ensures.1 in
+    rw (p.1, p.2) (index-refused _ _ _ c.in_err-opened.ensures)
 
 -- The set opened, with this k and this n.
-opening : (c : In-Set) → let bytes = c.args.set.now in
-    (opened bytes ≡ accepted (set_of bytes)) × Opens bytes c.in-Set.k c.in-Set.n
-opening c =
-    let t = set-checked _ _ _ _ c.in-Set.is c.open-opened.ensures in
-    (set-opened _ _ _ _ c.in-Set.is c.open-opened.ensures, record { right = t.0; k_is = t.1; n_is = t.2 })
+opens : (c : In_ok-opened) → Opens c.args.set.now c.in_ok-opened.opened.k c.in_ok-opened.opened.n
+opens c = let t = set-checked _ _ c.in_ok-opened.ensures in record { right = t.0; k_is = t.1; n_is = t.2 }
 
 pub overflow_mul-count : goal.overflow_mul-count
-overflow_mul-count c = omega (arith, c.block_count-count.ensures, count-few c.in-Set.k)
+overflow_mul-count c = omega (arith, c.block_count-count.ensures, count-few c.in_ok-opened.opened.k)
 
 pub returns-then-blocks-count : goal.returns-then-blocks-count
 returns-then-blocks-count c =
-    let o = opening (goal.at.returns-then-blocks-count c).In-Set in
-    index_short _ _ _ _ o.0 o.1 _ c.block_count-count.ensures c.if-blocks-count.true
+    index_short _ _ _ _ c.in_ok-opened.ensures.0 (opens (goal.at.returns-then-blocks-count c).In_ok-opened) _ c.block_count-count.ensures c.if-blocks-count.true
 
-pub write-requires : goal.write-requires
-write-requires c =
-    ((opening (goal.at.write-requires c).In-Set).1, c.block_count-count.ensures, c.if-blocks-count.false)
+pub invariant_of-open : goal.invariant_of-open
+invariant_of-open c = record { opens = opens (goal.at.invariant_of-open c).In_ok-opened }
 
 pub returns : goal.returns
 returns c =
-    let o = opening (goal.at.returns c).In-Set in
-    index-fits _ c.args.blocks.now _ _ o.0 o.1 _ c.block_count-count.ensures _ c.if-blocks-count.false c.write.ensures
+    index-fits _ c.args.blocks.now _ _ c.in_ok-opened.ensures.0 (opens (goal.at.returns c).In_ok-opened) _ c.block_count-count.ensures _ c.if-blocks-count.false c.write.ensures
