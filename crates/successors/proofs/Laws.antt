@@ -282,18 +282,14 @@ module _ (set : KmerSet) (k : ℕ) (y z : Kmer) (a : ℕ) (e : (sole k (solid se
       there (some i) f =
           f ∙ ap {B = Option ℕ} some (sym (at a l ∙ ap (λ (v : Kmer). place_in (length set.keys) (lookup set v.code)) (sym z-is) ∙ ap (place_in (length set.keys)) f))
 
--- the code's choice r among the answers f of the alternatives, d being the bad k-mer without its last letter
-module _ (set : KmerSet) (k : ℕ) (y : Kmer) {f : List Bool} (r : Maybe ℕ) (found : f ≡ successors k (solid set) (drop_last y)) (choice-is : nuc_of r ≡ only (yes_from 0 f)) where
-  pub alt-kmer : (a : ℕ) (d : KmerOf) {x : KmerOf} {ps : List ℕ} → r ≡ Some a → kmer_of d ≡ drop_last y → HasLetters k (add k (kmer_of d) a) x
-      → ps ≡ places_of set k (drop_last y)
-      → ((alternative k (solid set) y).answer ≡ some (kmer_of x)) × IsKmer k x × (lookup set x.code ≡ some (get_or ps a 0))
+-- the code's choice r among the answers f, and its key's index
+module _ (set : KmerSet) (k : ℕ) (y : Kmer) {f : List Bool} (r : Maybe ℕ) (found : f ≡ successors k (solid set) y) (choice-is : nuc_of r ≡ only (yes_from 0 f)) where
+  pub alt-kmer : (a : ℕ) {x : KmerOf} {ps : List ℕ} → r ≡ Some a → HasLetters k (add k y a) x → ps ≡ places_of set k y
+      → ((sole k (solid set) y).answer ≡ some (kmer_of x)) × IsKmer k x × (lookup set x.code ≡ some (get_or ps a 0))
   unfolding kmer_of
-  alt-kmer a d {x} {ps} e d-is h ps-is =
-      let z-is : kmer_of x ≡ add k (drop_last y) a = h.is ∙ ap (λ (v : Kmer). add k v a) d-is in
-      let s : (sole k (solid set) (drop_last y)).answer ≡ some (kmer_of x) =
-      next-is k (solid set) (drop_last y) r found choice-is a e ∙ ap {B = Option Kmer} some (sym z-is) in (
-        ap (λ (t : Try Kmer). t.answer) (alternative-is k (solid set) y) ∙ s,
+  alt-kmer a {x} {ps} e h ps-is =
+      let s : (sole k (solid set) y).answer ≡ some (kmer_of x) = next-is k (solid set) y r found choice-is a e ∙ ap {B = Option Kmer} some (sym h.is) in (
+        s,
         h.kmer,
-        sole-place set k (drop_last y) (kmer_of x) a s z-is (nuc-lt k (solid set) (drop_last y) r found choice-is a e)
-            ∙ ap (λ (l : List ℕ). some (get_or l a 0)) (sym ps-is),
+        sole-place set k y (kmer_of x) a s h.is (nuc-lt k (solid set) y r found choice-is a e) ∙ ap (λ (l : List ℕ). some (get_or l a 0)) (sym ps-is),
       )

@@ -2,7 +2,7 @@
 #![tactic(auto)]
 
 ghost use Rattle.std.specs.Prelude.{◌≡◌, Bool, ℕ};
-ghost use Rattle.rules.specs.Letters.{add, drop_last};
+ghost use Rattle.rules.specs.Letters.{add};
 ghost use Rattle.rules.specs.Set.{solid, set_of};
 ghost use Rattle.rules.specs.Scan as rules;
 ghost use Rattle.kmer.specs.Kmer.{Shifts, kmer_of, IsKmer};
@@ -11,7 +11,7 @@ ghost use Rattle.successors.specs.Successors.{nuc_of, NextIs, AltIs, places_of};
 use kmer::{Header, Kmer};
 use set::KmerSet;
 
-// The sole solid alternative, and its key's index.
+// The sole solid successor or alternative, and its key's index.
 #[derive(Clone, Copy)]
 pub struct Alt {
     pub kmer: Kmer,
@@ -43,15 +43,6 @@ pub fn next_cost(kmer: Kmer, head: Header) -> u64
     if first.unknown == 0 { 4 } else { 0 }
 }
 
-fn alt_nucs(set: &KmerSet, kmer: Kmer, places: &mut [usize; 4]) -> [bool; 4]
-    requires { IsKmer set.now.head.k kmer × ((add set.now.head.k (drop_last (kmer_of kmer)) 0).unknown ≡ 0) }
-    ensures { (result ≡ rules.successors set.now.head.k (solid (set_of set.now.bytes.now)) (drop_last (kmer_of kmer)))
-        × (places.new ≡ places_of (set_of set.now.bytes.now) set.now.head.k (drop_last (kmer_of kmer))) }
-{
-    let shifted = kmer::drop_last(kmer, set.head);
-    next_nucs(set, shifted, places)
-}
-
 // The letter of the only yes among the four answers: each yes adds 1 to the count and its own code to the sum.
 pub fn sole_nuc(nucs: [bool; 4]) -> Option<u64>
     ensures { nuc_of result ≡ rules.only (rules.yes_from 0 nucs) }
@@ -67,18 +58,29 @@ pub fn sole_nuc(nucs: [bool; 4]) -> Option<u64>
     }
 }
 
-// y+u(y).
-pub fn sole_next(set: &KmerSet, kmer: Kmer) -> Option<Kmer>
+// No lookup is made for k-mers that hold an unknown letter.
+fn sole(set: &KmerSet, kmer: Kmer) -> Option<Alt>
     requires { IsKmer set.now.head.k kmer }
-    ensures { NextIs set.now.head.k (rules.sole set.now.head.k (solid (set_of set.now.bytes.now)) (kmer_of kmer)).answer result }
+    ensures { AltIs set.now.head.k (set_of set.now.bytes.now) (rules.sole set.now.head.k (solid (set_of set.now.bytes.now)) (kmer_of kmer)).answer result }
 {
-    // No lookup is made for k-mers that hold an unknown letter.
     if next_cost(kmer, set.head) == 0 {
         return None;
     }
     let mut places = [0usize; 4];
     let nuc = sole_nuc(next_nucs(set, kmer, &mut places))?;
-    Some(kmer::add_nuc_to_end(kmer, nuc, set.head))
+    Some(Alt {
+        kmer: kmer::add_nuc_to_end(kmer, nuc, set.head),
+        place: places[nuc as usize],
+    })
+}
+
+// y+u(y).
+pub fn sole_next(set: &KmerSet, kmer: Kmer) -> Option<Kmer>
+    requires { IsKmer set.now.head.k kmer }
+    ensures { NextIs set.now.head.k (rules.sole set.now.head.k (solid (set_of set.now.bytes.now)) (kmer_of kmer)).answer result }
+{
+    let next = sole(set, kmer)?;
+    Some(next.kmer)
 }
 
 // What the alternatives of the bad k-mer cost.
@@ -95,14 +97,6 @@ pub fn sole_alt(set: &KmerSet, kmer: Kmer) -> Option<Alt>
     requires { IsKmer set.now.head.k kmer }
     ensures { AltIs set.now.head.k (set_of set.now.bytes.now) (rules.alternative set.now.head.k (solid (set_of set.now.bytes.now)) (kmer_of kmer)).answer result }
 {
-    if alt_cost(kmer, set.head) == 0 {
-        return None;
-    }
-    let mut places = [0usize; 4];
-    let nuc = sole_nuc(alt_nucs(set, kmer, &mut places))?;
     let shifted = kmer::drop_last(kmer, set.head);
-    Some(Alt {
-        kmer: kmer::add_nuc_to_end(shifted, nuc, set.head),
-        place: places[nuc as usize],
-    })
+    sole(set, shifted)
 }

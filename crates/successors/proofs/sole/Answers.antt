@@ -3,8 +3,8 @@ use mathlib.Core.Path.{sym, ◌∙◌}
 use borrow.Author.Rules.{rules}
 use Rattle.rules.specs.Set.{solid, set_of}
 use Rattle.kmer.specs.Kmer.{kmer_of}
-use Rattle.successors.proofs.Laws.{four-asked, sole_none, no-next, next-kmer, nuc-lt}
-use Rattle.successors.proofs.sole_next.Goals as goal
+use Rattle.successors.proofs.Laws.{four-asked, sole_none, no-next, nuc-lt, alt-kmer}
+use Rattle.successors.proofs.sole.Goals as goal
 
 pub returns-then-next_cost-eq0 : goal.returns-then-next_cost-eq0
 returns-then-next_cost-eq0 c =
@@ -21,6 +21,16 @@ pub returns-in_err-nuc : goal.returns-in_err-nuc
 returns-in_err-nuc c =
     rw c.from_residual.ensures (no-next _ _ _ c.sole_nuc.result c.next_nucs.ensures.0 c.sole_nuc.ensures c.in_err-nuc.was)
 
+pub offset_bounds-places-nuc : goal.offset_bounds-places-nuc
+offset_bounds-places-nuc c =
+    let small = nuc-lt _ _ _ c.sole_nuc.result c.next_nucs.ensures.0 c.sole_nuc.ensures _ c.in_ok-nuc.was in
+    omega (arith, small)
+
+pub bounds-places-nuc : goal.bounds-places-nuc
+bounds-places-nuc c =
+    let small = nuc-lt _ _ _ c.sole_nuc.result c.next_nucs.ensures.0 c.sole_nuc.ensures _ c.in_ok-nuc.was in
+    omega (arith, small)
+
 pub add_nuc_to_end-requires : goal.add_nuc_to_end-requires
 add_nuc_to_end-requires c =
     let small = nuc-lt _ _ _ c.sole_nuc.result c.next_nucs.ensures.0 c.sole_nuc.ensures _ c.in_ok-nuc.was in
@@ -28,4 +38,4 @@ add_nuc_to_end-requires c =
 
 pub returns : goal.returns
 returns c =
-    next-kmer _ _ _ c.sole_nuc.result c.next_nucs.ensures.0 c.sole_nuc.ensures _ c.in_ok-nuc.was c.add_nuc_to_end.ensures
+    alt-kmer _ _ _ c.sole_nuc.result c.next_nucs.ensures.0 c.sole_nuc.ensures _ c.in_ok-nuc.was c.add_nuc_to_end.ensures c.next_nucs.ensures.1
