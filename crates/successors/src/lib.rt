@@ -44,6 +44,7 @@ pub fn next_cost(kmer: Kmer, head: Header) -> u64
 }
 
 // The letter of the only yes among the four answers: each yes adds 1 to the count and its own code to the sum.
+#[tactic(auto, using(crate::proofs::Laws::bit_le))]
 pub fn sole_nuc(nucs: [bool; 4]) -> Option<u64>
     ensures { nuc_of result ≡ rules.only (rules.yes_from 0 nucs) }
 {

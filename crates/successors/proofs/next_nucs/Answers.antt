@@ -1,6 +1,6 @@
 use Prim.Native.Nat.{ℕ, ◌≤◌, ◌<◌}
 use native.Mathlib.Omega.{arith}
-use mathlib.Core.Path.{◌≡◌, refl, sym, ◌∙◌}
+use mathlib.Core.Path.{◌≡◌, sym, ◌∙◌}
 use borrow.Author.Rules.{rules}
 use lib.ListN.{length, get_or, length-set}
 use Rattle.rules.specs.Set.{set_of}
@@ -11,9 +11,6 @@ use Rattle.set.proofs.Opened.{set-count}
 use Rattle.successors.specs.Successors.{place_at}
 use Rattle.successors.proofs.Laws.{four-known, place-solid-at, place_at_lem, placed, four-listed}
 use Rattle.successors.proofs.next_nucs.Goals as goal
-
-pub loop-nuc-init : goal.loop-nuc-init
-loop-nuc-init c = (search rules, refl, λ a l. absurd (omega arith))
 
 pub place_of-requires : goal.place_of-requires
 place_of-requires c =

@@ -1,10 +1,15 @@
+use Prim.Native.Nat.{◌<◌}
 use native.Mathlib.Omega.{arith}
 use mathlib.Core.Path.{sym, ◌∙◌}
 use borrow.Author.Rules.{rules}
 use Rattle.rules.specs.Set.{solid, set_of}
 use Rattle.kmer.specs.Kmer.{kmer_of}
 use Rattle.successors.proofs.Laws.{four-asked, sole_none, no-next, nuc-lt, alt-kmer}
+use Rattle.successors.proofs.sole.Goals.{In_ok-nuc}
 use Rattle.successors.proofs.sole.Goals as goal
+
+small : (c : In_ok-nuc) → c.in_ok-nuc.nuc < 4
+small c = nuc-lt _ _ _ c.sole_nuc.result c.next_nucs.ensures.0 c.sole_nuc.ensures _ c.in_ok-nuc.was
 
 pub returns-then-next_cost-eq0 : goal.returns-then-next_cost-eq0
 returns-then-next_cost-eq0 c =
@@ -22,19 +27,13 @@ returns-in_err-nuc c =
     rw c.from_residual.ensures (no-next _ _ _ c.sole_nuc.result c.next_nucs.ensures.0 c.sole_nuc.ensures c.in_err-nuc.was)
 
 pub offset_bounds-places-nuc : goal.offset_bounds-places-nuc
-offset_bounds-places-nuc c =
-    let small = nuc-lt _ _ _ c.sole_nuc.result c.next_nucs.ensures.0 c.sole_nuc.ensures _ c.in_ok-nuc.was in
-    omega (arith, small)
+offset_bounds-places-nuc c = omega (arith, small (goal.at.offset_bounds-places-nuc c).In_ok-nuc)
 
 pub bounds-places-nuc : goal.bounds-places-nuc
-bounds-places-nuc c =
-    let small = nuc-lt _ _ _ c.sole_nuc.result c.next_nucs.ensures.0 c.sole_nuc.ensures _ c.in_ok-nuc.was in
-    omega (arith, small)
+bounds-places-nuc c = omega (arith, small (goal.at.bounds-places-nuc c).In_ok-nuc)
 
 pub add_nuc_to_end-requires : goal.add_nuc_to_end-requires
-add_nuc_to_end-requires c =
-    let small = nuc-lt _ _ _ c.sole_nuc.result c.next_nucs.ensures.0 c.sole_nuc.ensures _ c.in_ok-nuc.was in
-    (search rules, omega (arith, small))
+add_nuc_to_end-requires c = (search rules, omega (arith, small (goal.at.add_nuc_to_end-requires c).In_ok-nuc))
 
 pub returns : goal.returns
 returns c =
