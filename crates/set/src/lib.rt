@@ -5,13 +5,12 @@
 mod lookup;
 mod ready;
 
-ghost use Rattle.std.specs.Prelude.{◌≡◌, ℕ, ◌+◌, ◌-◌, ◌*◌, ◌/◌, ◌^◌, ◌≤◌, ◌<◌, max, length, get_or};
-ghost use Rattle.std.proofs.Math.Option.{none};
-ghost use Rattle.rules.specs.Set.{max_k, max_keys, header_k, header_n, key_word, set_check, set_of, first_letters, entry_in, lookup, solid};
+ghost use Rattle.std.specs.Prelude.{◌≡◌, ◌+◌, ◌^◌, ◌≤◌, ◌<◌, length, get_or};
+ghost use Rattle.rules.specs.Set.{max_keys, header_k, header_n, set_of, lookup, solid};
 ghost use Rattle.rules.specs.Letters.{canonical};
 ghost use Rattle.rules.specs.Scan as rules;
-ghost use Rattle.kmer.specs.Kmer.{Shifts, kmer_of, IsKmer};
-ghost use Rattle.set.specs.Ready.{prefix, InPrefix, LineOf, Table, Ready};
+ghost use Rattle.kmer.specs.Kmer.{kmer_of, IsKmer};
+ghost use Rattle.set.specs.Ready.{prefix, InPrefix, LineOf, Table};
 ghost use Rattle.set.specs.Found.{index_of, place_in};
 ghost use Rattle.set.specs.PartOf.{PartOf};
 ghost use Rattle.set.specs.Asked.{AskedIs};

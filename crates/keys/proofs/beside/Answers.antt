@@ -2,7 +2,6 @@ use Prim.Native.Nat.{ℕ, ◌≤◌, ◌<◌}
 use native.Mathlib.Omega.{arith}
 use native.Mathlib.Nat.{add-zero}
 use lib.Dec.{ltb}
-use borrow.Author.Rules.{rules}
 use Rattle.few_keys.specs.Part.{BracketIn}
 use Rattle.few_keys.proofs.Bracket.{answers-all}
 use Rattle.number.proofs.Picked.{picked}
