@@ -4,6 +4,7 @@ use mathlib.Core.List.{[], ◌∷◌, map-append}
 use lib.ListN.{length, length-append, length-map}
 use Rattle.std.proofs.lemmas.List.Elements.{All-push}
 use Rattle.scenario.specs.Scenario.{spelled_out}
+use Rattle.rules.specs.Exist.{tried}
 use Rattle.rules.specs.Set.{set_of, solid}
 use Rattle.kmer.specs.Kmer.{kmer_of}
 use Rattle.trials.specs.Trials.{Placed}
@@ -17,26 +18,29 @@ loop-scenario-preserved g c =
     let a = c.args in
     let i = c.loop-scenario.invariant in
     let sol = solid (set_of a.set.now.bytes.now) in
+    let k = a.set.now.head.k in
+    let scs = g.S.Scenario.scenarios k sol (kmer_of a.x) a.s.now in
+    let sc = g.S.Scenario.scenario c.scenario-item.result k sol (kmer_of a.x) a.s.now in
     let p = c.tried-pick.ensures in
-    let next = next-is (λ sc. g.S.Scenario.scenario sc a.set.now.head.k sol (kmer_of a.x) a.s.now) c.all-scenario-items.result.now
-    (c.all-scenario-items.ensures.whole a.set.now.head.k sol (kmer_of a.x) a.s.now) c.loop-scenario.scenario-index c.scenario-item.result c.scenario-item.is c.loop-scenario-test.true in
+    let next = next-is (λ sc. g.S.Scenario.scenario sc k sol (kmer_of a.x) a.s.now) c.all-scenario-items.result.now {scs = scs}
+    (c.all-scenario-items.ensures.whole k sol (kmer_of a.x) a.s.now) c.loop-scenario.scenario-index c.scenario-item.result c.scenario-item.is c.loop-scenario-test.true in
     elim c.match-pick.branch [
       | in-Some w ↦
           let m = w.in-Some.mend in
-          let q = picked p m w.in-Some.is in
+          let q = picked {t = tried k sol a.c a.s.now sc} p m w.in-Some.is in
           let n = length-append c.loop-scenario.kept (m ∷ []) in
           rw (w.kept-is, w.push.ensures) (
             omega (arith, n),
             omega (arith, p.few),
             All-push (Placed (set_of a.set.now.bytes.now)) c.loop-scenario.kept m i.2 q.1,
-            rw (map-append spelled_out c.loop-scenario.kept (m ∷ [])) (done-kept _ _ _ _ _ i.3 next q.0),
+            rw (map-append spelled_out c.loop-scenario.kept (m ∷ [])) (done-kept k sol a.c a.s.now scs i.3 next q.0),
           )
       | in_default w ↦
           rw w.kept-is (
             omega arith,
             omega (arith, p.few),
             i.2,
-            done-refused _ _ _ _ _ i.3 next (none-picked p w.in_default.is),
+            done-refused k sol a.c a.s.now scs i.3 next (none-picked {t = tried k sol a.c a.s.now sc} p w.in_default.is),
           )
     ]
 
@@ -46,12 +50,14 @@ returns g c =
     let i = c.loop-scenario.invariant in
     let all = c.all-scenario-items in
     let sol = solid (set_of a.set.now.bytes.now) in
-    let end : length (g.S.Scenario.scenarios a.set.now.head.k sol (kmer_of a.x) a.s.now) ≤ c.loop-scenario.scenario-index =
-    rw (← all.ensures.whole a.set.now.head.k sol (kmer_of a.x) a.s.now, length-map) c.loop-scenario-test.false in
+    let k = a.set.now.head.k in
+    let scs = g.S.Scenario.scenarios k sol (kmer_of a.x) a.s.now in
+    let end : length scs ≤ c.loop-scenario.scenario-index =
+    rw (← all.ensures.whole k sol (kmer_of a.x) a.s.now, length-map) c.loop-scenario-test.false in
     record {
-      answer = done-answer _ _ _ _ _ i.3 end;
+      answer = done-answer k sol a.c a.s.now scs i.3 end;
       many = omega (arith, all.ensures.few);
-      lookups = done-lookups _ _ _ _ _ i.3 end;
+      lookups = done-lookups k sol a.c a.s.now scs i.3 end;
       few = omega (arith, all.ensures.few);
       placed = i.2;
     }
