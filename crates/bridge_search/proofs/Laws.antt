@@ -4,9 +4,7 @@ use native.Mathlib.Omega.{arith}
 use native.Mathlib.Numerals.{add-one}
 use borrow.Author.Tests.{lt-ltb, le-ltb, eq-eqb, ne_eqb}
 use mathlib.Core.Path.{◌≡◌, refl, sym, ap, ap₂, ◌∙◌, subst}
-use mathlib.Core.Logic.{inl, inr}
 use mathlib.Core.Bool.{Bool, true, false}
-use types.Run.{OneOf}
 use mathlib.Core.List.{List, [], ◌∷◌, ◌++◌, append_assoc}
 use lib.Dec.{lit<}
 use lib.ListN.{length, get_or, set, replicate, length-replicate, replicate-append-replicate}
@@ -27,19 +25,19 @@ use Rattle.bridge_search.specs.Search.{laid, ChainIs, EndIs, SearchIs}
 -- ---- letters laid into the array
 
 -- one letter before those of a chain
-pub laid-before : (made : ℕ) (bs : List ℕ) (x : ℕ) → made + suc (length bs) ≤ 16 → set (laid (made + 1) bs) made x ≡ laid made (x ∷ bs)
+laid-before : (made : ℕ) (bs : List ℕ) (x : ℕ) → made + suc (length bs) ≤ 16 → set (laid (made + 1) bs) made x ≡ laid made (x ∷ bs)
 laid-before made bs x h =
     let e : replicate {A = ℕ} (made + 1) 0 ≡ replicate made 0 ++ (0 ∷ []) = sym (replicate-append-replicate made 1 0) in
     let m : made + 1 + length bs ≡ made + suc (length bs) = omega arith in
     rw (e, m, append_assoc)
     (set_at (replicate made 0) 0 (bs ++ replicate (16 - (made + suc (length bs))) 0) x made (length-replicate made 0))
 
-pub laid_none : (made : ℕ) → made ≤ 16 → replicate 16 0 ≡ laid made []
+laid_none : (made : ℕ) → made ≤ 16 → replicate 16 0 ≡ laid made []
 laid_none made h =
     let e : made + (16 - (made + 0)) ≡ 16 = omega arith in
     sym (replicate-append-replicate made (16 - (made + 0)) 0 ∙ ap (λ (n : ℕ). replicate n 0) e)
 
-pub laid_one : (made x : ℕ) → made < 16 → set (replicate 16 0) made x ≡ laid made (x ∷ [])
+laid_one : (made x : ℕ) → made < 16 → set (replicate 16 0) made x ≡ laid made (x ∷ [])
 laid_one made x h = ap (λ (l : List ℕ). set l made x) (laid_none (made + 1) (omega arith)) ∙ laid-before made [] x (omega arith)
 
 -- a chain of one letter, the last
@@ -54,11 +52,6 @@ not-tried made left (found bs) r h n e = let z : ◌≡◌ {A = ℕ} 0 1 = cc in
 not-tried made left tried r h n e = n h
 not-tried made left stopped r h n e = let z : ◌≡◌ {A = ℕ} 0 1 = cc in omega arith
 
--- the tags of the other ends: that of Tried is 1
-pub other_tag : OneOf (0 ∷ 2 ∷ []) 1 → ⊥
-other_tag (inl e) = omega arith
-other_tag (inr e) = omega arith
-
 ended_by : {s : Counted End} {e : End} {l : ℕ} → s.answer ≡ e → s.lookups ≡ l → s ≡ ends e l
 ended_by p q = ap₂ (λ (x : End) (n : ℕ). ends x n) p q
 
@@ -68,7 +61,7 @@ was-tried made left tried r h n = refl
 was-tried made left stopped r h n = absurd (let z : ◌≡◌ {A = ℕ} 0 1 = cc in omega arith)
 
 -- a letter before a chain that was found
-pub before-is : (a made left : ℕ) (e : End) (r q : Search) → made + left ≤ 16 → 1 ≤ left → EndIs (made + 1) (left - 1) e r → q.end ≡ r.end
+before-is : (a made left : ℕ) (e : End) (r q : Search) → made + left ≤ 16 → 1 ≤ left → EndIs (made + 1) (left - 1) e r → q.end ≡ r.end
     → q.letters ≡ set r.letters made (letter a) → EndIs made left (before a e) q
 unfolding before
 before-is a made left (found bs) r q b p h f g =
