@@ -17,8 +17,8 @@ use Rattle.rules_fasta.proofs.Calls.{fasta-checked, fasta-not-opened, fasta-offe
 use Rattle.refusal.specs.declared.Refusal.{Refusal}
 use Rattle.refusal.specs.Refusal.{refusal_of}
 use Rattle.offered.specs.Offered.{RefusedBy}
-use Rattle.report.specs.declared.Answer.{Answer}
-use Rattle.report.specs.declared.Answer.TheVariants.{Report as Reported, Refused}
+use Rattle.std.specs.Prelude.{Result, Ok, Err}
+use Rattle.report.specs.declared.Report.{Report}
 use Rattle.report.specs.Answer.{report_of, Exact, Ceiling}
 use Rattle.report.proofs.Exact.{refused-exact}
 use Rattle.records.specs.Records.{file_check}
@@ -36,11 +36,11 @@ module _ (g : Given) where
   offer-check = offer_check (set_of g.set) g.index g.counts
 
   module _ (r : Refusal) where
-    pub fasta-refused : checks ≡ some (refusal_of r) → Exact (correct_fasta g) (Refused r) g.output g.work
+    pub fasta-refused : checks ≡ some (refusal_of r) → Exact (correct_fasta g) (Err r) g.output g.work
     unfolding fasta_check given_check ◌or_else◌
     fasta-refused e = refused-exact g (correct_fasta g) r (fasta-checked g (refusal_of r) (rw e))
 
-    pub file-refused : checks ≡ none → file_check g.input ≡ some (refusal_of r) → Exact (correct_fasta g) (Refused r) g.output g.work
+    pub file-refused : checks ≡ none → file_check g.input ≡ some (refusal_of r) → Exact (correct_fasta g) (Err r) g.output g.work
     unfolding fasta_check given_check ◌or_else◌
     file-refused e f = refused-exact g (correct_fasta g) r (fasta-checked g (refusal_of r) (rw e f))
 
@@ -49,20 +49,20 @@ module _ (g : Given) where
     unfolding fasta_check given_check ◌or_else◌
     passed-all = rw e f
 
-    pub fasta-not-offered : (r : Refusal) → RefusedBy g.set g.index g.counts r → Exact (correct_fasta g) (Refused r) g.output g.work
+    pub fasta-not-offered : (r : Refusal) → RefusedBy g.set g.index g.counts r → Exact (correct_fasta g) (Err r) g.output g.work
     fasta-not-offered r o =
         refused-exact g (correct_fasta g) r
         (⊎_elim (λ n. fasta-not-opened g (refusal_of r) passed-all n) (λ n. fasta-offer-wrong g (set_of g.set) passed-all n.0 (refusal_of r) n.1) o)
 
     pub fasta-corrected : opened g.set ≡ accepted (set_of g.set) → offer-check ≡ none
-        → (r : Answer) {o w : List ℕ} → Exact (corrected_records (offering [] g.counts (set_of g.set)) (entries_of g.job) (without_index g) (records g.input)) r o w
+        → (r : Result Report Refusal) {o w : List ℕ} → Exact (corrected_records (offering [] g.counts (set_of g.set)) (entries_of g.job) (without_index g) (records g.input)) r o w
         → Exact (correct_fasta g) r o w
     fasta-corrected opens d r {o} {w} h =
         subst (λ (a : After). Exact a r o w) (sym (fasta-opened g (set_of g.set) passed-all opens d)) h
 
   -- Demand 3, of an exact answer.
-  pub fasta-ceiling : (r : Answer) {o w : List ℕ} → Exact (correct_fasta g) r o w
+  pub fasta-ceiling : (r : Result Report Refusal) {o w : List ℕ} → Exact (correct_fasta g) r o w
       → Ceiling (offering g.index g.counts (set_of g.set)) (entries_of g.job) (reads_of (records g.input)) r
   unfolding given_set
-  fasta-ceiling (Refused r) h = tt
-  fasta-ceiling (Reported r) h = fasta-demand3 g (report_of r) (sym h.answer)
+  fasta-ceiling (Err r) h = tt
+  fasta-ceiling (Ok r) h = fasta-demand3 g (report_of r) (sym h.answer)

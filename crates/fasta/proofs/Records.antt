@@ -27,19 +27,19 @@ use Rattle.rules_fasta.proofs.Text.{no-room-text, no-room-pass, room-later}
 use Rattle.rules_fasta.proofs.Calls.{records-full, records-fit}
 use Rattle.set.specs.Counted.{set_with}
 use Rattle.support.specs.Support.{support_of}
-use Rattle.correct.specs.declared.Counts.{Counts}
-use Rattle.correct.specs.declared.Pass.{Pass}
-use Rattle.correct.specs.declared.Pass.TheVariants.{Done, Full}
+use Rattle.turn.specs.declared.Counts.{Counts}
+use Rattle.turn.specs.declared.Full.{Full}
+use Rattle.std.specs.Prelude.{Ok, Err, Result}
+use Rattle.refusal.specs.declared.Refusal.{Refusal}
+use Rattle.report.specs.declared.Report.{Report}
 use Rattle.correct.specs.Pass.{Tally, tally_of, Small}
 use Rattle.refusal.specs.declared.Refusal.TheVariants.{NoRoom}
 use Rattle.input.specs.Input.{LineAt, Within}
 use Rattle.through.specs.Through.{through}
-use Rattle.report.specs.declared.Answer.{Answer}
-use Rattle.report.specs.declared.Answer.TheVariants.{Report as Reported, Refused}
 use Rattle.report.specs.Answer.{report_of, answer_of, Exact}
 use Rattle.report.specs.Ending.{Cleared, report_on}
 use Rattle.report.proofs.Exact.{through_all, report-is}
-use Rattle.lines.specs.Lines.{summed, Countable}
+use Rattle.turn.specs.Turn.{Fits, summed}
 use Rattle.lines.proofs.Batch.{behind, behind-assoc, Weaker, nothing}
 use Rattle.records.specs.declared.Joined.{Joined}
 use Rattle.records.specs.Records.{Ends, JoinedIs}
@@ -120,14 +120,14 @@ module _ (set : KmerSet) (es : List Entry) where
     abbrev r : Record
     r = record { name = name; read = read }
 
-    record-full : RecordIs set es name read done.written o o' Full → no_room_at set es 0 room rs ≡ some n
-    record-full h =
+    record-full : (full : Full) → RecordIs set es name read done.written o o' (Err full) → no_room_at set es 0 room rs ≡ some n
+    record-full full h =
         g.left
         ∙ ⊎_elim (λ l. no-room-pass set es n (room - done.written) r rest (omega (arith, l, g.length_is)))
         (λ l. no-room-text set es n (room - done.written) r rest (omega (arith, l, g.length_is))) h
 
     -- A record more.
-    record-bytes : (m : Counts) (s : ℕ) → Weaker done m s → RecordIs set es name read done.written o o' (Done m)
+    record-bytes : (m : Counts) (s : ℕ) → Weaker done m s → RecordIs set es name read done.written o o' (Ok m)
         → tally_of (summed done m s) o' ≡ behind (tally_of done o) (record_through set es r)
     record-bytes m s v h =
         let e = h.is in
@@ -141,7 +141,7 @@ module _ (set : KmerSet) (es : List Entry) where
           bases = done.bases + (e i).bases;
         }
 
-    record-done : (m : Counts) (s : ℕ) → Weaker done m s → length es ≤ max_methods → RecordIs set es name read done.written o o' (Done m)
+    record-done : (m : Counts) (s : ℕ) → Weaker done m s → length es ≤ max_methods → RecordIs set es name read done.written o o' (Ok m)
         → length o' ≡ length o → Going room rs rest (n + 1) (summed done m s) o'
     record-done m s v few h same =
         let left_is : room - done.written - length (text set es r) ≡ room - (done.written + m.written) = omega (arith, h.long) in
@@ -180,8 +180,8 @@ module _ (set : KmerSet) (es : List Entry) where
 
 module _ (set : KmerSet) (es : List Entry) (g : Given) (rs : List Record) where
   -- Refusal 11.
-  full-exact : (n : ℕ) {r : Answer} {o w : List ℕ} → no_room_at set es 0 (length g.output) rs ≡ some n
-      → (out : List ℕ) → length out ≡ length g.output → r ≡ Refused (NoRoom n) → Cleared 0 out (length g.work) o w → Exact (corrected_records set es g rs) r o w
+  full-exact : (n : ℕ) {r : Result Report Refusal} {o w : List ℕ} → no_room_at set es 0 (length g.output) rs ≡ some n
+      → (out : List ℕ) → length out ≡ length g.output → r ≡ Err (NoRoom n) → Cleared 0 out (length g.work) o w → Exact (corrected_records set es g rs) r o w
   unfolding no_room
   full-exact n e out same a h =
       let is = records-full set es g rs n e in
@@ -214,9 +214,9 @@ module _ (set : KmerSet) (es : List Entry) (g : Given) (rs : List Record) where
       ap₂ with_written n told
 
   -- Accepted: out holds the texts when the rest is cleared.
-  fits-exact : (done : Counts) (offered : Bool) (out : List ℕ) {r : Answer} {o w : List ℕ} → offered ≡ ltb 0 (length set.counts) → no_room_at set es 0 (length g.output) rs ≡ none
+  fits-exact : (done : Counts) (offered : Bool) (out : List ℕ) {r : Result Report Refusal} {o w : List ℕ} → offered ≡ ltb 0 (length set.counts) → no_room_at set es 0 (length g.output) rs ≡ none
       → tally_of done out ≡ all set es rs → done.written ≤ length out
-      → length out ≡ length g.output → r ≡ Reported (report_on offered done) → Cleared done.written out (length g.work) o w → Exact (corrected_records set es g rs) r o w
+      → length out ≡ length g.output → r ≡ Ok (report_on offered done) → Cleared done.written out (length g.work) o w → Exact (corrected_records set es g rs) r o w
   fits-exact done offered out f e s l same a h =
       let is = records-fit set es g rs e in
       let t : take done.written out ≡ texts set es rs = ap (λ (p : Tally). p.bytes) s in
@@ -259,7 +259,7 @@ module _ (g : Given) where
   abbrev pub checked : Type 0
   checked = Within g.job (length g.input) (length g.output) (length g.work)
 
-  abbrev exactly : Answer → List ℕ → List ℕ → Type 0
+  abbrev exactly : Result Report Refusal → List ℕ → List ℕ → Type 0
   exactly = Exact (corrected_records set es g (records g.input))
 
   -- No record is done before the first name line.
@@ -287,9 +287,9 @@ module _ (g : Given) where
     abbrev name-is : List ℕ
     name-is = take (end - from) (drop from g.input)
 
-    module _ (n : ℕ) (done : Counts) (o o' w : List ℕ) (j : Joined) (passed : Pass) (i : going from n done o)
+    module _ (n : ℕ) (done : Counts) (o o' w : List ℕ) (j : Joined) (i : going from n done o)
         (inside : from < length g.input) (named : get_or g.input from 0 ≡ mark) (l : LineAt g.input from end) (is : JoinedIs g.input (end + 1) w j)
-        (h : RecordIs set es name-is (take j.read w) done.written o o' passed) (same : length o' ≡ length o) where
+        (same : length o' ≡ length o) where
       -- The record at `from`, and those behind it.
       rest-is : records_of (lines (drop from g.input)) ≡ record { name = name-is; read = take j.read w } ∷ records_of (lines (drop j.next g.input))
       rest-is =
@@ -299,47 +299,47 @@ module _ (g : Given) where
       here : Going set es (length g.output) (records g.input) (record { name = name-is; read = take j.read w } ∷ records_of (lines (drop j.next g.input))) n done o
       here = rw rest-is at i
 
-      pub fasta-no-room : (v : List ℕ) {r : Answer} {o'' w'' : List ℕ} → passed ≡ Full → length v ≡ length g.work
-          → (r ≡ Refused (NoRoom n)) × Cleared 0 o' (length v) o'' w'' → exactly r o'' w''
-      fasta-no-room v e same-work c =
-          let f = subst (RecordIs set es name-is (take j.read w) done.written o o') e h in
+      pub fasta-no-room : (full : Full) → RecordIs set es name-is (take j.read w) done.written o o' (Err full) → (v : List ℕ) {r : Refusal} {o'' w'' : List ℕ}
+          → length v ≡ length g.work → (r ≡ NoRoom n) × Cleared 0 o' (length v) o'' w'' → exactly (Err r) o'' w''
+      fasta-no-room full h v same-work c =
           full-exact set es g (records g.input) n
-          (record-full set es (length g.output) (records g.input) _ _ _ n done o o' here f)
-          o' (same ∙ i.length_is) c.0 (rw same-work at c.1)
+          (record-full set es (length g.output) (records g.input) _ _ _ n done o o' here full h)
+          o' (same ∙ i.length_is) (ap (λ (r : Refusal). Err r) c.0) (rw same-work at c.1)
 
-      pub fasta-next : (m : Counts) (s : ℕ) → Weaker done m s → passed ≡ Done m → checked → going j.next (n + 1) (summed done m s) o'
-      fasta-next m s v e k =
-          let f = subst (RecordIs set es name-is (take j.read w) done.written o o') e h in
+      pub fasta-next : (m : Counts) → RecordIs set es name-is (take j.read w) done.written o o' (Ok m) → (s : ℕ) → Weaker done m s → checked
+          → going j.next (n + 1) (summed done m s) o'
+      fasta-next m h s v k =
           record-done set es (length g.output) (records g.input) _ _ _ n done o o' here
-          m s v (omega (arith, entries_of-length g.job, k.entries)) f same
+          m s v (omega (arith, entries_of-length g.job, k.entries)) h same
 
   module _ (from n : ℕ) (done : Counts) (o : List ℕ) (i : going from n done o) (k : checked) (b : file_right g.input ≡ true) where
-    pub fasta-countable : Countable done × (n ≤ max_records)
-    fasta-countable =
-        let s = i.small in
-        let few : n ≤ max_records = omega (arith, i.many, few-records g.input b) in (
-          record {
-            written = omega (arith, i.written, i.length_is, k.output);
-            turns = omega (arith, s.turns);
-            lookups = omega (arith, s.lookups);
-            attempts = omega (arith, s.attempts);
-            accepted = omega (arith, s.accepted);
-            bases = omega (arith, s.bases);
-          },
-          few,
-        )
+    pub fasta-few : n ≤ max_records
+    fasta-few = omega (arith, i.many, few-records g.input b)
 
     pub fasta-small : (done.written ≤ length o) × (done.accepted < 2 ^ 54)
-    fasta-small = (i.written, omega (arith, i.small.accepted, fasta-countable.1))
+    fasta-small = (i.written, omega (arith, i.small.accepted, fasta-few))
 
-  pub fasta-accepted : (from n : ℕ) (done : Counts) (o w : List ℕ) {r : Answer} {o' w' : List ℕ} → going from n done o
-      → length g.input ≤ from → length w ≡ length g.work → (r ≡ Reported (report_on (ltb 0 (length g.counts)) done)) × Cleared done.written o (length w) o' w'
-      → exactly r o' w'
+  pub fasta-fits : (from n : ℕ) (x y : Counts) (s : ℕ) (o : List ℕ) → going from n (summed x y s) o → checked → file_right g.input ≡ true → Fits x y
+  fasta-fits from n x y s o i k b =
+      let few = fasta-few from n (summed x y s) o i k b in
+      let l = i.small in
+      record {
+        written = omega (arith, i.written, i.length_is, k.output);
+        turns = omega (arith, l.turns);
+        lookups = omega (arith, l.lookups);
+        attempts = omega (arith, l.attempts);
+        accepted = omega (arith, l.accepted);
+        bases = omega (arith, l.bases);
+      }
+
+  pub fasta-accepted : (from n : ℕ) (done : Counts) (o w : List ℕ) (offered : Bool) {r : Report} {o' w' : List ℕ} → going from n done o
+      → length g.input ≤ from → length w ≡ length g.work → offered ≡ ltb 0 (length g.counts)
+      → (r ≡ report_on offered done) × Cleared done.written o (length w) o' w' → exactly (Ok r) o' w'
   unfolding records_of offering
-  fasta-accepted from n done o w i end same a =
+  fasta-accepted from n done o w offered i end same f a =
       let over : records_of (lines (drop from g.input)) ≡ [] = ap records_of (no_lines g.input from end) in
       let last : Going set es (length g.output) (records g.input) [] n done o = rw over at i in
-      fits-exact set es g (records g.input) done (ltb 0 (length g.counts)) o refl
+      fits-exact set es g (records g.input) done offered o f
       (all_fit set es (length g.output) (records g.input) n done o last)
       (all_done set es (length g.output) (records g.input) n done o last)
-      i.written i.length_is a.0 (rw same at a.1)
+      i.written i.length_is (ap (λ (r : Report). Ok r) a.0) (rw same at a.1)

@@ -12,9 +12,9 @@ use Rattle.rules.specs.Calls.{longest}
 use Rattle.rules_fasta.specs.Fasta.{Record, read_lines, ended, mended, text}
 use Rattle.rules_fasta.proofs.Text.{text-length}
 use Rattle.support.specs.Support.{support_of}
-use Rattle.correct.specs.declared.Counts.{Counts}
-use Rattle.correct.specs.declared.Pass.{Pass}
-use Rattle.correct.specs.declared.Pass.TheVariants.{Done, Full}
+use Rattle.turn.specs.declared.Counts.{Counts}
+use Rattle.turn.specs.declared.Full.{Full}
+use Rattle.std.specs.Prelude.{Result, Ok, Err}
 use Rattle.correct.specs.Pass.{Tally, tally_of, unchanged_by, Small}
 use Rattle.through.specs.Through.{through, GoneOn, ThroughIs}
 use Rattle.through.proofs.InTurn.{entries-all, entries_over}
@@ -35,22 +35,21 @@ same-pass n a b e = λ i. record {
 
 module _ (set : KmerSet) (job : List ℕ) (p : Tally) (room : ℕ) where
   -- The result in a part of the work buffer, and in the whole.
-  pub gone-on-front : (part rest : List ℕ) (r : Pass) → GoneOn set job p room part r → GoneOn set job p room (part ++ rest) r
-  gone-on-front part rest (Done n) d =
+  pub gone-on-front : (part rest : List ℕ) (r : Result Counts Full) → GoneOn set job p room part r → GoneOn set job p room (part ++ rest) r
+  gone-on-front part rest (Ok n) d =
       let e = same-pass n (part ++ rest) part (take-append-le n.written part rest d.1) in (
         e ∙ d.0,
         omega (arith, d.1, length-append part rest),
         d.2,
         subst (Small (entry_count job)) (sym e) d.3,
       )
-  gone-on-front part rest Full d = d
+  gone-on-front part rest (Err full) d = d
 
   -- The result copied from the output to the work buffer.
-  pub gone-on-copied : (out work : List ℕ) (n : Counts) → GoneOn set job p room out (Done n) → take (length (take n.written out)) work ≡ take n.written out
-      → length out ≤ length work → GoneOn set job p room work (Done n)
+  pub gone-on-copied : (out work : List ℕ) (n : Counts) → GoneOn set job p room out (Ok n) → take n.written work ≡ take n.written out
+      → length out ≤ length work → GoneOn set job p room work (Ok n)
   gone-on-copied out work n d c l =
-      let many = length-take-le n.written out d.1 in
-      let e = same-pass n work out (ap (λ (m : ℕ). take m work) (sym many) ∙ c) in (
+      let e = same-pass n work out c in (
         e ∙ d.0,
         omega (arith, d.1),
         d.2,
@@ -66,7 +65,7 @@ module _ (set : KmerSet) (job work : List ℕ) (len room : ℕ) (none : entry_co
   unfolding longest
   none-full h l = rw no-entries (omega (arith, length-take-le len work l))
 
-  pub none_done : len ≤ room → len ≤ length work → ThroughIs set (entries_of job) (take len work) room work (Done (unchanged_by len))
+  pub none_done : len ≤ room → len ≤ length work → ThroughIs set (entries_of job) (take len work) room work (Ok (unchanged_by len))
   unfolding through passes_of sum support_over result longest support_of
   none_done h l =
       rw no-entries (
@@ -84,7 +83,7 @@ result-longest set (e ∷ es) read = omega (arith, result-longest set es (pass s
 
 -- ---- a record
 
-module _ (set : KmerSet) (es : List Entry) (name read w : List ℕ) (room : ℕ) (done : Counts) (t : ThroughIs set es read room w (Done done)) where
+module _ (set : KmerSet) (es : List Entry) (name read w : List ℕ) (room : ℕ) (done : Counts) (t : ThroughIs set es read room w (Ok done)) where
   abbrev rec : Record
   rec = record { name = name; read = read }
 

@@ -1,12 +1,11 @@
 -- A record corrected: what its answer means by the rules.
-use Rattle.std.specs.Prelude.{ℕ, ◌+◌, ◌-◌, ◌≤◌, ◌<◌, ◌≡◌, ◌⊎◌, List, ◌++◌, length, take}
+use Rattle.std.specs.Prelude.{ℕ, ◌+◌, ◌-◌, ◌≤◌, ◌<◌, ◌≡◌, ◌⊎◌, List, ◌++◌, length, take, Result, Ok, Err}
 use Rattle.rules.specs.Set.{KmerSet}
 use Rattle.rules.specs.Job.{Entry}
 use Rattle.rules.specs.Calls.{longest}
 use Rattle.rules_fasta.specs.Fasta.{Record, text}
-use Rattle.correct.specs.declared.Counts.{Counts}
-use Rattle.correct.specs.declared.Pass.{Pass}
-use Rattle.correct.specs.declared.Pass.TheVariants.{Done, Full}
+use Rattle.turn.specs.declared.Counts.{Counts}
+use Rattle.turn.specs.declared.Full.{Full}
 use Rattle.correct.specs.Pass.{Tally, tally_of, Small}
 use Rattle.through.specs.Through.{through}
 
@@ -47,7 +46,7 @@ pub record Written (set : KmerSet) (es : List Entry) (r : Record) (at : ℕ) (o 
   pub small : Small (length es) (record_through set es r)
 
 -- Full where a pass result or the text is longer than what is left.
-abbrev pub RecordIs : KmerSet → List Entry → List ℕ → List ℕ → ℕ → List ℕ → List ℕ → Pass → Type 0
-RecordIs set es name read at o o' (Done n) = Written set es (record { name = name; read = read }) at o o' n
-RecordIs set es name read at o o' Full =
+abbrev pub RecordIs : KmerSet → List Entry → List ℕ → List ℕ → ℕ → List ℕ → List ℕ → Result Counts Full → Type 0
+RecordIs set es name read at o o' (Ok n) = Written set es (record { name = name; read = read }) at o o' n
+RecordIs set es name read at o o' (Err full) =
     (length o - at < longest set es read) ⊎ (length o - at < length (text set es (record { name = name; read = read })))

@@ -1,150 +1,89 @@
 // A record of a FASTA file corrected: its read through the entries of a job, and its text put into the output. Document 02, W11.
 #![tactic(auto)]
 
-ghost use Rattle.std.specs.Prelude.{◌≡◌, ◌≤◌, ◌<◌, length, take};
+ghost use Rattle.std.specs.Prelude.{◌≤◌, ◌<◌, length, take};
 ghost use Rattle.rules.specs.Job.{entry_count, entries_of, Confirmed};
 ghost use Rattle.rules.specs.Calls.{max_read, max_methods, max_output};
-ghost use Rattle.set.specs.Ready.{Ready};
-ghost use Rattle.set.specs.Counted.{set_with};
 ghost use Rattle.input.specs.Input.{Within};
+ghost use Rattle.turn.specs.Turn.{offered};
 ghost use Rattle.correct.specs.Pass.{tally_of, Small};
 ghost use Rattle.through.specs.Through.{GoneOn, ThroughIs};
-ghost use Rattle.fasta_record.specs.Record.{with_written, RecordIs};
+ghost use Rattle.fasta_record.specs.Record.{RecordIs};
 
-use correct::{Counts, Pass};
-use kmer::Header;
+use correct::{Counts, Full};
+use set::KmerSet;
 
 // The passes behind the first, whose bytes stand in the output, and the result at the front of the work buffer. By an even number of
 // passes the last one ends there; by an odd one it ends in the output, and its result is copied.
 fn back_to_work(
-    set: &[u8],
-    starts: &[u32],
-    head: Header,
-    counts: &[u32],
+    set: &KmerSet,
     job: &[u8],
     first: Counts,
     output: &mut [u8],
     work: &mut [u8],
-) -> Pass
-    requires ready { Ready set.now starts.now head × (0 < entry_count job.now) × (entry_count job.now ≤ max_methods) × Confirmed (entries_of job.now)
+) -> Result<Counts, Full>
+    requires ready { (0 < entry_count job.now) × (entry_count job.now ≤ max_methods) × Confirmed (entries_of job.now)
         × (first.written ≤ length output.old) × Small 1 (tally_of first output.old) }
     requires output_len_bound { (length output.old ≤ max_output) × (length output.old ≤ length work.old) }
-    ensures { GoneOn (set_with set.now counts.now) job.now (tally_of first output.old)
+    ensures { GoneOn (offered set.now) job.now (tally_of first output.old)
         (length output.old) work.new result }
 {
     let room = output.len();
     if entries::count(job) % 2 == 0 {
-        return through::go_on(
-            set,
-            starts,
-            head,
-            counts,
-            job,
-            first,
-            &mut work[..room],
-            output,
-        );
+        return through::go_on(set, job, first, &mut work[..room], output);
     }
-    let passed = through::go_on(
-        set,
-        starts,
-        head,
-        counts,
-        job,
-        first,
-        output,
-        &mut work[..room],
-    );
-    let Pass::Done(done) = passed else {
-        return Pass::Full;
-    };
-    let written = done.written;
-    correct::copy(&output[..written], work);
-    Pass::Done(done)
+    let done = through::go_on(set, job, first, output, &mut work[..room])?;
+    work[..done.written].copy_from_slice(&output[..done.written]);
+    Ok(done)
 }
 
 // A read at the front of the work buffer through the entries of a job, and its result there again. Two parts of one buffer cannot be lent at
 // once, so the first pass goes from work to the output, and then to and fro. Each has just the room that 11 compares with.
 fn through_work(
-    set: &[u8],
-    starts: &[u32],
-    head: Header,
-    counts: &[u32],
+    set: &KmerSet,
     job: &[u8],
     read: usize,
     output: &mut [u8],
     work: &mut [u8],
-) -> Pass
-    requires { Ready set.now starts.now head × Within job.now read (length output.old) (length work.old) }
-    ensures { ThroughIs (set_with set.now counts.now) (entries_of job.now) (take read work.old)
+) -> Result<Counts, Full>
+    requires { Within job.now read (length output.old) (length work.old) }
+    ensures { ThroughIs (offered set.now) (entries_of job.now) (take read work.old)
         (length output.old) work.new result }
 {
     if entries::count(job) == 0 {
         if output.len() < read {
-            return Pass::Full;
+            return Err(Full);
         }
-        return Pass::Done(correct::unchanged(read));
+        return Ok(correct::unchanged(read));
     }
-    let passed = through::entry_pass(set, starts, head, counts, job, 0, &work[..read], output);
-    let Pass::Done(first) = passed else {
-        return Pass::Full;
-    };
-    back_to_work(set, starts, head, counts, job, first, output, work)
-}
-
-// The same counts, with another number of bytes written.
-fn with_written(done: Counts, written: usize) -> Counts
-    ensures { result ≡ with_written done written }
-{
-    Counts {
-        written,
-        turns: done.turns,
-        lookups: done.lookups,
-        attempts: done.attempts,
-        accepted: done.accepted,
-        support: done.support,
-        bases: done.bases,
-    }
+    let first = through::entry_pass(set, job, 0, &work[..read], output)?;
+    back_to_work(set, job, first, output, work)
 }
 
 // A record with its read, of that length, at the front of the work buffer: corrected, and its text put into the output at `at`. Full where a
 // pass result or the text is longer than what is left before its name line (11).
 pub fn correct_record(
-    set: &[u8],
-    starts: &[u32],
-    head: Header,
-    counts: &[u32],
+    set: &KmerSet,
     job: &[u8],
     name: &[u8],
     read: usize,
     at: usize,
     output: &mut [u8],
     work: &mut [u8],
-) -> Pass
-    requires { Ready set.now starts.now head
-        × Within job.now read (length output.old) (length work.old)
+) -> Result<Counts, Full>
+    requires { Within job.now read (length output.old) (length work.old)
         × (length name.now ≤ max_read) × (at ≤ length output.old) }
-    ensures { RecordIs (set_with set.now counts.now) (entries_of job.now) name.now (take read work.old)
+    ensures { RecordIs (offered set.now) (entries_of job.now) name.now (take read work.old)
         at output.old output.new result }
 {
-    let passed = through_work(
-        set,
-        starts,
-        head,
-        counts,
-        job,
-        read,
-        &mut output[at..],
-        work,
-    );
-    let Pass::Done(done) = passed else {
-        return Pass::Full;
-    };
-    let written = done.written;
-    let text = record_text::text_length(name.len(), written);
+    let done = through_work(set, job, read, &mut output[at..], work)?;
+    let text = record_text::text_length(name.len(), done.written);
     if output.len() - at < text {
-        return Pass::Full;
+        return Err(Full);
     }
-    record_text::put_record(name, &work[..written], output, at);
-    Pass::Done(with_written(done, text))
+    record_text::put_record(name, &work[..done.written], output, at);
+    Ok(Counts {
+        written: text,
+        ..done
+    })
 }

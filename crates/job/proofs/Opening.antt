@@ -1,7 +1,6 @@
 -- A call up to its opened set.
 use Prim.Native.Nat.{ℕ}
 use mathlib.Core.Path.{◌≡◌, sym, ap, subst}
-use mathlib.Core.Bool.{true, false}
 use mathlib.Core.Option.{none, some}
 use mathlib.Core.Logic.{⊎_elim}
 use mathlib.Core.List.{List, [], ◌∷◌}
@@ -11,9 +10,8 @@ use Rattle.rules.specs.Set.{set_of, offering, opened}
 use Rattle.rules.specs.Job.{entries_of, Confirmed, lines}
 use Rattle.rules.specs.Calls.{Given, After, without_index, unchanged, input_check, batch_right, given_check, offer_check, call, corrected, correct_read, correct_batch}
 use Rattle.refusal.specs.declared.Refusal.{Refusal}
-use Rattle.refusal.specs.declared.Refusal.TheVariants.{Batch}
-use Rattle.report.specs.declared.Answer.{Answer}
-use Rattle.report.specs.declared.Answer.TheVariants.{Refused}
+use Rattle.std.specs.Prelude.{Result, Err}
+use Rattle.report.specs.declared.Report.{Report}
 use Rattle.report.specs.Answer.{Exact, Ceiling}
 use Rattle.refusal.specs.Refusal.{refusal_of}
 use Rattle.offered.specs.Offered.{RefusedBy}
@@ -31,7 +29,7 @@ module _ (g : Given) where
   abbrev offer-check : Check
   offer-check = offer_check (set_of g.set) g.index g.counts
 
-  abbrev ceiling : List (List ℕ) → Answer → Type 0
+  abbrev ceiling : List (List ℕ) → Result Report Refusal → Type 0
   ceiling = Ceiling (offering g.index g.counts (set_of g.set)) (entries_of g.job)
 
   -- What a call whose set opened does with its reads, an ending behind each.
@@ -45,7 +43,7 @@ module _ (g : Given) where
         (λ o. call-offer-wrong ending reads check g (set_of g.set) e o.0 (refusal_of r) o.1)
 
     call-corrected : opened g.set ≡ accepted (set_of g.set) → offer-check ≡ none → Confirmed (entries_of g.job)
-        → (r : Answer) {o w : List ℕ} → Exact (with-set ending reads) r o w → Exact (call ending reads check g) r o w × ceiling reads r
+        → (r : Result Report Refusal) {o w : List ℕ} → Exact (with-set ending reads) r o w → Exact (call ending reads check g) r o w × ceiling reads r
     call-corrected opens d low r {o} {w} h =
         let i = passed-15 (set_of g.set) g.index g.counts d in (
           subst (λ (a : After). Exact a r o w) (sym (call-opened ending reads check g (set_of g.set) e opens d)) h,
@@ -53,15 +51,15 @@ module _ (g : Given) where
         )
 
   module _ (r : Refusal) where
-    pub read-refused : checks ≡ some (refusal_of r) → Exact (correct_read g) (Refused r) g.output g.work
+    pub read-refused : checks ≡ some (refusal_of r) → Exact (correct_read g) (Err r) g.output g.work
     unfolding correct_read given_check
     read-refused e = refused-exact g (correct_read g) r (call-refused [] (g.input ∷ []) checks g (refusal_of r) e)
 
-    pub read-not-opened : checks ≡ none → RefusedBy g.set g.index g.counts r → Exact (correct_read g) (Refused r) g.output g.work
+    pub read-not-opened : checks ≡ none → RefusedBy g.set g.index g.counts r → Exact (correct_read g) (Err r) g.output g.work
     unfolding correct_read given_check
     read-not-opened e o = refused-exact g (correct_read g) r (not_opened [] (g.input ∷ []) checks e r o)
 
-  pub read-corrected : (r : Answer) {o w : List ℕ} → checks ≡ none → opened g.set ≡ accepted (set_of g.set) → offer-check ≡ none
+  pub read-corrected : (r : Result Report Refusal) {o w : List ℕ} → checks ≡ none → opened g.set ≡ accepted (set_of g.set) → offer-check ≡ none
       → Confirmed (entries_of g.job) → Exact (with-set [] (g.input ∷ [])) r o w → Exact (correct_read g) r o w × ceiling (g.input ∷ []) r
   unfolding correct_read given_check
   read-corrected r e opens d low h = call-corrected [] (g.input ∷ []) checks e opens d low r h
@@ -71,29 +69,29 @@ module _ (g : Given) where
   six = unless (batch_right g.input) 6
 
   module _ (r : Refusal) where
-    pub batch-refused : checks ≡ some (refusal_of r) → Exact (correct_batch g) (Refused r) g.output g.work
+    pub batch-refused : checks ≡ some (refusal_of r) → Exact (correct_batch g) (Err r) g.output g.work
     unfolding correct_batch given_check ◌or_else◌
     batch-refused e =
         refused-exact g (correct_batch g) r
         (call-refused (10 ∷ []) (lines g.input) (checks or_else six) g (refusal_of r) (ap (λ (c : Check). c or_else six) e))
 
   module _ (e : checks ≡ none) where
-    pub batch-not-right : batch_right g.input ≡ false → Exact (correct_batch g) (Refused Batch) g.output g.work
-    unfolding correct_batch given_check ◌or_else◌ unless
-    batch-not-right b =
-        refused-exact g (correct_batch g) Batch
-        (call-refused (10 ∷ []) (lines g.input) (checks or_else six) g (refusal_of Batch) (rw (e, b)))
+    pub batch-not-right : (r : Refusal) → some (refusal_of r) ≡ six → Exact (correct_batch g) (Err r) g.output g.work
+    unfolding correct_batch given_check ◌or_else◌
+    batch-not-right r b =
+        refused-exact g (correct_batch g) r
+        (call-refused (10 ∷ []) (lines g.input) (checks or_else six) g (refusal_of r) (rw e (sym b)))
 
-    module _ (b : batch_right g.input ≡ true) where
+    module _ (b : six ≡ none) where
       passed : (checks or_else six) ≡ none
-      unfolding ◌or_else◌ unless
-      passed = rw (e, b)
+      unfolding ◌or_else◌
+      passed = rw e b
 
-      pub batch-not-opened : (r : Refusal) → RefusedBy g.set g.index g.counts r → Exact (correct_batch g) (Refused r) g.output g.work
+      pub batch-not-opened : (r : Refusal) → RefusedBy g.set g.index g.counts r → Exact (correct_batch g) (Err r) g.output g.work
       unfolding correct_batch given_check
       batch-not-opened r o = refused-exact g (correct_batch g) r (not_opened (10 ∷ []) (lines g.input) (checks or_else six) passed r o)
 
-      pub batch-corrected : (r : Answer) {o w : List ℕ} → opened g.set ≡ accepted (set_of g.set) → offer-check ≡ none
+      pub batch-corrected : (r : Result Report Refusal) {o w : List ℕ} → opened g.set ≡ accepted (set_of g.set) → offer-check ≡ none
           → Confirmed (entries_of g.job) → Exact (with-set (10 ∷ []) (lines g.input)) r o w → Exact (correct_batch g) r o w × ceiling (lines g.input) r
       unfolding correct_batch given_check
       batch-corrected r opens d low h = call-corrected (10 ∷ []) (lines g.input) (checks or_else six) passed opens d low r h

@@ -3,8 +3,8 @@ use Prim.Native.Nat.{ℕ, ◌+◌, ◌*◌, ◌-◌, ◌^◌, ◌≤◌, ◌<◌
 use native.Mathlib.Omega.{arith}
 use native.Mathlib.Nat.{add-zero, zero-add, add_assoc, sub-zero}
 use native.Mathlib.Numerals.{add-one}
-use mathlib.Core.Path.{◌≡◌, refl, sym, ap, ap₂, ◌∙◌, subst}
-use mathlib.Core.Bool.{true}
+use mathlib.Core.Path.{◌≡◌, refl, sym, ap, ap₂, ◌∙◌}
+use mathlib.Core.Bool.{Bool, true}
 use mathlib.Core.Option.{none, some}
 use mathlib.Core.List.{List, [], ◌∷◌, ◌++◌, append-nil, append_assoc}
 use lib.ListN.{length, take, drop, length-append, length-drop, drop_of_length-le}
@@ -16,16 +16,17 @@ use Rattle.rules.specs.Job.{Entry, result, entries_of, lines, lines_from}
 use Rattle.rules.specs.Counts.{sum, all_passes, turns, lookups, attempts, corrections, support_over, w_of}
 use Rattle.rules.specs.Calls.{Given, max_methods, max_lines, batch_right, too_long, results, corrected}
 use Rattle.input.specs.Input.{LineAt}
-use Rattle.correct.specs.declared.Counts.{Counts}
-use Rattle.correct.specs.declared.Pass.{Pass}
-use Rattle.correct.specs.declared.Pass.TheVariants.{Done, Full}
+use Rattle.turn.specs.declared.Counts.{Counts}
+use Rattle.turn.specs.declared.Full.{Full}
+use Rattle.std.specs.Prelude.{Result, Ok, Err}
 use Rattle.refusal.specs.declared.Refusal.TheVariants.{NoRoom}
-use Rattle.report.specs.declared.Answer.{Answer}
-use Rattle.report.specs.declared.Answer.TheVariants.{Report as Reported, Refused}
+use Rattle.refusal.specs.declared.Refusal.{Refusal}
+use Rattle.report.specs.declared.Report.{Report}
 use Rattle.report.specs.Answer.{Exact}
 use Rattle.correct.specs.Pass.{Tally, tally_of, Small}
 use Rattle.through.specs.Through.{through}
-use Rattle.lines.specs.Lines.{line_through, LineIs, summed, Countable}
+use Rattle.turn.specs.Turn.{Fits, summed}
+use Rattle.lines.specs.Lines.{line_through, LineIs}
 use Rattle.report.specs.Ending.{Cleared, report_on}
 use Rattle.input.specs.Input.{Within}
 use Rattle.rules_laws.proofs.Job.{entries_of-length}
@@ -67,6 +68,20 @@ Weaker a b s =
 
 abbrev pub nothing : Counts
 nothing = record { written = 0; turns = 0; lookups = 0; attempts = 0; accepted = 0; support = 0; bases = 0 }
+
+-- What `Counts::default()` says.
+pub default-is : (n : Counts)
+    → (n.written ≡ 0) × ((n.turns ≡ 0) × ((n.lookups ≡ 0) × ((n.attempts ≡ 0) × ((n.accepted ≡ 0) × ((n.support ≡ 0) × (n.bases ≡ 0))))))
+    → n ≡ nothing
+default-is n z = λ i. record {
+  written = z.0 i;
+  turns = z.1.0 i;
+  lookups = z.1.1.0 i;
+  attempts = z.1.1.1.0 i;
+  accepted = z.1.1.1.1.0 i;
+  support = z.1.1.1.1.1.0 i;
+  bases = z.1.1.1.1.1.1 i;
+}
 
 module _ (set : KmerSet) (es : List Entry) where
   abbrev ending : List ℕ
@@ -130,11 +145,11 @@ module _ (set : KmerSet) (es : List Entry) where
 
   module _ (room : ℕ) (reads : List (List ℕ)) (read : List ℕ) (rest : List (List ℕ)) (line : ℕ) (done : Counts) (o o' : List ℕ)
       (g : Going room reads (read ∷ rest) line done o) where
-    line-full : LineIs set es read done.written o o' Full → too_long set es ending 0 room reads ≡ some line
-    line-full h = g.left ∙ too-long-here set es ending line (room - done.written) read rest (omega (arith, g.length_is))
+    line-full : (full : Full) → LineIs set es read done.written o o' (Err full) → too_long set es ending 0 room reads ≡ some line
+    line-full full h = g.left ∙ too-long-here set es ending line (room - done.written) read rest (omega (arith, g.length_is))
 
     -- A line more.
-    line-bytes : (r : Counts) (s : ℕ) → Weaker done r s → LineIs set es read done.written o o' (Done r) → length o' ≡ length o
+    line-bytes : (r : Counts) (s : ℕ) → Weaker done r s → LineIs set es read done.written o o' (Ok r) → length o' ≡ length o
         → tally_of (summed done r s) o' ≡ behind (tally_of done o) (line_through set es read)
     line-bytes r s v h same =
         let e = h.0 in
@@ -149,7 +164,7 @@ module _ (set : KmerSet) (es : List Entry) where
         }
 
     line-done : (r : Counts) (s : ℕ) → Weaker done r s → length es ≤ max_methods
-        → LineIs set es read done.written o o' (Done r) → length o' ≡ length o
+        → LineIs set es read done.written o o' (Ok r) → length o' ≡ length o
         → Going room reads rest (line + 1) (summed done r s) o'
     unfolding through
     line-done r s v few h same =
@@ -203,7 +218,7 @@ module _ (g : Given) where
   abbrev pub checked : Type 0
   checked = Within g.job (length g.input) (length g.output) (length g.work)
 
-  abbrev exactly : Answer → List ℕ → List ℕ → Type 0
+  abbrev exactly : Result Report Refusal → List ℕ → List ℕ → Type 0
   exactly = Exact (corrected set es (10 ∷ []) g (lines g.input))
 
   -- What a line of length n is given.
@@ -224,53 +239,51 @@ module _ (g : Given) where
     abbrev line-is : List ℕ
     line-is = take (end - from) (drop from g.input)
 
-    module _ (line : ℕ) (done : Counts) (o o' : List ℕ) (passed : Pass) (i : going from line done o) (l : LineAt g.input from end)
-        (h : LineIs set es line-is done.written o o' passed) (same : length o' ≡ length o) where
+    module _ (line : ℕ) (done : Counts) (o o' : List ℕ) (i : going from line done o) (l : LineAt g.input from end) (same : length o' ≡ length o) where
       here : Going set es (length g.output) (lines g.input) (line-is ∷ lines (drop (end + 1) g.input)) line done o
       here = rw l.is at i
 
-      pub batch-no-room : (w : List ℕ) {r : Answer} {o'' w'' : List ℕ} → passed ≡ Full → length w ≡ length g.work
-          → (r ≡ Refused (NoRoom line)) × Cleared 0 o' (length w) o'' w'' → exactly r o'' w''
-      batch-no-room w e same-work n =
-          let is = subst (LineIs set es line-is done.written o o') e h in
+      pub batch-no-room : (full : Full) → LineIs set es line-is done.written o o' (Err full) → (w : List ℕ) {r : Refusal} {o'' w'' : List ℕ}
+          → length w ≡ length g.work → (r ≡ NoRoom line) × Cleared 0 o' (length w) o'' w'' → exactly (Err r) o'' w''
+      batch-no-room full h w same-work n =
           full-exact set es (10 ∷ []) g (lines g.input) line
-          (line-full set es (length g.output) (lines g.input) _ _ line done o o' here is)
-          o' (same ∙ i.length_is) n.0 (rw same-work at n.1)
+          (line-full set es (length g.output) (lines g.input) _ _ line done o o' here full h)
+          o' (same ∙ i.length_is) (ap (λ (r : Refusal). Err r) n.0) (rw same-work at n.1)
 
-      pub batch-next : (r : Counts) (s : ℕ) → Weaker done r s → passed ≡ Done r → checked
+      pub batch-next : (r : Counts) → LineIs set es line-is done.written o o' (Ok r) → (s : ℕ) → Weaker done r s → checked
           → going (end + 1) (line + 1) (summed done r s) o'
-      batch-next r s v e k =
-          let is = subst (LineIs set es line-is done.written o o') e h in
+      batch-next r h s v k =
           line-done set es (length g.output) (lines g.input) _ _ line done o o' here
-          r s v (omega (arith, entries_of-length g.job, k.entries)) is same
+          r s v (omega (arith, entries_of-length g.job, k.entries)) h same
 
   module _ (from line : ℕ) (done : Counts) (o : List ℕ) (i : going from line done o) (k : checked) (b : batch_right g.input ≡ true) where
-    pub batch-countable : Countable done × (line ≤ max_lines)
-    batch-countable =
-        let s = i.small in
-        let few : line ≤ max_lines = omega (arith, i.lines, few-lines g.input b) in (
-          record {
-            written = omega (arith, i.written, i.length_is, k.output);
-            turns = omega (arith, s.turns);
-            lookups = omega (arith, s.lookups);
-            attempts = omega (arith, s.attempts);
-            accepted = omega (arith, s.accepted);
-            bases = omega (arith, s.bases);
-          },
-          few,
-        )
+    pub batch-few : line ≤ max_lines
+    batch-few = omega (arith, i.lines, few-lines g.input b)
 
     pub batch-small : (done.written ≤ length o) × (done.accepted < 2 ^ 54)
-    batch-small = (i.written, omega (arith, i.small.accepted, batch-countable.1))
+    batch-small = (i.written, omega (arith, i.small.accepted, batch-few))
 
-  pub batch-accepted : (from line : ℕ) (done : Counts) (o w : List ℕ) {r : Answer} {o' w' : List ℕ} → going from line done o
-      → length g.input ≤ from → length w ≡ length g.work → (r ≡ Reported (report_on (ltb 0 (length g.counts)) done)) × Cleared done.written o (length w) o' w'
-      → exactly r o' w'
+  pub batch-fits : (from line : ℕ) (x y : Counts) (s : ℕ) (o : List ℕ) → going from line (summed x y s) o → checked → batch_right g.input ≡ true → Fits x y
+  batch-fits from line x y s o i k b =
+      let few = batch-few from line (summed x y s) o i k b in
+      let l = i.small in
+      record {
+        written = omega (arith, i.written, i.length_is, k.output);
+        turns = omega (arith, l.turns);
+        lookups = omega (arith, l.lookups);
+        attempts = omega (arith, l.attempts);
+        accepted = omega (arith, l.accepted);
+        bases = omega (arith, l.bases);
+      }
+
+  pub batch-accepted : (from line : ℕ) (done : Counts) (o w : List ℕ) (offered : Bool) {r : Report} {o' w' : List ℕ} → going from line done o
+      → length g.input ≤ from → length w ≡ length g.work → offered ≡ ltb 0 (length g.counts)
+      → (r ≡ report_on offered done) × Cleared done.written o (length w) o' w' → exactly (Ok r) o' w'
   unfolding lines lines_from offering
-  batch-accepted from line done o w i end same a =
+  batch-accepted from line done o w offered i end same f a =
       let over : lines (drop from g.input) ≡ [] = ap lines (drop_of_length-le g.input end) in
       let last : Going set es (length g.output) (lines g.input) [] line done o = rw over at i in
-      fits-exact set es (10 ∷ []) g (lines g.input) done (ltb 0 (length g.counts)) o refl
+      fits-exact set es (10 ∷ []) g (lines g.input) done offered o f
       (all_fit set es (length g.output) (lines g.input) line done o last)
       (all_done set es (length g.output) (lines g.input) line done o last)
-      i.written i.length_is a.0 (rw same at a.1)
+      i.written i.length_is (ap (λ (r : Report). Ok r) a.0) (rw same at a.1)

@@ -1,18 +1,17 @@
 -- A line in what is left of the output less 1, with byte 10 behind it.
-use Prim.Native.Nat.{ℕ, ◌+◌, ◌-◌, ◌≤◌, ◌<◌}
+use Prim.Native.Nat.{ℕ, ◌+◌, ◌-◌, ◌<◌}
 use native.Mathlib.Omega.{arith}
 use native.Mathlib.Numerals.{add-one}
-use mathlib.Core.Path.{◌≡◌, ap, ◌∙◌, subst}
+use mathlib.Core.Path.{◌≡◌, ap, ◌∙◌}
 use mathlib.Core.List.{List, [], ◌∷◌, ◌++◌}
-use lib.ListN.{length, take, drop, set, length-append, length-drop}
+use lib.ListN.{length, take, drop, set as put, length-append, length-drop}
 use lib.Seq.{length-take-le, take_at, drop_at, take-append-le, take-set-le, take-suc-set, drop-set-add}
-use Rattle.set.specs.Counted.{set_with}
-use Rattle.rules.specs.Job.{Entry, entries_of}
-use Rattle.correct.specs.declared.Counts.{Counts}
-use Rattle.correct.specs.declared.Pass.{Pass}
-use Rattle.correct.specs.declared.Pass.TheVariants.{Done, Full}
+use Rattle.rules.specs.Set.{KmerSet}
+use Rattle.rules.specs.Job.{Entry}
+use Rattle.turn.specs.declared.Counts.{Counts}
+use Rattle.std.specs.Prelude.{Ok}
 use Rattle.correct.specs.Pass.{Tally}
-use Rattle.through.specs.Through.{ThroughIs, Through}
+use Rattle.through.specs.Through.{ThroughIs}
 use Rattle.lines.specs.Lines.{LineIs}
 
 module _ (o : List ℕ) (at : ℕ) (h : at < length o) where
@@ -26,79 +25,57 @@ module _ (o : List ℕ) (at : ℕ) (h : at < length o) where
   pub lent_length : length lent ≡ room
   lent_length = length-take-le room (drop at o) (omega (arith, length-drop at o))
 
-  module _ (bytes counts : List ℕ) (job line part w w' : List ℕ) (passed : Pass)
-      (t : Through (set_with bytes counts) job line lent part w w' passed) where
-    abbrev es : List Entry
-    es = entries_of job
+  -- part is what the lent part holds after the line's passes.
+  module _ (set : KmerSet) (es : List Entry) (line part : List ℕ) (same_part : length part ≡ length lent) (done : Counts)
+      (is : ThroughIs set es line (length lent) part (Ok done)) where
+    abbrev n : ℕ
+    n = done.written
 
     -- The output after it, and with byte 10.
     abbrev o₁ : List ℕ
     o₁ = take at o ++ (part ++ drop room (drop at o))
 
-    part_length : length part ≡ room
-    part_length = t.output_room ∙ lent_length
+    abbrev o₂ : List ℕ
+    o₂ = put o₁ (at + n) 10
 
     front : length (take at o) ≡ at
     front = length-take-le at o (omega arith)
 
-    same : length o₁ ≡ length o
-    same =
-        length-append (take at o) (part ++ drop room (drop at o))
-        ∙ omega (arith, front, length-append part (drop room (drop at o)), part_length, length-drop room (drop at o), length-drop at o)
+    behind : drop at o₂ ≡ put (part ++ drop room (drop at o)) n 10
+    behind =
+        drop-set-add at o₁ n 10
+        ∙ ap (λ (l : List ℕ). put l n 10) (drop_at (take at o) (part ++ drop room (drop at o)) at front)
 
-    pub line-full : passed ≡ Full → LineIs (set_with bytes counts) es line at o o₁ Full
-    line-full e =
-        let is = subst (ThroughIs (set_with bytes counts) es line (length lent) part) e t.is in
-        omega (arith, is, lent_length)
+    written : take (n + 1) (drop at o₂) ≡ take n part ++ (10 ∷ [])
+    written =
+        let rest : List ℕ = drop room (drop at o) in
+        rw (behind, add-one n)
+        (take-suc-set (part ++ rest) n 10 (omega (arith, length-append part rest, is.1, same_part, lent_length, length-drop room (drop at o), length-drop at o))
+        ∙ ap (λ (l : List ℕ). l ++ (10 ∷ [])) (take-append-le n part rest is.1))
 
-    module _ (done : Counts) (e : passed ≡ Done done) where
-      is : ThroughIs (set_with bytes counts) es line (length lent) part (Done done)
-      is = subst (ThroughIs (set_with bytes counts) es line (length lent) part) e t.is
-
-      abbrev n : ℕ
-      n = done.written
-
-      pub line-within : (n ≤ room) × (at + n < length o₁)
-      line-within = omega (arith, is.1, part_length, same)
-
-      abbrev o₂ : List ℕ
-      o₂ = set o₁ (at + n) 10
-
-      behind : drop at o₂ ≡ set (part ++ drop room (drop at o)) n 10
-      behind =
-          drop-set-add at o₁ n 10
-          ∙ ap (λ (l : List ℕ). set l n 10) (drop_at (take at o) (part ++ drop room (drop at o)) at front)
-
-      written : take (n + 1) (drop at o₂) ≡ take n part ++ (10 ∷ [])
-      written =
-          let rest : List ℕ = drop room (drop at o) in
-          rw (behind, add-one n)
-          (take-suc-set (part ++ rest) n 10 (omega (arith, length-append part rest, line-within, part_length, length-drop room (drop at o), length-drop at o))
-          ∙ ap (λ (l : List ℕ). l ++ (10 ∷ [])) (take-append-le n part rest is.1))
-
-      pub line-done : LineIs (set_with bytes counts) es line at o o₂
-          (Done (record {
-            written = n + 1;
-            turns = done.turns;
-            lookups = done.lookups;
-            attempts = done.attempts;
-            accepted = done.accepted;
-            support = done.support;
-            bases = done.bases;
-          }))
-      line-done =
-          let q = is.0 in (
-            λ i. record {
-              bytes = (written ∙ ap (λ (p : Tally). p.bytes ++ (10 ∷ [])) q) i;
-              turns = (q i).turns;
-              lookups = (q i).lookups;
-              attempts = (q i).attempts;
-              accepted = (q i).accepted;
-              support = (q i).support;
-              bases = (q i).bases;
-            },
-            take-set-le at o₁ (at + n) 10 (omega arith) ∙ take_at (take at o) (part ++ drop room (drop at o)) at front,
-            omega (arith, line-within, same),
-            omega (arith, is.2, lent_length),
-            record { turns = is.3.turns; lookups = is.3.lookups; attempts = is.3.attempts; accepted = is.3.accepted; bases = is.3.bases },
-          )
+    pub line-done : LineIs set es line at o o₂
+        (Ok (record {
+          written = n + 1;
+          turns = done.turns;
+          lookups = done.lookups;
+          attempts = done.attempts;
+          accepted = done.accepted;
+          support = done.support;
+          bases = done.bases;
+        }))
+    line-done =
+        let q = is.0 in (
+          λ i. record {
+            bytes = (written ∙ ap (λ (p : Tally). p.bytes ++ (10 ∷ [])) q) i;
+            turns = (q i).turns;
+            lookups = (q i).lookups;
+            attempts = (q i).attempts;
+            accepted = (q i).accepted;
+            support = (q i).support;
+            bases = (q i).bases;
+          },
+          take-set-le at o₁ (at + n) 10 (omega arith) ∙ take_at (take at o) (part ++ drop room (drop at o)) at front,
+          omega (arith, is.1, same_part, lent_length),
+          omega (arith, is.2, lent_length),
+          record { turns = is.3.turns; lookups = is.3.lookups; attempts = is.3.attempts; accepted = is.3.accepted; bases = is.3.bases },
+        )

@@ -4,129 +4,69 @@
 ghost use Rattle.std.specs.Prelude.{◌≡◌, true, [], ◌∷◌, ◌≤◌, length};
 ghost use Rattle.rules.specs.Job.{entries_of, lines};
 ghost use Rattle.rules.specs.Calls.{batch_right, corrected};
-ghost use Rattle.set.specs.Ready.{Ready};
-ghost use Rattle.set.specs.Counted.{set_with};
 ghost use Rattle.input.specs.Input.{Within};
+ghost use Rattle.turn.specs.Turn.{offered};
 ghost use Rattle.report.specs.Answer.{Exact, given};
-ghost use Rattle.lines.specs.Lines.{LineIs, summed, Summed, Countable};
+ghost use Rattle.lines.specs.Lines.{LineIs};
 
-use correct::{Counts, Pass};
-use kmer::Header;
-use report::Answer;
+use correct::{Counts, Full};
+use refusal::Refusal;
+use report::Report;
+use set::KmerSet;
 
 // A line is corrected where it lies, into what is left of the output less 1, and byte 10 put behind it.
 fn correct_line(
-    set: &[u8],
-    starts: &[u32],
-    head: Header,
-    counts: &[u32],
+    set: &KmerSet,
     job: &[u8],
     line: &[u8],
     at: usize,
     output: &mut [u8],
     work: &mut [u8],
-) -> Pass
-    requires { Ready set.now starts.now head
-        × Within job.now (length line.now) (length output.old) (length work.old)
-        × (at ≤ length output.old) }
-    ensures { LineIs (set_with set.now counts.now) (entries_of job.now) line.now
+) -> Result<Counts, Full>
+    requires { Within job.now (length line.now) (length output.old) (length work.old) × (at ≤ length output.old) }
+    ensures { LineIs (offered set.now) (entries_of job.now) line.now
         at output.old output.new result }
 {
     if output.len() <= at {
-        return Pass::Full;
+        return Err(Full);
     }
     let end = output.len() - 1;
-    let room = end - at;
-    let passed = through::through(
-        set,
-        starts,
-        head,
-        counts,
-        job,
-        line,
-        &mut output[at..end],
-        &mut work[..room],
-    );
-    let Pass::Done(done) = passed else {
-        return Pass::Full;
-    };
-    let last = at + done.written;
-    output[last] = 10;
-    Pass::Done(Counts {
+    let done = through::through(set, job, line, &mut output[at..end], &mut work[..end - at])?;
+    output[at + done.written] = b'\n';
+    Ok(Counts {
         written: done.written + 1,
-        turns: done.turns,
-        lookups: done.lookups,
-        attempts: done.attempts,
-        accepted: done.accepted,
-        support: done.support,
-        bases: done.bases,
+        ..done
     })
-}
-
-pub fn add(a: Counts, b: Counts) -> Counts
-    requires { Countable (summed a b 0) }
-    ensures { Summed a b result }
-{
-    Counts {
-        written: a.written + b.written,
-        turns: a.turns + b.turns,
-        lookups: a.lookups + b.lookups,
-        attempts: a.attempts + b.attempts,
-        accepted: a.accepted + b.accepted,
-        support: support::weaker(a.accepted, a.support, b.accepted, b.support),
-        bases: a.bases + b.bases,
-    }
 }
 
 // The lines of a batch in turn.
 pub fn correct_lines(
-    set: &[u8],
-    starts: &[u32],
-    head: Header,
-    counts: &[u32],
+    set: &KmerSet,
     job: &[u8],
     batch: &[u8],
     output: &mut [u8],
     work: &mut [u8],
-) -> Answer
-    requires { Ready set.now starts.now head
-        × Within job.now (length batch.now) (length output.old) (length work.old)
+) -> Result<Report, Refusal>
+    requires { Within job.now (length batch.now) (length output.old) (length work.old)
         × (batch_right batch.now ≡ true) }
-    ensures { Exact (corrected (set_with set.now counts.now) (entries_of job.now) (10 ∷ [])
-        (given set.now [] counts.now job.now batch.now output.old work.old)
+    ensures { Exact (corrected (offered set.now) (entries_of job.now) (10 ∷ [])
+        (given set.now.bytes.now [] set.now.counts.now job.now batch.now output.old work.old)
         (lines batch.now))
         result output.new work.new }
 {
-    let mut done = Counts {
-        written: 0,
-        turns: 0,
-        lookups: 0,
-        attempts: 0,
-        accepted: 0,
-        support: 0,
-        bases: 0,
-    };
+    let mut done = Counts::default();
     let mut line = 0;
     let mut from = 0;
     while from < batch.len() {
         let end = input::line_end(batch, from);
-        let passed = correct_line(
-            set,
-            starts,
-            head,
-            counts,
-            job,
-            &batch[from..end],
-            done.written,
-            output,
-            work,
-        );
-        let Pass::Done(more) = passed else {
-            return report::no_room(line, output, work);
+        let corrected = correct_line(set, job, &batch[from..end], done.written, output, work);
+        let Ok(more) = corrected else {
+            return Err(report::no_room(line, output, work));
         };
-        done = add(done, more);
+        done = done.plus(more);
         line += 1;
         from = end + 1;
     }
-    report::accept(done, 0 < counts.len(), output, work)
+    let offered = !set.counts.is_empty();
+    Ok(report::accept(done, offered, output, work))
 }

@@ -1,7 +1,7 @@
 -- The call up to its opened set, by the rules.
 use Prim.Native.Nat.{ℕ}
 use mathlib.Core.Path.{◌≡◌, refl, sym, subst}
-use mathlib.Core.Bool.{true, false}
+use mathlib.Core.Bool.{true}
 use mathlib.Core.Option.{none, some}
 use mathlib.Core.Logic.{⊎_elim}
 use mathlib.Core.List.{List, []}
@@ -15,10 +15,9 @@ use Rattle.rules_needs.specs.Needs as goal
 use Rattle.rules_needs.specs.Needs.{needs_check, asked_check, declined}
 use Rattle.rules_needs.proofs.Needs.{needed-any, needs-right, needs-checked, needs-not-opened, needs-offer-wrong, needs-opened, needs-demand3}
 use Rattle.refusal.specs.declared.Refusal.{Refusal}
-use Rattle.refusal.specs.declared.Refusal.TheVariants.{Batch}
 use Rattle.refusal.specs.Refusal.{refusal_of}
-use Rattle.needs.specs.declared.Answer.{Answer}
-use Rattle.needs.specs.declared.Answer.TheVariants.{Need as Told, Refused}
+use Rattle.std.specs.Prelude.{Result, Ok, Err}
+use Rattle.needs.specs.declared.Need.{Need}
 use Rattle.set.specs.Counted.{set_with}
 use Rattle.offered.specs.Offered.{RefusedBy}
 use Rattle.needs.specs.Needs.{needs_of, Exact, Ceiling, Bookable, counted}
@@ -28,40 +27,40 @@ pub bookable : (batch : ℕ) (job : List ℕ) (work : ℕ) → needs_check batch
 bookable batch job work h = let p = needs-right batch job work h in record { input = p.0; one = p.1; confirms = p.2; room = p.3 }
 
 module _ (a : goal.Asked) where
-  refused-exact : (r : Refusal) → goal.needs a ≡ declined a (refusal_of r) → Exact (goal.needs a) (Refused r) a.work
+  refused-exact : (r : Refusal) → goal.needs a ≡ declined a (refusal_of r) → Exact (goal.needs a) (Err r) a.work
   unfolding declined
   refused-exact r e = rw e (record { answer = refl; zeroed = refl })
 
   -- Demand 3 follows from the answer.
-  pub ceiling : (r : Answer) {w : List ℕ} → Exact (goal.needs a) r w
+  pub ceiling : (r : Result Need Refusal) {w : List ℕ} → Exact (goal.needs a) r w
       → Ceiling (offering a.index a.counts (set_of a.set)) (entries_of a.job) (lines a.batch) r
-  ceiling (Told n) x = needs-demand3 a (needs_of n) (sym x.answer)
-  ceiling (Refused r) x = tt
+  ceiling (Ok n) x = needs-demand3 a (needs_of n) (sym x.answer)
+  ceiling (Err r) x = tt
 
   abbrev checks : Check
   checks = needs_check (length a.batch) a.job (length a.work)
 
-  pub checked_refused : (r : Refusal) → checks ≡ some (refusal_of r) → Exact (goal.needs a) (Refused r) a.work
+  pub checked_refused : (r : Refusal) → checks ≡ some (refusal_of r) → Exact (goal.needs a) (Err r) a.work
   unfolding asked_check ◌or_else◌
   checked_refused r e = refused-exact r (needs-checked a (refusal_of r) (rw e))
 
   module _ (e : checks ≡ none) where
-    pub not_right : batch_right a.batch ≡ false → Exact (goal.needs a) (Refused Batch) a.work
-    unfolding asked_check ◌or_else◌ unless
-    not_right b = refused-exact Batch (needs-checked a (refusal_of Batch) (rw (e, b)))
+    pub not_right : (r : Refusal) → some (refusal_of r) ≡ unless (batch_right a.batch) 6 → Exact (goal.needs a) (Err r) a.work
+    unfolding asked_check ◌or_else◌
+    not_right r six = refused-exact r (needs-checked a (refusal_of r) (rw e (sym six)))
 
     module _ (b : batch_right a.batch ≡ true) where
       passed-six : asked_check a ≡ none
       unfolding asked_check ◌or_else◌ unless
       passed-six = rw (e, b)
 
-      pub not_opened : (r : Refusal) → RefusedBy a.set a.index a.counts r → Exact (goal.needs a) (Refused r) a.work
+      pub not_opened : (r : Refusal) → RefusedBy a.set a.index a.counts r → Exact (goal.needs a) (Err r) a.work
       not_opened r =
           ⊎_elim (λ o. refused-exact r (needs-not-opened a (refusal_of r) passed-six o))
           (λ o. refused-exact r (needs-offer-wrong a (set_of a.set) passed-six o.0 (refusal_of r) o.1))
 
       -- The numbers are the same without index and counts.
-      pub counted-exact : opened a.set ≡ accepted (set_of a.set) → offer_check (set_of a.set) a.index a.counts ≡ none → (r : Answer) {w : List ℕ}
+      pub counted-exact : opened a.set ≡ accepted (set_of a.set) → offer_check (set_of a.set) a.index a.counts ≡ none → (r : Result Need Refusal) {w : List ℕ}
           → Exact (counted (set_with a.set a.counts) a.job a.batch a.work) r w → Exact (goal.needs a) r w
       unfolding index_check
       counted-exact o p r {w} x =

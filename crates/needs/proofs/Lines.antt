@@ -15,8 +15,8 @@ use Rattle.rules_needs.specs.Needs.{needed_for}
 use Rattle.rules_laws.proofs.Calls.{sum_first}
 use Rattle.input.specs.Input.{LineAt}
 use Rattle.report.proofs.Within.{few-lines}
-use Rattle.correct.specs.declared.Counts.{Counts}
-use Rattle.correct.specs.declared.Pass.TheVariants.{Done}
+use Rattle.turn.specs.declared.Counts.{Counts}
+use Rattle.std.specs.Prelude.{Ok}
 use Rattle.correct.specs.Pass.{one_pass, max_f}
 use Rattle.count.specs.Count.{Counted}
 use Rattle.needs.specs.declared.Need.{Need}
@@ -63,8 +63,8 @@ module _ (set : KmerSet) (e : Entry) where
       pub few_turns : done.turns + length (left from) * (2 * max_read) ≤ max_lines * (2 * max_read)
       pub few_lookups : done.lookups + length (left from) * (1 + max_read * max_f) ≤ max_lines * (1 + max_read * max_f)
 
-    pub begin : batch_right batch ≡ true → Going 0 (record { bytes = 0; turns = 0; lookups = 0 })
-    begin right =
+    pub begin : batch_right batch ≡ true → (done : Need) → (done.bytes ≡ 0) × ((done.turns ≡ 0) × (done.lookups ≡ 0)) → Going 0 done
+    begin right done zero =
         let few = few-lines batch right in
         record {
           bytes = omega arith;
@@ -77,7 +77,7 @@ module _ (set : KmerSet) (e : Entry) where
 
     -- A line more.
     pub next : (from end : ℕ) (done : Need) (more : Counts) {spare : ℕ} → Going from done → LineAt batch from end
-        → Counted (length (take (end - from) (drop from batch))) spare (one_pass set e (take (end - from) (drop from batch))) (Done more)
+        → Counted (length (take (end - from) (drop from batch))) spare (one_pass set e (take (end - from) (drop from batch))) (Ok more)
         → Going (end + 1) (plus_line done more)
     unfolding one_pass
     next from end done more g l c =

@@ -21,7 +21,7 @@ use Rattle.rules.specs.Counts.{sum, all_passes, turns, lookups, attempts, correc
 use Rattle.rules.specs.Calls.{Given, After, unchanged, no_room, too_long, results, report, corrected}
 use Rattle.rules_ceiling.proofs.Demands.{ceilings}
 use Rattle.rules_laws.proofs.Offered.{same-report}
-use Rattle.correct.specs.declared.Counts.{Counts}
+use Rattle.turn.specs.declared.Counts.{Counts}
 use Rattle.report.specs.declared.Report.{Report}
 use Rattle.refusal.specs.declared.Refusal.{Refusal}
 use Rattle.refusal.specs.declared.Refusal.TheVariants.{NoRoom}

@@ -2,7 +2,7 @@
 use Rattle.std.specs.Prelude.{ℕ, ◌-◌, ◌≡◌, Bool, ◌&&◌, List, ◌++◌, length, take, replicate, ltb}
 use Rattle.std.specs.Bool.{then_some}
 use Rattle.rules.specs.Report.{yield_of, quotient_of, remainder_of}
-use Rattle.correct.specs.declared.Counts.{Counts}
+use Rattle.turn.specs.declared.Counts.{Counts}
 use Rattle.report.specs.declared.Report.{Report}
 
 -- The bytes written stay, the rest of the output and the whole work buffer, of length w, are zero.
