@@ -38,9 +38,6 @@ marked-none bytes shift prefixes starts zeros = (
 
 -- ---- keys of one prefix
 
-pub run-one : (bytes : List ℕ) (shift v i : ℕ) → v ≡ prefix shift (key_word bytes i) → Run bytes shift v i (i + 1)
-run-one bytes shift v i e j l h = let same : j ≡ i = omega arith in rw same (sym e)
-
 -- Between two keys of one prefix all have it.
 pub run_more : (bytes : List ℕ) (shift v i m step : ℕ) → set_check bytes ≡ none → step ≡ m + 1 → i + step ≤ header_n bytes → v ≡ prefix shift (key_word bytes i)
     → prefix shift (key_word bytes (i + m)) ≡ v → Run bytes shift v i (i + step)
