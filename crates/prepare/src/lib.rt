@@ -8,6 +8,7 @@ ghost use Rattle.rules.specs.Index.{index_blocks, index_check};
 ghost use Rattle.kmer.specs.Kmer.{Shifts};
 ghost use Rattle.set.specs.Ready.{table_length, Ready, Ranged};
 
+use index::OpenSet;
 use kmer::Header;
 
 // How many bits a prefix has: at most 16, at most a key's 2k, and no more than four prefixes to a key.
@@ -27,24 +28,23 @@ fn header(k: usize, n: usize, bits: usize, finer: usize) -> Header
 }
 
 // The table made from the keys, by prefixes of so many bits.
-fn by_keys(set: &[u8], k: usize, n: usize, bits: usize, finer: usize, starts: &mut [u32]) -> Header
-    requires { (set_check set.now ≡ none) × (k ≡ header_k set.now) × (n ≡ header_n set.now) × (length starts.old ≡ table_length)
-        × (bits ≤ 16) × (bits ≤ 2 * k) × (finer ≤ bits) }
-    ensures { Ready set.now starts.new result × (result.k ≡ k) × (result.shift + result.finer ≡ 2 * k - bits + finer) }
+fn by_keys(set: &OpenSet, bits: usize, finer: usize, starts: &mut [u32]) -> Header
+    requires { (length starts.old ≡ table_length) × (bits ≤ 16) × (bits ≤ 2 * set.now.k) × (finer ≤ bits) }
+    ensures { Ready set.now.bytes.now starts.new result × (result.k ≡ set.now.k) × (result.shift + result.finer ≡ 2 * set.now.k - bits + finer) }
 {
-    let head = header(k, n, bits, finer);
-    starts::fill(set, n, head.shift, 1 << bits, starts);
+    let head = header(set.k, set.n, bits, finer);
+    starts::fill(set, head.shift, 1 << bits, starts);
     head
 }
 
-fn by_index(set: &[u8], index: &[u8], k: usize, n: usize, starts: &mut [u32]) -> Header
-    requires { (set_check set.now ≡ none) × (k ≡ header_k set.now) × (n ≡ header_n set.now) × (length starts.old ≡ table_length)
-        × (index.now ≡ index_blocks (set_of set.now)) }
-    ensures { Ready set.now starts.new result × (result.k ≡ k) × (result.shift + result.finer ≡ 2 * (k - first_letters k)) }
+fn by_index(set: &OpenSet, index: &[u8], starts: &mut [u32]) -> Header
+    requires { (length starts.old ≡ table_length) × (index.now ≡ index_blocks (set_of set.now.bytes.now)) }
+    ensures { Ready set.now.bytes.now starts.new result × (result.k ≡ set.now.k)
+        × (result.shift + result.finer ≡ 2 * (set.now.k - first_letters set.now.k)) }
 {
-    let bits = 2 * index::letters(k);
+    let bits = 2 * index::letters(set.k);
     starts::copy_entries(index, (1 << bits) + 1, starts);
-    header(k, n, bits, 0)
+    header(set.k, set.n, bits, 0)
 }
 
 // Whether a table finer than an index is worth the walk over the keys: any answer is right.
@@ -65,13 +65,14 @@ pub fn prepare(
         × (index_check (set_of set.now) index.now ≡ none) }
     ensures { Ready set.now starts.new result × Ranged index.now result }
 {
+    let open = OpenSet { bytes: set, k, n };
     let bits = prefix_bits(k, n);
-    if index.len() == 0 {
-        return by_keys(set, k, n, bits, bits, starts);
+    if index.is_empty() {
+        return by_keys(&open, bits, bits, starts);
     }
     let letters = 2 * index::letters(k);
     if letters < bits && pays(bases) {
-        return by_keys(set, k, n, bits, bits - letters, starts);
+        return by_keys(&open, bits, bits - letters, starts);
     }
-    by_index(set, index, k, n, starts)
+    by_index(&open, index, starts)
 }

@@ -2,47 +2,48 @@
 #![tactic(auto)]
 
 ghost use Rattle.std.specs.Prelude.{◌≡◌, ℕ, ◌+◌, ◌*◌, ◌/◌, ◌^◌, ◌≤◌, ◌<◌, eqb, length, get_or};
-ghost use Rattle.std.proofs.Math.Option.{none};
-ghost use Rattle.rules.specs.Set.{header_n, key_word, set_check, entry_in};
+ghost use Rattle.rules.specs.Set.{key_word, entry_in};
 ghost use Rattle.set.specs.Ready as table;
 ghost use Rattle.set.specs.Ready.{Below, Filled};
 ghost use Rattle.starts.specs.Ends.{Marked, Run, highest};
 
-fn has_prefix(set: &[u8], shift: u32, prefix: usize, i: usize) -> bool
-    requires { (set_check set.now ≡ none) × (shift < 64) × (i < header_n set.now) }
-    ensures { result ≡ eqb (table.prefix shift (key_word set.now i)) prefix }
+use index::OpenSet;
+
+fn has_prefix(set: &OpenSet, shift: u32, prefix: usize, i: usize) -> bool
+    requires { (shift < 64) × (i < set.now.n) }
+    ensures { result ≡ eqb (table.prefix shift (key_word set.now.bytes.now i)) prefix }
 {
-    set::prefix_of(few_keys::key_at(set, 0, i), shift) == prefix
+    set::prefix_of(few_keys::key_at(set.bytes, 0, i), shift) == prefix
 }
 
 // A few keys from key i on that have its prefix: any number is right. In a small set few keys have one prefix.
-fn run(set: &[u8], n: usize, shift: u32, prefix: usize, i: usize) -> usize
-    requires { (set_check set.now ≡ none) × (n ≡ header_n set.now) × (shift < 64) × (i < n) × (prefix ≡ table.prefix shift (key_word set.now i)) }
-    ensures { (1 ≤ result) × (i + result ≤ n) × Run set.now shift prefix i (i + result) }
+fn run(set: &OpenSet, shift: u32, prefix: usize, i: usize) -> usize
+    requires { (shift < 64) × (i < set.now.n) × (prefix ≡ table.prefix shift (key_word set.now.bytes.now i)) }
+    ensures { (1 ≤ result) × (i + result ≤ set.now.n) × Run set.now.bytes.now shift prefix i (i + result) }
 {
-    if n < 3000000 {
+    if set.n < 3000000 {
         return 1;
     }
-    if i + 48 <= n && has_prefix(set, shift, prefix, i + 47) {
+    if i + 48 <= set.n && has_prefix(set, shift, prefix, i + 47) {
         return 48;
     }
-    if i + 6 <= n && has_prefix(set, shift, prefix, i + 5) {
+    if i + 6 <= set.n && has_prefix(set, shift, prefix, i + 5) {
         return 6;
     }
     1
 }
 
 // Entry v + 1: where prefix v ends. The last key of a prefix is the last to store.
-fn mark_ends(set: &[u8], n: usize, shift: u32, prefixes: usize, starts: &mut [u32])
-    requires { (set_check set.now ≡ none) × (n ≡ header_n set.now) × (shift < 64) × (prefixes < length starts.old) × Below set.now shift prefixes n
+fn mark_ends(set: &OpenSet, shift: u32, prefixes: usize, starts: &mut [u32])
+    requires { (shift < 64) × (prefixes < length starts.old) × Below set.now.bytes.now shift prefixes set.now.n
         × ((v : ℕ) → v < prefixes + 1 → get_or starts.old v 0 ≡ 0) }
-    ensures { Marked set.now shift n prefixes starts.new }
+    ensures { Marked set.now.bytes.now shift set.now.n prefixes starts.new }
 {
     let mut i = 0;
     // By runs, so no iterator over the keys.
-    while i < n {
-        let prefix = set::prefix_of(few_keys::key_at(set, 0, i), shift);
-        let step = run(set, n, shift, prefix, i);
+    while i < set.n {
+        let prefix = set::prefix_of(few_keys::key_at(set.bytes, 0, i), shift);
+        let step = run(set, shift, prefix, i);
         starts[prefix + 1] = (i + step) as u32;
         i += step;
     }
@@ -60,12 +61,12 @@ fn carry_ends(starts: &mut [u32])
 }
 
 // The first entries, each where its prefix starts.
-pub fn fill(set: &[u8], n: usize, shift: u32, prefixes: usize, starts: &mut [u32])
-    requires { (set_check set.now ≡ none) × (n ≡ header_n set.now) × (shift < 64) × (prefixes < length starts.old) × Below set.now shift prefixes n }
-    ensures { Filled set.now shift (prefixes + 1) starts.new }
+pub fn fill(set: &OpenSet, shift: u32, prefixes: usize, starts: &mut [u32])
+    requires { (shift < 64) × (prefixes < length starts.old) × Below set.now.bytes.now shift prefixes set.now.n }
+    ensures { Filled set.now.bytes.now shift (prefixes + 1) starts.new }
 {
     starts[..prefixes + 1].fill(0);
-    mark_ends(set, n, shift, prefixes, starts);
+    mark_ends(set, shift, prefixes, starts);
     carry_ends(&mut starts[..prefixes + 1]);
 }
 

@@ -12,37 +12,37 @@ use Rattle.prepare.proofs.by_index.Goals as goal
 
 -- As many entries as an index has.
 count : (c : After-letters-bits) → let a = c.args in
-    1 * 2 ^ (2 * c.letters-bits.result) % 2 ^ 64 + 1 ≡ index_entries a.k
+    1 * 2 ^ (2 * c.letters-bits.result) % 2 ^ 64 + 1 ≡ index_entries a.set.now.k
 count c = shifted _ c.letters-bits.result c.letters-bits.ensures
 
 pub overflow_add-bits : goal.overflow_add-bits
-overflow_add-bits c = let a = c.args in omega (arith, count c, count-few a.k)
+overflow_add-bits c = let a = c.args in omega (arith, count c, count-few a.set.now.k)
 
 pub copy_entries-requires : goal.copy_entries-requires
 copy_entries-requires c =
-    let e = count (goal.at.copy_entries-requires c).After-letters-bits ∙ ap index_entries c.requires.1 in
-    let long = ap length c.requires.4 ∙ index-length _ c.requires.0 in
+    let e = count (goal.at.copy_entries-requires c).After-letters-bits ∙ ap index_entries c.args.set.now.opens.k_is in
+    let long = ap length c.requires.1 ∙ index-length _ c.args.set.now.opens.right in
     record {
-      entries_in_bounds = (omega (arith, count (goal.at.copy_entries-requires c).After-letters-bits, count-few c.args.k, c.requires.3), rw (e, long) (omega arith));
-      by_index = rw (e, c.requires.4) (entry-small _ c.requires.0);
+      entries_in_bounds = (omega (arith, count (goal.at.copy_entries-requires c).After-letters-bits, count-few c.args.set.now.k, c.requires.0), rw (e, long) (omega arith));
+      by_index = rw (e, c.requires.1) (entry-small _ c.args.set.now.opens.right);
     }
 
 pub header-requires : goal.header-requires
 header-requires c =
-    omega (arith, c.letters-bits.ensures, c.requires.1, opened-k-low _ c.requires.0, opened-k-high _ c.requires.0)
+    omega (arith, c.letters-bits.ensures, c.args.set.now.opens.k_is, opened-k-low _ c.args.set.now.opens.right, opened-k-high _ c.args.set.now.opens.right)
 
 pub returns : goal.returns
 returns c =
     let h = c.header.ensures in
-    let k_is = h.1 ∙ c.requires.1 in
-    let e = count (goal.at.returns c).After-letters-bits ∙ ap index_entries c.requires.1 in
-    let same = rw (e, c.requires.4) at c.copy_entries.ensures in
-    let shift_is : c.header.result.shift ≡ 2 * (c.args.k - first_letters c.args.k) = omega (arith, h.3, c.letters-bits.ensures) in (
+    let k_is = h.1 ∙ c.args.set.now.opens.k_is in
+    let e = count (goal.at.returns c).After-letters-bits ∙ ap index_entries c.args.set.now.opens.k_is in
+    let same = rw (e, c.requires.1) at c.copy_entries.ensures in
+    let shift_is : c.header.result.shift ≡ 2 * (c.args.set.now.k - first_letters c.args.set.now.k) = omega (arith, h.3, c.letters-bits.ensures) in (
       record {
         k_is = k_is;
-        n_is = h.2 ∙ c.requires.2;
+        n_is = h.2 ∙ c.args.set.now.opens.n_is;
         shifts = h.0;
-        table = rw h.4 (index-table _ c.requires.0 _ c.header.result.shift (rw c.requires.1 at shift_is) (omega (arith, c.requires.3, count-few (header_k c.args.set.now))) same);
+        table = rw h.4 (index-table _ c.args.set.now.opens.right _ c.header.result.shift (rw c.args.set.now.opens.k_is at shift_is) (omega (arith, c.requires.0, count-few (header_k c.args.set.now.bytes.now))) same);
       },
       h.1,
       omega (arith, shift_is, h.4),

@@ -9,39 +9,39 @@ use Rattle.prepare.proofs.by_keys.Goals as goal
 
 pub header-head-requires : goal.header-head-requires
 header-head-requires c =
-    let p = c.requires in
-    (omega (arith, opened-k-low _ p.0), omega (arith, opened-k-high _ p.0), p.5, p.6)
+    let o = c.args.set.now.opens in
+    (omega (arith, o.k_is, opened-k-low _ o.right), omega (arith, o.k_is, opened-k-high _ o.right), c.requires.2, c.requires.3)
 
 -- The table's entries, but for the last.
 entries : (c : After-header-head) → let r = c.header-head.result in
     (1 * 2 ^ c.args.bits % 2 ^ 64 ≡ prefixes r.k r.shift) × (prefixes r.k r.shift < table_length)
 entries c =
-    prefixes-are _ c.args.bits c.header-head.result c.header-head.ensures.1 c.header-head.ensures.3 c.requires.4 c.requires.5
+    prefixes-are _ c.args.bits c.header-head.result c.header-head.ensures.1 c.header-head.ensures.3 c.requires.1 c.requires.2
 
 pub fill-requires : goal.fill-requires
 fill-requires c =
-    let all = below_all _ c.header-head.result c.requires.0 (c.header-head.ensures.1 ∙ c.requires.1) (omega (arith, c.header-head.ensures.1, c.header-head.ensures.3)) in (
-      c.requires.0,
-      c.requires.2,
-      omega (arith, c.header-head.ensures.3, opened-k-high _ c.requires.0),
+    let o = c.args.set.now.opens in
+    let all = below_all _ c.header-head.result o.right (c.header-head.ensures.1 ∙ o.k_is) (omega (arith, c.header-head.ensures.1, c.header-head.ensures.3)) in (
+      omega (arith, c.header-head.ensures.3, o.k_is, opened-k-high _ o.right),
       omega (arith, entries (goal.at.fill-requires c).After-header-head),
-      rw ((entries (goal.at.fill-requires c).After-header-head).0, c.requires.2) all,
+      rw ((entries (goal.at.fill-requires c).After-header-head).0, o.n_is) all,
     )
 
 pub returns : goal.returns
 returns c =
-    let k_is = c.header-head.ensures.1 ∙ c.requires.1 in (
+    let o = c.args.set.now.opens in
+    let k_is = c.header-head.ensures.1 ∙ o.k_is in (
       record {
         k_is = k_is;
-        n_is = c.header-head.ensures.2 ∙ c.requires.2;
+        n_is = c.header-head.ensures.2 ∙ o.n_is;
         shifts = c.header-head.ensures.0;
         table = record {
-          opens = c.requires.0;
-          shift_le = rw (← k_is) (omega (arith, c.header-head.ensures, c.requires.5, c.requires.6));
-          starts_length = rw (← k_is) (omega (arith, entries (goal.at.returns c).After-header-head, c.requires.3));
+          opens = o.right;
+          shift_le = rw (← k_is) (omega (arith, c.header-head.ensures, c.requires.2, c.requires.3));
+          starts_length = rw (← k_is) (omega (arith, entries (goal.at.returns c).After-header-head, c.requires.0));
           starts_right = rw (← k_is) (rw (entries (goal.at.returns c).After-header-head).0 at c.fill.ensures);
         };
       },
       c.header-head.ensures.1,
-      omega (arith, c.header-head.ensures, c.requires.5, c.requires.6),
+      omega (arith, c.header-head.ensures, c.requires.2, c.requires.3),
     )

@@ -1,3 +1,6 @@
+use mathlib.Core.Path.{sym, ◌∙◌}
+use mathlib.Core.Bool.{false≢true}
+use borrow.Author.Tests.{eq-eqb}
 use native.Mathlib.Omega.{arith}
 use Rattle.set.proofs.Opened.{opened-k-high, opened-n-le}
 use Rattle.prepare.proofs.Indexed.{offered-is}
@@ -9,4 +12,4 @@ prefix_bits-bits-requires c = let p = c.requires in omega (arith, opened-k-high 
 pub by_index-requires : goal.by_index-requires
 by_index-requires c =
     let p = c.requires in
-    (p.0, p.1, p.2, p.3, offered-is _ _ p.4 (λ h. omega (arith, c.if-index-eq0.false)))
+    (p.3, offered-is _ _ p.4 (λ e. false≢true (sym c.if-is_empty.false ∙ c.is_empty.ensures ∙ eq-eqb _ _ e)))

@@ -13,4 +13,4 @@ returns c v l =
     let room = length-take-le m marked (omega (arith, c.mark_ends.auto.starts)) in
     let first = get_or-append c.carry_ends.new.starts (drop m marked) 0 v (omega (arith, c.carry_ends.auto.starts)) in
     rw (first ∙ c.carry_ends.ensures v (omega arith) ∙ highest-take m marked v l)
-    (starts-highest _ _ _ _ c.requires.0 (rw c.requires.1 at c.mark_ends.ensures) v l)
+    (starts-highest _ _ _ _ c.args.set.now.opens.right (rw c.args.set.now.opens.n_is at c.mark_ends.ensures) v l)

@@ -13,27 +13,23 @@ use Rattle.starts.proofs.mark_ends.Goals.{After-prefix_of-prefix}
 use Rattle.starts.proofs.mark_ends.Goals as goal
 
 pub loop-i-init : goal.loop-i-init
-loop-i-init c = (search rules, refl, marked-none _ _ _ c.args.starts.now c.requires.5)
+loop-i-init c = (omega arith, refl, marked-none _ _ _ c.args.starts.now c.requires.3)
 
 pub key_at-requires : goal.key_at-requires
-key_at-requires c = opened-key-room _ c.requires.0 _ (omega (arith, c.requires.1))
+key_at-requires c = let o = c.args.set.now.opens in opened-key-room _ o.right _ (omega (arith, o.n_is))
 
 -- The key's prefix is one of the table's.
 known : (c : After-prefix_of-prefix) → let a = c.args in
-    (c.prefix_of-prefix.result ≡ prefix a.shift (key_word a.set.now c.loop-i.i)) × (c.prefix_of-prefix.result < a.prefixes)
+    (c.prefix_of-prefix.result ≡ prefix a.shift (key_word a.set.now.bytes.now c.loop-i.i)) × (c.prefix_of-prefix.result < a.prefixes)
 known c =
-    let is = c.prefix_of-prefix.ensures ∙ ap (prefix c.args.shift) (c.key_at.ensures ∙ key-whole c.args.set.now c.loop-i.i) in
-    (is, rw is (c.requires.4 _ (search rules)))
+    let is = c.prefix_of-prefix.ensures ∙ ap (prefix c.args.shift) (c.key_at.ensures ∙ key-whole c.args.set.now.bytes.now c.loop-i.i) in
+    (is, rw is (c.requires.2 _ (search rules)))
 
 pub run-step-requires : goal.run-step-requires
-run-step-requires c =
-    (c.requires.0, c.requires.1, c.requires.2, search rules, (known c).0)
-
-pub overflow_add-starts : goal.overflow_add-starts
-overflow_add-starts c = omega (arith, c.run-step.ensures.1, c.requires.1, opened-n-le _ c.requires.0)
+run-step-requires c = (c.requires.0, search rules, (known c).0)
 
 pub overflow_cast-starts : goal.overflow_cast-starts
-overflow_cast-starts c = omega (arith, c.run-step.ensures.1, c.requires.1, opened-n-le _ c.requires.0)
+overflow_cast-starts c = let o = c.args.set.now.opens in omega (arith, c.run-step.ensures.1, o.n_is, opened-n-le _ o.right)
 
 pub overflow_add-starts-in-loop-i : goal.overflow_add-starts-in-loop-i
 overflow_add-starts-in-loop-i c = omega (arith, (known (goal.at.overflow_add-starts-in-loop-i c).After-prefix_of-prefix).1)
@@ -43,12 +39,6 @@ offset_bounds-starts-prefix c = omega (arith, (known (goal.at.offset_bounds-star
 
 pub bounds-starts-prefix : goal.bounds-starts-prefix
 bounds-starts-prefix c = omega (arith, (known (goal.at.bounds-starts-prefix c).After-prefix_of-prefix).1)
-
-pub overflow_add-i : goal.overflow_add-i
-overflow_add-i c = omega (arith, c.run-step.ensures.1, c.requires.1, opened-n-le _ c.requires.0)
-
-pub loop-i-smaller : goal.loop-i-smaller
-loop-i-smaller c = omega (arith, c.run-step.ensures.0, c.run-step.ensures.1)
 
 pub loop-i-preserved : goal.loop-i-preserved
 loop-i-preserved c =
@@ -60,4 +50,4 @@ loop-i-preserved c =
     )
 
 pub returns : goal.returns
-returns c = let l = c.loop-i in let all : l.i ≡ c.args.n = omega arith in rw (← all) l.invariant.2
+returns c = let l = c.loop-i in let all : l.i ≡ c.args.set.now.n = omega arith in rw (← all) l.invariant.2
