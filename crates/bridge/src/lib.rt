@@ -27,7 +27,8 @@ pub struct Bridge {
     pub letters: [u8; 16],
 }
 
-// Rounds of 1 move, 2 moves and so on, while shorter than the deep search's chain of so many moves. The floor is the round's moves.
+// Rounds of 1 move, 2 moves and so on, while shorter than the deep search's chain of so many moves. It is a `while`,
+// since the floor is the round at which it ends. An array field goes into a literal by way of a variable, as the borrow checker asks.
 fn rounds(set: &KmerSet, from: Kmer, to: u64, budget: u64, deep: Search, moves: usize) -> Bridge
     requires { IsKmer set.now.head.k from × (from.unknown ≡ 0) × (deep.lookups ≤ budget) × (moves ≤ 16)
         × (deep.letters ≡ laid 0 (take moves deep.letters)) × (length (take moves deep.letters) ≡ moves) }

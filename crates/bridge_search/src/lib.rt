@@ -63,6 +63,7 @@ pub fn from_kmer(
     let mut places = [0; 4];
     let nucs = successors::next_nucs(set, kmer, &mut places);
     let mut spent = lookups + 4;
+    // By code: it is the letter as well as the index.
     for nuc in 0..4usize {
         if nucs[nuc] {
             let r = from_letter(set, kmer, nuc as u64, to, made, left, budget, spent);

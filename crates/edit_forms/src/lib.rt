@@ -61,7 +61,8 @@ fn is_formed(k: usize, read: &[u8], edits: &[u64], letters: &[u8], i: usize, giv
     edit.gives <= (letters.len() - given) as u64 && is_behind(edits, i)
 }
 
-// All edits, in their order; else the first that offends. The last may have fewer than three numbers.
+// All edits, in their order; else the first that offends. The last may have fewer than three numbers. It goes by their numbers, since one is
+// the answer.
 pub fn judge_forms(k: usize, read: &[u8], edits: &[u64], letters: &[u8]) -> Result<Formed, usize>
     ensures { (mended : List ℕ) → FormedIs k (rules.sheet read.now mended edits.now letters.now) result }
 {

@@ -16,7 +16,7 @@ pub struct Count {
     pub solid: u64,
 }
 
-// A plain loop of lookups.
+// A plain loop of lookups, by index, since reading ahead takes one.
 fn count_kmers(set: &KmerSet, read: &[u8]) -> u64
     requires { set.now.head.k ≤ length read.now }
     ensures { result ≡ solids (set_of set.now.bytes.now) (kmers_of set.now.head.k read.now) }
