@@ -2,7 +2,7 @@
 // 02, W8 and W10.
 #![tactic(auto)]
 
-ghost use Rattle.std.specs.Prelude.{◌≡◌, ◌≤◌, length, take};
+ghost use Rattle.std.specs.Prelude.{◌≡◌, ◌≤◌, length};
 ghost use Rattle.rules.specs.Job.{entry};
 ghost use Rattle.rules.specs.Calls.{max_read};
 ghost use Rattle.turn.specs.Turn.{offered};
@@ -13,13 +13,6 @@ use kmer::Kmer;
 use set::KmerSet;
 use turn::Place;
 pub use turn::{Counts, Full};
-
-pub fn copy(src: &[u8], dst: &mut [u8])
-    requires { length src.now ≤ length dst.old }
-    ensures { take (length src.now) dst.new ≡ src.now }
-{
-    dst[..src.len()].copy_from_slice(src);
-}
 
 // The first k-mer, asked. Its letters count as put out.
 pub fn begin(set: &KmerSet, read: &[u8]) -> Place

@@ -268,11 +268,6 @@ module _ {set : KmerSet} {method c : ℕ} {p : Place} {read : List ℕ} (t : Tur
         ap (end_of set method c) did.is
         ∙ sym (ap (λ (q : State). q.done) (finish-step k sol count ce (ready-steady set method c t.confirm) st b s rest-is))
 
-    -- what it puts out is part of the result
-    pub put-within : length put + length did.more ≤ length (end_of set method c st).bytes
-    unfolding state_of
-    put-within = omega (arith, (done-within _ (sym did.is)).bytes, length-append put did.more)
-
     pub fewer-left : left k sol ce (kmer_of p'.kmer) (drop p'.at read) < left k sol ce (kmer_of p.kmer) (drop p.at read)
     unfolding state_of
     fewer-left =
