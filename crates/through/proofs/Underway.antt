@@ -68,21 +68,6 @@ module _ (set : KmerSet) (job : List ℕ) where
   abbrev pub most_of : List ℕ → List ℕ → Counts → ℕ
   most_of output work first = longest set (entries_left job 1) (take first.written (held (n - 1) output work))
 
-  -- the first pass is done
-  pub one-done : (output work : List ℕ) (first : Counts) → 0 < n → length work ≡ length output → length output ≤ max_read → first.written ≤ length output
-      → Small 1 (tally_of first output) → Underway (whole_of output work first) (most_of output work first) output work first 1
-  one-done output work first some rooms short written one =
-      record {
-        low = omega arith;
-        high = some;
-        rooms = rooms;
-        short = short;
-        written = written;
-        counts = refl;
-        longs = refl;
-        small = record { turns = one.turns; lookups = one.lookups; attempts = one.attempts; accepted = one.accepted; bases = one.bases };
-      }
-
   -- small counts stay small whatever a buffer holds
   pub small-there : (q : Tally) (first : Counts) (h out : List ℕ) → tally_of first h ≡ q → Small 1 q → Small 1 (tally_of first out)
   small-there q first h out e s =
