@@ -1,25 +1,18 @@
 -- Numbers laid into a lent slice.
-use Prim.Native.Nat.{ℕ, suc, ◌+◌, ◌≤◌, ◌<◌, min}
+use Prim.Native.Nat.{ℕ, ◌≤◌, ◌<◌, min}
 use native.Mathlib.Omega.{arith}
-use native.Mathlib.Numerals.{add-one}
 use mathlib.Core.Bool.{Bool, true, false}
 use mathlib.Core.Path.{◌≡◌, refl, ◌∙◌}
-use mathlib.Core.List.{List, ◌++◌, append_assoc}
+use mathlib.Core.List.{List, ◌++◌}
 use lib.Dec.{leb}
 use borrow.Author.Tests.{leb-true, leb-false}
-use lib.ListN.{length, get_or, take, drop, set, length-append, length-take, length-drop, drop_of_length-le, get_or-append}
-use lib.Seq.{take_all, take-suc, drop-cons, set_at, length-take-le, get_or-take}
+use lib.ListN.{length, get_or, take, drop, length-append, length-take, length-drop, drop_of_length-le, get_or-append}
+use lib.Seq.{take_all, get_or-take}
 use Rattle.answer_numbers.specs.Numbers.{laid}
 
 -- The first i of the numbers before what was there.
 abbrev pub begun : ℕ → List ℕ → List ℕ → List ℕ
 begun i ns old = take i ns ++ drop i old
-
-pub one_more : (i : ℕ) (ns old : List ℕ) → i < length ns → i < length old → set (begun i ns old) i (get_or ns i 0) ≡ begun (i + 1) ns old
-one_more i ns old h l =
-    let n : length (take i ns) ≡ i = length-take-le i ns (omega arith) in
-    rw (drop-cons old i 0 l, add-one, take-suc ns i 0 h, append_assoc)
-    (set_at (take i ns) (get_or old i 0) (drop (suc i) old) (get_or ns i 0) i n)
 
 module _ (ns old : List ℕ) (i : ℕ) where
   begun-whole : i ≡ length ns → length ns ≤ length old → begun i ns old ≡ laid ns old

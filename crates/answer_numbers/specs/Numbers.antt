@@ -1,11 +1,12 @@
 -- What a host is told: a call's answer as numbers in a lent slice.
-use Rattle.std.specs.Prelude.{ℕ, ◌≡◌, Bool, true, false, List, [], ◌∷◌, ◌++◌, length, get_or, take, drop}
+use Rattle.std.specs.Prelude.{ℕ, ◌≡◌, List, [], ◌∷◌, ◌++◌, length, get_or, take, drop, Result}
 use Rattle.std.proofs.Math.Option.{Option, none, some}
 use Rattle.rules.specs.Refusal.{Refusal, Outcome, accepted, refused, Check}
 use Rattle.rules.specs.Report.{Report}
 use Rattle.rules.specs.Set.{KmerSet, opened}
 use Rattle.rules.specs.Solid.{Solids}
 use Rattle.rules_needs.specs.Needs.{Needs}
+use Rattle.refusal.specs.declared.Refusal.{Refusal as Reason}
 use Rattle.opening.specs.declared.Opened.{Opened}
 use Rattle.opening.specs.Opened.{Opens}
 
@@ -13,10 +14,6 @@ use Rattle.opening.specs.Opened.{Opens}
 abbrev pub support_numbers : Option ℕ → List ℕ → List ℕ
 support_numbers none ns = 0 ∷ 0 ∷ ns
 support_numbers (some v) ns = 1 ∷ v ∷ ns
-
-abbrev pub support_number : Bool → ℕ → ℕ
-support_number true v = v
-support_number false v = 0
 
 -- A call: the refusal's number (0: accepted), its place, then written, turns, lookups, attempts, accepted, yield, supported, support, quotient,
 -- remainder, bases. What does not apply is 0.
@@ -36,7 +33,7 @@ open_numbers (accepted set) = 0 ∷ 0 ∷ set.k ∷ length set.keys ∷ []
 open_numbers (refused r) = refused_numbers r
 
 -- What opening answered, told as the rules' numbers: of any bytes that open so.
-abbrev pub OpenNumbers : Opened → List ℕ → Type 0
+abbrev pub OpenNumbers : Result Opened Reason → List ℕ → Type 0
 OpenNumbers o ns = (bytes : List ℕ) → Opens bytes o → ns ≡ open_numbers (opened bytes)
 
 -- Counting: the refusal's number (0: none), its place, the read's k-mers, the solid ones among them.

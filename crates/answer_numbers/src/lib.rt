@@ -1,35 +1,38 @@
 // A call's answer as numbers, and numbers told in a slice that the host lends.
 #![tactic(auto)]
 
-ghost use Rattle.std.specs.Prelude.{◌≡◌, ◌<◌, length};
-ghost use Rattle.refusal.specs.Refusal.{refusal_of};
+ghost use Rattle.std.specs.Prelude.{◌≡◌, ◌-◌, ◌≤◌, ◌<◌, ◌∷◌, length, replicate};
+ghost use Rattle.refusal.specs.Refusal.{refusal_of, check_of};
 ghost use Rattle.report.specs.Answer.{answer_of};
 ghost use Rattle.solid.specs.Solid.{count_of};
 ghost use Rattle.lay.specs.Made.{outcome_of};
 ghost use Rattle.needs.specs.Needs.{answer_of as needs_told};
-ghost use Rattle.input.specs.Input.{check_of};
-ghost use Rattle.answer_numbers.specs.Numbers.{support_number, numbers_of, refused_numbers, OpenNumbers, solid_numbers, made_numbers, needs_numbers, check_numbers, Told};
+ghost use Rattle.answer_numbers.specs.Numbers.{numbers_of, OpenNumbers, solid_numbers, made_numbers, needs_numbers, check_numbers, Told};
 
-use input::Input;
-use lay::Made;
+use needs::Need;
 use opening::Opened;
 use refusal::Refusal;
-use report::Answer;
+use report::Report;
 use solid::Count;
 
-// The number of a support, 0 where there is none.
-fn support_number(supported: bool, support: u32) -> u64
-    ensures { result ≡ support_number supported support }
+// Of a refusal, its number and place; what does not apply is 0.
+fn refused<const N: usize>(refusal: Refusal) -> [u64; N]
+    requires { 2 ≤ N }
+    ensures { result ≡ (refusal_of refusal).number ∷ (refusal_of refusal).place ∷ replicate (N - 2) 0 }
 {
-    if supported { support as u64 } else { 0 }
+    let mut numbers = [0; N];
+    numbers[0] = refusal.number();
+    numbers[1] = refusal.place();
+    numbers
 }
 
 // The numbers of a call.
-pub fn numbers_of(answer: Answer) -> [u64; 13]
+#[tactic(auto, unfolding(crate::specs::Numbers::numbers_of))]
+pub fn numbers_of(answer: Result<Report, Refusal>) -> [u64; 13]
     ensures { result ≡ numbers_of (answer_of answer) }
 {
     match answer {
-        Answer::Report(report) => [
+        Ok(report) => [
             0,
             0,
             report.written as u64,
@@ -38,95 +41,67 @@ pub fn numbers_of(answer: Answer) -> [u64; 13]
             report.attempts,
             report.accepted,
             report.yield_,
-            report.supported as u64,
-            support_number(report.supported, report.support),
+            report.support.is_some() as u64,
+            u64::from(report.support.unwrap_or(0)),
             report.quotient,
             report.remainder,
             report.bases,
         ],
-        Answer::Refused(refusal) => [
-            refusal::number_of(refusal),
-            refusal::place_of(refusal),
-            0,
-            0,
-            0,
-            0,
-            0,
-            0,
-            0,
-            0,
-            0,
-            0,
-            0,
-        ],
+        Err(refusal) => refused(refusal),
     }
 }
 
-// The four numbers of a call that answers two.
-fn refused_numbers(refusal: Refusal) -> [u64; 4]
-    ensures { result ≡ refused_numbers (refusal_of refusal) }
-{
-    [
-        refusal::number_of(refusal),
-        refusal::place_of(refusal),
-        0,
-        0,
-    ]
-}
-
 // The numbers of opening.
-pub fn open_numbers(opened: Opened) -> [u64; 4]
+pub fn open_numbers(opened: Result<Opened, Refusal>) -> [u64; 4]
     ensures { OpenNumbers opened result }
 {
     match opened {
-        Opened::Set(k, n) => [0, 0, k as u64, n as u64],
-        Opened::Refused(refusal) => refused_numbers(refusal),
+        Ok(set) => [0, 0, set.k as u64, set.n as u64],
+        Err(refusal) => refused(refusal),
     }
 }
 
 // The numbers of counting.
-pub fn solid_numbers(count: Count) -> [u64; 4]
+#[tactic(auto, unfolding(crate::specs::Numbers::solid_numbers))]
+pub fn solid_numbers(count: Result<Count, Refusal>) -> [u64; 4]
     ensures { result ≡ solid_numbers (count_of count) }
 {
     match count {
-        Count::Solid(kmers, solid) => [0, 0, kmers, solid],
-        Count::Refused(refusal) => refused_numbers(refusal),
+        Ok(count) => [0, 0, count.kmers, count.solid],
+        Err(refusal) => refused(refusal),
     }
 }
 
 // The numbers of a maker of blocks.
-pub fn made_numbers(made: Made) -> [u64; 3]
+#[tactic(auto, unfolding(crate::specs::Numbers::made_numbers))]
+pub fn made_numbers(made: Result<usize, Refusal>) -> [u64; 3]
     ensures { result ≡ made_numbers (outcome_of made) }
 {
     match made {
-        Made::Blocks(length) => [0, 0, length as u64],
-        Made::Refused(reason) => [refusal::number_of(reason), refusal::place_of(reason), 0],
+        Ok(length) => [0, 0, length as u64],
+        Err(refusal) => refused(refusal),
     }
 }
 
 // The numbers of what a job needs.
-pub fn needs_numbers(answer: needs::Answer) -> [u64; 5]
+#[tactic(auto, unfolding(crate::specs::Numbers::needs_numbers))]
+pub fn needs_numbers(answer: Result<Need, Refusal>) -> [u64; 5]
     ensures { result ≡ needs_numbers (needs_told answer) }
 {
     match answer {
-        needs::Answer::Need(need) => [0, 0, need.bytes as u64, need.turns, need.lookups],
-        needs::Answer::Refused(reason) => [
-            refusal::number_of(reason),
-            refusal::place_of(reason),
-            0,
-            0,
-            0,
-        ],
+        Ok(need) => [0, 0, need.bytes as u64, need.turns, need.lookups],
+        Err(refusal) => refused(refusal),
     }
 }
 
 // The numbers of a call that only checks.
-pub fn check_numbers(checked: Input) -> [u64; 2]
+#[tactic(auto, unfolding(crate::specs::Numbers::check_numbers))]
+pub fn check_numbers(checked: Result<(), Refusal>) -> [u64; 2]
     ensures { result ≡ check_numbers (check_of checked) }
 {
     match checked {
-        Input::Fine => [0, 0],
-        Input::Refused(reason) => [refusal::number_of(reason), refusal::place_of(reason)],
+        Ok(()) => [0, 0],
+        Err(refusal) => refused(refusal),
     }
 }
 
@@ -135,9 +110,7 @@ pub fn tell(numbers: &[u64], answer: &mut [u64]) -> u64
     requires { 0 < length numbers.now }
     ensures { Told numbers.now answer.old result answer.new }
 {
-    let end = number::lesser(numbers.len(), answer.len());
-    for i in 0..end {
-        answer[i] = numbers[i];
-    }
+    let end = numbers.len().min(answer.len());
+    answer[..end].copy_from_slice(&numbers[..end]);
     numbers[0]
 }
