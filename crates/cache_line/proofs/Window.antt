@@ -1,4 +1,4 @@
--- Laws of the window: three lines, one of them, a half of it and the half of that, two words.
+-- Laws of two words of a line, and of the keys beside three lines.
 use Prim.Native.Nat.{ℕ, ◌+◌, ◌%◌, ◌≤◌, ◌<◌, min}
 use native.Mathlib.Omega.{arith}
 use native.Mathlib.Nat.{add-zero}
@@ -6,14 +6,13 @@ use native.Mathlib.Decide.{dec_lt}
 use mathlib.Core.Path.{◌≡◌, refl, sym, ◌∙◌}
 use mathlib.Core.Bool.{Bool, true, false, ◌||◌, ◌&&◌, cond, false≢true}
 use mathlib.Core.List.{List}
-use borrow.Author.Tests.{eqb-true, eq-eqb, ltb-true, ltb-false, lt-ltb, le-leb, leb-true, leb-false}
+use borrow.Author.Tests.{eqb-true, eq-eqb, ltb-true, ltb-false, lt-ltb, le-leb, leb-false}
 use lib.Dec.{eqb, ltb, leb}
 use Rattle.rules_laws.proofs.Opened.{both}
-use Rattle.number.proofs.Picked.{if-le}
 use Rattle.std.specs.Prelude.{Some, None}
 use Rattle.few_keys.specs.Find.{key_in, Sorted, LowerBefore, Bracket, Answers}
 use Rattle.cache_line.specs.Lines.{first_key}
-use Rattle.few_keys.proofs.Bracket.{lower-before, lower-through, higher-from}
+use Rattle.few_keys.proofs.Bracket.{lower-through, higher-from}
 
 -- ---- two words
 
@@ -63,58 +62,6 @@ module _ (skip : ℕ) (part : List ℕ) (x line at word : ℕ) (low : at < 7)
           or-true false b d = d
 
 module _ {skip : ℕ} {part : List ℕ} {first last : ℕ} (sorted : Sorted skip part first last) (x : ℕ) where
-  -- ---- halves
-
-  -- x can stand only from key a on, before key `next`, among two widths: the key between says among which.
-  half : (a next width : ℕ) → Bracket skip part first last x a (min next (a + (width + width))) → a + width < next → next ≤ last
-      → (b : Bool) → leb (key_in skip part (a + width)) x ≡ b → Bracket skip part first last x (a + cond b width 0) (min next (a + cond b width 0 + width))
-  half a next width l h room true e =
-      let same : a + width + width ≡ a + (width + width) = omega arith in
-      record {
-        within = omega (arith, l.within);
-        below = lower-before sorted x (a + width) (omega arith) (leb-true _ _ e);
-        above = rw same l.above;
-      }
-  half a next width l h room false e =
-      let end : min next (a + width) ≡ a + width = omega arith in
-      rw (add-zero a, end)
-      (record {
-        within = omega (arith, l.within);
-        below = l.below;
-        above = higher-from sorted x (a + width) (omega (arith, l.within)) (leb-false _ _ e);
-      })
-
-  pub quarters : (line four two : ℕ) → Bracket skip part first last x (first_key line) (first_key (line + 1))
-      → four ≡ cond (leb (key_in skip part (first_key line + 4)) x) 4 0
-      → two ≡ cond (leb (key_in skip part (first_key line + (four + 2))) x) 2 0
-      → Bracket skip part first last x (first_key line + (four + two)) (min (first_key (line + 1)) (first_key line + (four + two) + 2))
-  quarters line four two l four_is two_is =
-      let start : ℕ = first_key line in
-      let next : ℕ = first_key (line + 1) in
-      let end : min next (start + (4 + 4)) ≡ next = omega arith in
-      let whole : Bracket skip part first last x start (min next (start + (4 + 4))) = rw end l in
-      let left : Bracket skip part first last x (start + four) (min next (start + four + (2 + 2))) =
-      rw four_is (half start next 4 whole (omega arith) l.within.1 (leb (key_in skip part (start + 4)) x) refl) in
-      let low : four ≤ 4 = if-le four (leb (key_in skip part (first_key line + 4)) x) 4 four_is in
-      let place : start + (four + 2) ≡ start + four + 2 = omega arith in
-      let both : start + (four + two) ≡ start + four + two = omega arith in
-      rw both
-      (rw (two_is, place) (half (start + four) next 2 left (omega arith) l.within.1 (leb (key_in skip part (start + four + 2)) x) refl))
-
-  -- ---- three lines
-
-  pub window : (line : ℕ) → first ≤ first_key line → first_key (line + 3) ≤ last
-      → (leb (key_in skip part (first_key line)) x && leb x (key_in skip part (first_key (line + 2) + 6))) ≡ true
-      → Bracket skip part first last x (first_key line) (first_key (line + 3))
-  window line start room e =
-      let t = both (leb (key_in skip part (first_key line)) x) (leb x (key_in skip part (first_key (line + 2) + 6))) e in
-      let most : x ≤ key_in skip part (first_key (line + 2) + 6) = leb-true _ _ t.1 in
-      record {
-        within = omega arith;
-        below = lower-before sorted x (first_key line) (omega arith) (leb-true _ _ t.0);
-        above = λ j f g l. omega (arith, sorted.rising (first_key (line + 2) + 6) j (omega arith) (omega arith) g);
-      }
-
   -- x is not below the window's first key: it is above its last.
   pub behind-window : (line : ℕ) → first_key (line + 3) ≤ last
       → (leb (key_in skip part (first_key line)) x && leb x (key_in skip part (first_key (line + 2) + 6))) ≡ false
@@ -154,35 +101,3 @@ module _ {skip : ℕ} {part : List ℕ} {first last : ℕ} (sorted : Sorted skip
           above = l.above;
         },
       )
-
-  pub three : (line : ℕ) → Bracket skip part first last x (first_key line) (first_key (line + 3)) → (b c : Bool) → leb (key_in skip part (first_key (line + 1))) x ≡ b
-      → leb (key_in skip part (first_key (line + 2))) x ≡ c
-      → Bracket skip part first last x (first_key (line + cond b 1 0 + cond c 1 0)) (first_key (line + cond b 1 0 + cond c 1 0 + 1))
-  three line l true true d e =
-      let at : line + 1 + 1 ≡ line + 2 = omega arith in
-      let next : line + 2 + 1 ≡ line + 3 = omega arith in
-      rw (at, next)
-      (record {
-        within = omega (arith, l.within);
-        below = lower-before sorted x (first_key (line + 2)) (omega (arith, l.within)) (leb-true _ _ e);
-        above = l.above;
-      })
-  three line l true false d e =
-      let at : line + 1 + 0 ≡ line + 1 = omega arith in
-      let next : line + 1 + 1 ≡ line + 2 = omega arith in
-      rw (at, next)
-      (record {
-        within = omega (arith, l.within);
-        below = lower-before sorted x (first_key (line + 1)) (omega (arith, l.within)) (leb-true _ _ d);
-        above = higher-from sorted x (first_key (line + 2)) (omega (arith, l.within)) (leb-false _ _ e);
-      })
-  three line l false true d e =
-      absurd (omega (arith, leb-false (key_in skip part (first_key (line + 1))) x d, leb-true (key_in skip part (first_key (line + 2))) x e, sorted.rising (first_key (line + 1)) (first_key (line + 2)) (omega (arith, l.within)) (omega arith) (omega (arith, l.within))))
-  three line l false false d e =
-      let at : line + 0 + 0 ≡ line = omega arith in
-      rw at
-      (record {
-        within = omega (arith, l.within);
-        below = l.below;
-        above = higher-from sorted x (first_key (line + 1)) (omega (arith, l.within)) (leb-false _ _ d);
-      })

@@ -1,3 +1,2 @@
 pub mod Bracket
 pub mod Part
-pub mod Eight

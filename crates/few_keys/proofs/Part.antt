@@ -40,11 +40,3 @@ module _ {skip : ℕ} {part : List ℕ} {first last : ℕ} (sorted : Sorted skip
   -- Each of its keys lies in a part.
   pub key-room : (i : ℕ) → first ≤ i → i < last → (i < max_keys) × (skip ≤ place i) × (place i + 8 ≤ skip + length part)
   key-room i l h = omega (arith, sorted.few, sorted.room (omega arith))
-
-  -- Some of the keys.
-  pub fewer : (lo hi : ℕ) → first ≤ lo → hi ≤ last → Sorted skip part lo hi
-  fewer lo hi l h = record {
-    few = omega (arith, sorted.few);
-    room = λ g. omega (arith, sorted.room (omega arith));
-    rising = λ i j f g k. sorted.rising i j (omega arith) g (omega arith);
-  }
