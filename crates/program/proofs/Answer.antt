@@ -16,8 +16,7 @@ use Rattle.refusal.specs.declared.Refusal.{Refusal as Refused·by}
 use Rattle.refusal.specs.Refusal.{refusal_of}
 use Rattle.rules_laws.proofs.Calls.{corrected-full, corrected-fits, call-refused, call-not-opened, call-offer-wrong, call-opened}
 use Rattle.report.specs.declared.Report.{Report}
-use Rattle.report.specs.declared.Answer.{Answer}
-use Rattle.report.specs.declared.Answer.TheVariants.{Report as Reported, Refused}
+use Rattle.std.specs.Prelude.{Result, Ok, Err}
 use Rattle.report.specs.Answer.{report_of, answer_of, given, Exact}
 use Rattle.page.specs.Page.{Page, Puts, page_length}
 use Rattle.page.proofs.Text.{length-zeros, zeros-append, drop-zeros, take-zeros, length-page}
@@ -100,7 +99,7 @@ module _ (n : ℕ) (g : Given) (out : g.output ≡ zeros n) where
   batch-leaves = call-leaves (10 ∷ []) (lines g.input) (given_check g or_else unless (batch_right g.input) 6)
 
 -- A page that was empty, behind the call: its output, and the zeros that were not lent.
-module _ (set job batch page₀ work : List ℕ) (a : Answer) (o w : List ℕ) (empty : Page [] 0 page₀) (zero-work : work ≡ zeros 65536)
+module _ (set job batch page₀ work : List ℕ) (a : Result Report Refused·by) (o w : List ℕ) (empty : Page [] 0 page₀) (zero-work : work ≡ zeros 65536)
     (h : Exact (correct_batch (given set [] [] job batch (take 32768 page₀) work)) a o w) (long : length o ≡ length (take 32768 page₀)) where
   abbrev g : Given
   g = given set [] [] job batch (zeros 32768) (zeros 65536)
@@ -127,7 +126,7 @@ module _ (set job batch page₀ work : List ℕ) (a : Answer) (o w : List ℕ) (
   abbrev lines_of : Report → List ℕ
   lines_of r = take r.written (correct_batch g).output
 
-  module _ (r : Report) (is : a ≡ Reported r) where
+  module _ (r : Report) (is : a ≡ Ok r) where
     is_accepted : (correct_batch g).answer ≡ accepted (report_of r)
     is_accepted = sym exact.answer ∙ ap answer_of is
 
@@ -156,7 +155,7 @@ module _ (set job batch page₀ work : List ℕ) (a : Answer) (o w : List ℕ) (
     unfolding printed_for
     prints-counts = rw (printed_for, is_accepted)
 
-  module _ (x : Refused·by) (is : a ≡ Refused x) where
+  module _ (x : Refused·by) (is : a ≡ Err x) where
     is-refused : (correct_batch g).answer ≡ refused (refusal_of x)
     is-refused = sym exact.answer ∙ ap answer_of is
 
@@ -176,21 +175,21 @@ module _ (set job batch page₀ work : List ℕ) (a : Answer) (o w : List ℕ) (
   pub answered : Answered (correct_batch g) a page
   answered = go a refl
     where
-      go : (b : Answer) → a ≡ b → Answered (correct_batch g) b page
-      go (Reported r) is = (lines-page r is, written-fits r is, prints-counts r is)
-      go (Refused x) is = (empty-page x is, prints-refusal x is)
+      go : (b : Result Report Refused·by) → a ≡ b → Answered (correct_batch g) b page
+      go (Ok r) is = (lines-page r is, written-fits r is, prints-counts r is)
+      go (Err x) is = (empty-page x is, prints-refusal x is)
 
 -- ---- the counts, or the refusal, put behind it
 
 module _ (after : After) (page : List ℕ) where
-  module _ (r : Report) (h : Answered after (Reported r) page) where
+  module _ (r : Report) (h : Answered after (Ok r) page) where
     pub counts-fit : r.written + 128 ≤ length page
     counts-fit = omega (arith, length-page _ r.written page h.0, h.1)
 
     pub report-printed : {n : ℕ} {page' : List ℕ} → Puts page r.written (counts_line (report_of r)) n page' → Page (printed_for after) n page'
     report-printed put = rw h.2 (put _ h.0)
 
-  module _ (x : Refused·by) (h : Answered after (Refused x) page) where
+  module _ (x : Refused·by) (h : Answered after (Err x) page) where
     pub refusal-fits : 128 ≤ length page
     refusal-fits = omega (arith, length-page [] 0 page h.0)
 

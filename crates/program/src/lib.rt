@@ -10,7 +10,8 @@ ghost use Rattle.page.specs.Page.{Page};
 ghost use Rattle.program.specs.Given.{file_of, files_of};
 ghost use Rattle.program.specs.Answered.{Answered};
 
-use report::Answer;
+use refusal::Refusal;
+use report::Report;
 
 // The output, and 128 bytes more for a line of three numbers.
 pub const PAGE: usize = 32896;
@@ -48,7 +49,7 @@ fn taken(file: Option<&[u8]>, most: usize) -> Option<&[u8]>
 }
 
 // The call. The page is empty, and its first bytes are the call's output.
-fn call_on(set: &[u8], job: &[u8], batch: &[u8], page: &mut [u8]) -> Answer
+fn call_on(set: &[u8], job: &[u8], batch: &[u8], page: &mut [u8]) -> Result<Report, Refusal>
     requires { Page [] 0 page.old }
     ensures { Answered (correct_batch (given set.now [] [] job.now batch.now (zeros 32768) (zeros 65536)))
         result page.new }
@@ -63,10 +64,9 @@ fn put_answer(set: &[u8], job: &[u8], batch: &[u8], page: &mut [u8]) -> usize
     ensures { Page (printed_for (correct_batch (given set.now [] [] job.now batch.now (zeros 32768) (zeros 65536))))
         result page.new }
 {
-    let answer = call_on(set, job, batch, page);
-    match answer {
-        Answer::Report(report) => page::put_report(page, report),
-        Answer::Refused(refusal) => page::put_refusal(page, refusal),
+    match call_on(set, job, batch, page) {
+        Ok(report) => page::put_report(page, report),
+        Err(refusal) => page::put_refusal(page, refusal),
     }
 }
 

@@ -1,88 +1,177 @@
-// The parts of a list: numbers and bytes.
-ghost use Rattle.std.specs.Prelude.{◌<◌, ◌≤◌, ◌+◌, ◌*◌, ◌^◌, length};
+// The records of a list, and the bytes behind them. compare/README.md has the format.
+ghost use Rattle.std.specs.Prelude.{◌≡◌, ◌<◌, ◌+◌, ◌*◌, length, vec_len, IfOk};
 
+use refusal::Refusal;
+use report::Report;
+use std::alloc::{AllocError, Global};
+use std::io;
 use std::io::Read;
 
-// The part of a buffer from its start; whole if it has the length that was asked for.
-#[derive(Clone, Copy)]
-pub struct Part {
-    pub length: usize,
-    pub whole: bool,
+// Why a case cannot be replayed: the list has not its form, or memory has run out.
+#[derive(Drop)]
+pub enum ListError {
+    Malformed,
+    Memory(AllocError),
 }
 
-// The i-th of some numbers: 32 bits each, little-endian.
-fn number_of(bytes: &[u8], i: usize) -> u64
+// A list that ends too early, or cannot be read, has not its form.
+impl From<io::Error> for ListError {
+    fn from(_error: io::Error) -> Self {
+        ListError::Malformed
+    }
+}
+
+impl From<AllocError> for ListError {
+    fn from(error: AllocError) -> Self {
+        ListError::Memory(error)
+    }
+}
+
+// What a record is: something offered with the cases that follow, or a case.
+#[derive(Clone, Copy, PartialEq, Eq)]
+pub enum Kind {
+    Set,
+    Open,
+    Read,
+    Batch,
+    Index,
+    Counts,
+    Needs,
+    Fasta,
+}
+
+impl TryFrom<u32> for Kind {
+    type Error = ListError;
+
+    fn try_from(number: u32) -> Result<Self, ListError> {
+        match number {
+            1 => Ok(Kind::Set),
+            2 => Ok(Kind::Open),
+            3 => Ok(Kind::Read),
+            4 => Ok(Kind::Batch),
+            5 => Ok(Kind::Index),
+            6 => Ok(Kind::Counts),
+            7 => Ok(Kind::Needs),
+            8 => Ok(Kind::Fasta),
+            _ => Err(ListError::Malformed),
+        }
+    }
+}
+
+// The i-th of some numbers of 32 bits, little-endian.
+pub fn number_at(bytes: &[u8], i: usize) -> u32
     requires { 4 * i + 3 < length bytes.now }
-    ensures { result < 2 ^ 32 }
 {
     let at = 4 * i;
-    number::wide(bytes[at])
-        + number::wide(bytes[at + 1]) * 256
-        + number::wide(bytes[at + 2]) * 65536
-        + number::wide(bytes[at + 3]) * 16777216
+    u32::from_le_bytes([bytes[at], bytes[at + 1], bytes[at + 2], bytes[at + 3]])
 }
 
-// The i-th number of a record.
-pub fn number(record: &[u8; 76], i: usize) -> u64
-    requires { i < 19 }
-    ensures { result < 2 ^ 32 }
-{
-    number_of(record, i)
+// A record: 19 numbers.
+#[derive(Clone, Copy, PartialEq, Eq)]
+pub struct Record {
+    numbers: [u32; 19],
 }
 
-pub fn part_of(buffer: &[u8], asked: usize) -> Part
-    ensures { result.length ≤ length buffer.now }
-{
-    if buffer.len() < asked {
-        return Part {
-            length: 0,
-            whole: false,
-        };
+impl Record {
+    // It ends a list.
+    pub const LAST: Record = Record { numbers: [0; 19] };
+
+    pub fn read<L: Read>(list: &mut L) -> Result<Self, ListError> {
+        let mut bytes = [0u8; 76];
+        list.read_exact(&mut bytes)?;
+        let mut numbers = [0u32; 19];
+        for i in 0..19usize {
+            numbers[i] = number_at(&bytes, i);
+        }
+        Ok(Record { numbers })
     }
-    Part {
-        length: asked,
-        whole: true,
+
+    pub fn kind(&self) -> Result<Kind, ListError> {
+        Kind::try_from(self.numbers[0])
+    }
+
+    // How many bytes of a set, an index or counts follow.
+    pub fn length(&self) -> usize {
+        self.numbers[1] as usize
+    }
+
+    // How many bytes of the job, the input and the result follow, and how long output and work buffer are.
+    pub fn job(&self) -> usize {
+        self.numbers[2] as usize
+    }
+
+    pub fn input(&self) -> usize {
+        self.numbers[3] as usize
+    }
+
+    pub fn output(&self) -> usize {
+        self.numbers[4] as usize
+    }
+
+    pub fn work(&self) -> usize {
+        self.numbers[5] as usize
+    }
+
+    pub fn result(&self) -> usize {
+        self.numbers[6] as usize
+    }
+
+    // The number of the refusal, 0 if there is none.
+    pub fn refusal(&self) -> u32 {
+        self.numbers[8]
+    }
+
+    pub fn is_accepted(&self) -> bool {
+        self.numbers[8] == 0 && self.numbers[9] == 0
+    }
+
+    pub fn refuses(&self, refusal: Refusal) -> bool {
+        u64::from(self.numbers[8]) == refusal.number() && u64::from(self.numbers[9]) == refusal.place()
+    }
+
+    // The i-th number that an accepted call tells.
+    pub fn told(&self, i: usize) -> u64
+        requires { i < 9 }
+    {
+        u64::from(self.numbers[10 + i])
+    }
+
+    pub fn report(&self) -> Report {
+        Report {
+            written: self.numbers[10] as usize,
+            turns: self.told(1),
+            lookups: self.told(2),
+            attempts: self.told(3),
+            accepted: self.told(4),
+            yield_: self.told(5),
+            support: (self.numbers[7] == 1).then_some(self.numbers[1]),
+            quotient: self.told(6),
+            remainder: self.told(7),
+            bases: self.told(8),
+        }
     }
 }
 
-// Counts as they are lent, from bytes: 32 bits each, little-endian. Whole if there is room for all of them.
-pub fn put_counts(bytes: &[u8], counts: &mut [u32]) -> Part
-    ensures { result.length ≤ length counts.new }
-{
-    let length = bytes.len() / 4;
-    if counts.len() < length {
-        return Part {
-            length: 0,
-            whole: false,
-        };
+// The next bytes of a list, no more than `most`.
+pub fn read_bytes<L: Read>(
+    list: &mut L,
+    alloc: Global,
+    count: usize,
+    most: usize,
+) -> Result<Vec<u8>, ListError> {
+    if most < count {
+        return Err(ListError::Malformed);
     }
-    for i in 0..length {
-        counts[i] = number_of(bytes, i) as u32;
-    }
-    Part {
-        length: length,
-        whole: true,
-    }
+    let mut bytes = vec![in alloc; 0u8; count]?;
+    list.read_exact(&mut bytes)?;
+    Ok(bytes)
 }
 
-// Reads the next bytes of the list to the start of a buffer.
-pub fn read_part<L: Read>(list: &mut L, buffer: &mut [u8], asked: usize) -> Part
-    ensures { result.length ≤ length buffer.new }
-{
-    if buffer.len() < asked {
-        return Part {
-            length: 0,
-            whole: false,
-        };
+// Counts as they are lent.
+pub fn counts_of(alloc: Global, bytes: &[u8]) -> Result<Vec<u32>, AllocError> {
+    let mut counts = Vec::new(alloc);
+    for i in 0..bytes.len() / 4 {
+        counts.push(number_at(bytes, i))?;
     }
-    match list.read_exact(&mut buffer[..asked]) {
-        Ok(()) => Part {
-            length: asked,
-            whole: true,
-        },
-        Err(_) => Part {
-            length: 0,
-            whole: false,
-        },
-    }
+    Ok(counts)
 }
