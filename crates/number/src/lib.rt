@@ -1,13 +1,7 @@
-// Small arithmetic that Rust has as methods and conversions.
+// A choice without a branch, and a byte's conversion.
 #![tactic(auto)]
 
-ghost use Rattle.std.specs.Prelude.{◌≡◌, cond, ◌<◌, min};
-
-pub fn lesser(a: usize, b: usize) -> usize
-    ensures { result ≡ min a b }
-{
-    if a < b { a } else { b }
-}
+ghost use Rattle.std.specs.Prelude.{◌≡◌, cond, ◌<◌};
 
 pub fn pick(test: bool, yes: usize, no: usize) -> usize
     ensures { result ≡ cond test yes no }
@@ -20,11 +14,4 @@ pub fn wide(x: u8) -> u64
     ensures { (result ≡ x) × (result < 256) }
 {
     x as u64
-}
-
-// An entry of a table as an index: as `t[i] as usize`, but a caller need not show that the entry fits.
-pub fn index(x: u32) -> usize
-    ensures { result ≡ x }
-{
-    x as usize
 }
