@@ -1,7 +1,7 @@
 use native.Mathlib.Omega.{arith}
 use mathlib.Core.Path.{◌∙◌, sym}
 use Rattle.rules_make.specs.MakeSet.{is_digit}
-use Rattle.kmer_text.proofs.Laws.{all-at, digit-range, number_more, number-end, ten-more, ten-fits}
+use Rattle.kmer_text.proofs.Laws.{all-at, digit-range, number_more, number-end, ten-more}
 use Rattle.kmer_text.proofs.number_of.Goals as goal
 
 pub overflow_sub-digit : goal.overflow_sub-digit
@@ -20,12 +20,3 @@ pub returns : goal.returns
 returns c =
     let l = c.loop-digit in
     sym (l.invariant.left ∙ number-end _ l.digit-index l.sum (omega arith))
-
-pub overflow_mul-sum : goal.overflow_mul-sum
-overflow_mul-sum c = let l = c.loop-digit in omega (arith, ten-fits l.digit-index (omega arith))
-
-pub overflow_add-sum : goal.overflow_add-sum
-overflow_add-sum c =
-    let l = c.loop-digit in
-    let d = digit-range _ (all-at is_digit _ c.requires.0 l.digit-index c.loop-digit-test.true) in
-    omega (arith, ten-fits l.digit-index (omega arith))

@@ -1,19 +1,14 @@
-use mathlib.Core.Path.{◌≡◌, refl, ap, ◌∙◌}
-use Prim.Native.Nat.{◌+◌, ◌<◌}
+use mathlib.Core.Path.{◌≡◌, ap, ◌∙◌}
+use Prim.Native.Nat.{◌<◌}
 use native.Mathlib.Omega.{arith}
 use borrow.Author.Rules.{rules}
-use lib.ListN.{length-set}
 use Rattle.rules.specs.Set.{key_word}
 use Rattle.few_keys.proofs.Part.{key-whole}
 use Rattle.set.specs.Ready.{prefix}
 use Rattle.set.proofs.Opened.{opened-n-le}
 use Rattle.set.proofs.Table.{opened-key-room}
-use Rattle.starts.proofs.Ends.{marked-none, marked_more}
 use Rattle.starts.proofs.mark_ends.Goals.{After-prefix_of-prefix}
 use Rattle.starts.proofs.mark_ends.Goals as goal
-
-pub loop-i-init : goal.loop-i-init
-loop-i-init c = (omega arith, refl, marked-none _ _ _ c.args.starts.now c.requires.3)
 
 pub key_at-requires : goal.key_at-requires
 key_at-requires c = let o = c.args.set.now.opens in opened-key-room _ o.right _ (omega (arith, o.n_is))
@@ -36,18 +31,3 @@ overflow_add-starts-in-loop-i c = omega (arith, (known (goal.at.overflow_add-sta
 
 pub offset_bounds-starts-prefix : goal.offset_bounds-starts-prefix
 offset_bounds-starts-prefix c = omega (arith, (known (goal.at.offset_bounds-starts-prefix c).After-prefix_of-prefix).1)
-
-pub bounds-starts-prefix : goal.bounds-starts-prefix
-bounds-starts-prefix c = omega (arith, (known (goal.at.bounds-starts-prefix c).After-prefix_of-prefix).1)
-
-pub loop-i-preserved : goal.loop-i-preserved
-loop-i-preserved c =
-    let l = c.loop-i in (
-      c.run-step.ensures.1,
-      length-set l.starts _ _ ∙ l.invariant.1,
-      marked_more _ _ c.prefix_of-prefix.result l.i (l.i + c.run-step.result) _ l.starts (omega (arith, c.run-step.ensures.0)) c.run-step.ensures.2
-          (omega (arith, (known (goal.at.loop-i-preserved c).After-prefix_of-prefix).1)) l.invariant.2,
-    )
-
-pub returns : goal.returns
-returns c = let l = c.loop-i in let all : l.i ≡ c.args.set.now.n = omega arith in rw (← all) l.invariant.2
