@@ -14,7 +14,8 @@ use refusal::Refusal;
 use report::Report;
 use set::{KmerSet, STARTS};
 
-// The records of a file in turn. A record's read is joined into the work buffer, which has room for twice the file.
+// The records of a file in turn. A record's read is joined into the work buffer, which has room for twice the file. A loop of its own beside
+// that of lines::correct_lines: one over a trait that gives the next record would have to state both steps' contracts, and is no plainer.
 fn correct_records(
     set: &KmerSet,
     job: &[u8],

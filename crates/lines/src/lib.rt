@@ -39,7 +39,7 @@ fn correct_line(
     })
 }
 
-// The lines of a batch in turn.
+// The lines of a batch in turn. By line_end, not split_inclusive: each of its pieces has the byte 10 that a line is without.
 pub fn correct_lines(
     set: &KmerSet,
     job: &[u8],
