@@ -1,7 +1,7 @@
 -- Laws of a text's bytes and lines.
 use Prim.Native.Nat.{ℕ, zero, suc, ◌+◌, ◌*◌, ◌-◌, ◌^◌, ◌≤◌, ◌<◌}
 use native.Mathlib.Omega.{arith}
-use native.Mathlib.Nat.{pow-suc, pow-le-pow_right}
+use native.Mathlib.Nat.{pow-suc}
 use native.Mathlib.Numerals.{add-one}
 use borrow.Author.Tests.{eq-eqb, ne_eqb, leb-true, le-leb, lt-leb}
 use mathlib.Core.Path.{◌≡◌, refl, sym, ap, ◌∙◌}
@@ -9,7 +9,7 @@ use mathlib.Core.Bool.{Bool, true, false, ◌&&◌}
 use mathlib.Core.Logic.{inl, inr}
 use mathlib.Core.List.{List, [], ◌∷◌}
 use types.Run.{OneOf}
-use lib.Dec.{eqb, leb, lit≤}
+use lib.Dec.{eqb, leb}
 use lib.ListN.{length, get_or, take, drop, length-take, length-drop, drop_of_length-le}
 use lib.Seq.{slice, drop-cons, drop-drop, take_all, take-nil}
 use Rattle.std.specs.List.{list_all}
@@ -69,9 +69,6 @@ number-end s i sum h = rw (drop_of_length-le s {i = i} h)
 
 pub ten-more : (i sum d : ℕ) → sum < 10 ^ i → 48 ≤ d → d ≤ 57 → 10 * sum + (d - 48) < 10 ^ (i + 1)
 ten-more i sum d h l g = rw (add-one i, pow-suc 10 i) (omega arith)
-
-pub ten-fits : (i : ℕ) → i ≤ 10 → 10 ^ i ≤ 10000000000
-ten-fits i h = pow-le-pow_right {n = 10} (lit≤ tt) {i = i} {j = 10} h
 
 -- ---- lines
 

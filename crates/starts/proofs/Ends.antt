@@ -27,15 +27,6 @@ entries-more P starts v x h f here =
     (λ u l. rw (get_or-set_other starts v u x 0 (λ e. omega arith)) (f u l))
     (rw (get_or-set_same starts v x 0 h) here)
 
--- Before the first key: all entries are 0.
-pub marked-none : (bytes : List ℕ) (shift prefixes : ℕ) (starts : List ℕ) → ((v : ℕ) → v < prefixes + 1 → get_or starts v 0 ≡ 0)
-    → Marked bytes shift 0 prefixes starts
-marked-none bytes shift prefixes starts zeros = (
-  zeros 0 (omega arith),
-  λ v l. rw (zeros (v + 1) (omega arith))
-      (record { within = zero-le; last = λ i e. absurd (omega arith); rest = λ i h g. absurd (omega arith) }),
-)
-
 -- ---- keys of one prefix
 
 -- Between two keys of one prefix all have it.
@@ -50,32 +41,6 @@ run_more bytes shift v i m step opens count room first last j l h =
         go : (a ≡ b) ⊎ (a < b) → key_word bytes a ≤ key_word bytes b
         go (inl e) = le_of_eq (ap (key_word bytes) e)
         go (inr k) = le_of_lt (opened-keys-rising bytes opens a b k n)
-
--- Keys of one prefix, from key i on and before key m, are marked.
-module _ (bytes : List ℕ) (shift p i m prefixes : ℕ) (starts : List ℕ) (some : i < m) (run : Run bytes shift p i m) where
-  marked-key : EndsAt bytes shift m p m
-  marked-key = record {
-    within = omega arith;
-    last = λ j d. run j (omega arith) (omega arith);
-    rest = λ j h g. absurd (omega arith);
-  }
-
-  marked_other : (v end : ℕ) → (p ≡ v → ⊥) → EndsAt bytes shift i v end → EndsAt bytes shift m v end
-  marked_other v end f ends = record { within = omega (arith, ends.within); last = ends.last; rest = λ j h g. out j h g (dec_lt j i) }
-    where
-      out : (j : ℕ) → end ≤ j → j < m → Dec (j < i) → prefix shift (key_word bytes j) ≡ v → ⊥
-      out j h g (yes l) e = ends.rest j h l e
-      out j h g (no l) e = f (sym (run j (omega arith) g) ∙ e)
-
-  pub marked_more : p + 1 < length starts → Marked bytes shift i prefixes starts → Marked bytes shift m prefixes (set starts (p + 1) m)
-  marked_more h marked = (
-    get_or-set_other starts (p + 1) 0 m 0 (λ e. omega arith) ∙ marked.0,
-    λ v l. go v l (ℕ_discrete p v),
-  )
-    where
-      go : (v : ℕ) → v < prefixes → Dec (p ≡ v) → EndsAt bytes shift m v (get_or (set starts (p + 1) m) (v + 1) 0)
-      go v l (yes e) = rw (← e, get_or-set_same starts (p + 1) m 0 h) marked-key
-      go v l (no f) = rw (get_or-set_other starts (p + 1) (v + 1) m 0 (λ e. f (omega arith))) (marked_other v _ f (marked.1 v l))
 
 -- Where prefix v starts and where it ends say where the next one starts.
 module _ (bytes : List ℕ) (shift v : ℕ) (opens : set_check bytes ≡ none) where
