@@ -4,6 +4,7 @@ use native.Mathlib.Omega.{arith}
 use mathlib.Core.Path.{◌≡◌, ap, ◌∙◌, subst}
 use mathlib.Core.List.{List}
 use lib.ListN.{length}
+use Rattle.std.specs.Prelude.{Result, Ok, Err}
 use Rattle.rules.specs.Refusal.{Outcome}
 use Rattle.rules.specs.Set.{KmerSet}
 use Rattle.rules.specs.Job.{Entry}
@@ -13,13 +14,11 @@ use Rattle.rules_make.specs.MakeSet.{SetMade}
 use Rattle.refusal.specs.declared.Refusal.{Refusal}
 use Rattle.refusal.specs.declared.Refusal.TheVariants as Refusals
 use Rattle.refusal.specs.Refusal.{refusal_of}
-use Rattle.report.specs.declared.Answer.{Answer}
-use Rattle.report.specs.declared.Answer.TheVariants as Answers
+use Rattle.report.specs.declared.Report.{Report as Reported}
 use Rattle.report.specs.Answer as Report
 use Rattle.report.specs.Answer.{answer_of}
 use Rattle.rules_needs.specs.Needs as Rules
-use Rattle.needs.specs.declared.Answer.{Answer as NeedsAnswer}
-use Rattle.needs.specs.declared.Answer.TheVariants as Needed
+use Rattle.needs.specs.declared.Need.{Need}
 use Rattle.needs.specs.Needs as Needs
 use Rattle.answer_numbers.specs.Numbers.{numbers_of, needs_numbers, made_numbers, Told}
 use Rattle.exports.specs.Calls.{Exact, NeedsExact, Ceiling, MadeExact, SetMadeExact}
@@ -44,11 +43,11 @@ told-set a n t e = record {
 
 -- ---- a call: the code's answer a, told as r and new
 
-pub told-exact : (a : Answer) {old new : List ℕ} {r : ℕ} → Told (numbers_of (answer_of a)) old r new → {after : After} {o w : List ℕ}
+pub told-exact : (a : Result Reported Refusal) {old new : List ℕ} {r : ℕ} → Told (numbers_of (answer_of a)) old r new → {after : After} {o w : List ℕ}
     → Report.Exact after a o w → Exact after old r o w new
 told-exact a t e = record { told = told-by (ap numbers_of e.answer) t; output = e.output; work = e.work }
 
-pub needs-exact : (a : NeedsAnswer) {old new : List ℕ} {r : ℕ} → Told (needs_numbers (Needs.answer_of a)) old r new → {told : Rules.Told} {w : List ℕ}
+pub needs-exact : (a : Result Need Refusal) {old new : List ℕ} {r : ℕ} → Told (needs_numbers (Needs.answer_of a)) old r new → {told : Rules.Told} {w : List ℕ}
     → Needs.Exact told a w → NeedsExact told old r w new
 needs-exact a t e = record { told = told-by (ap needs_numbers e.answer) t; work = e.zeroed }
 
@@ -75,19 +74,19 @@ number-pos (Refusals.Edit edit) = omega arith
 number-pos (Refusals.NotSolid i) = omega arith
 
 module _ (set : KmerSet) (es : List Entry) (reads : List (List ℕ)) {old new : List ℕ} {r : ℕ} where
-  pub told-ceiling : (a : Answer) → Told (numbers_of (answer_of a)) old r new → Report.Ceiling set es reads a → Ceiling set es reads r new
+  pub told-ceiling : (a : Result Reported Refusal) → Told (numbers_of (answer_of a)) old r new → Report.Ceiling set es reads a → Ceiling set es reads r new
   unfolding numbers_of
-  told-ceiling (Answers.Report x) t h z room =
-      let ns : List ℕ = numbers_of (answer_of (Answers.Report x)) in
+  told-ceiling (Ok x) t h z room =
+      let ns : List ℕ = numbers_of (answer_of (Ok x)) in
       let long = ap length t.answer ∙ laid-length ns old in
       rw (t.answer, laid-there ns old 3 (omega arith) (omega (arith, long)), laid-there ns old 4 (omega arith) (omega (arith, long))) h
-  told-ceiling (Answers.Refused x) t h z room = absurd (omega (arith, number-pos x, t.returned))
+  told-ceiling (Err x) t h z room = absurd (omega (arith, number-pos x, t.returned))
 
   -- the same of what a job needs
-  pub needs-ceiling : (a : NeedsAnswer) → Told (needs_numbers (Needs.answer_of a)) old r new → Needs.Ceiling set es reads a → Ceiling set es reads r new
+  pub needs-ceiling : (a : Result Need Refusal) → Told (needs_numbers (Needs.answer_of a)) old r new → Needs.Ceiling set es reads a → Ceiling set es reads r new
   unfolding needs_numbers
-  needs-ceiling (Needed.Need x) t h z room =
-      let ns : List ℕ = needs_numbers (Needs.answer_of (Needed.Need x)) in
+  needs-ceiling (Ok x) t h z room =
+      let ns : List ℕ = needs_numbers (Needs.answer_of (Ok x)) in
       let long = ap length t.answer ∙ laid-length ns old in
       rw (t.answer, laid-there ns old 3 (omega arith) (omega (arith, long)), laid-there ns old 4 (omega arith) (omega (arith, long))) h
-  needs-ceiling (Needed.Refused x) t h z room = absurd (omega (arith, number-pos x, t.returned))
+  needs-ceiling (Err x) t h z room = absurd (omega (arith, number-pos x, t.returned))

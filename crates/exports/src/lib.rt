@@ -19,10 +19,11 @@ ghost use Rattle.rules_bridge.specs.Bridge.{find_bridge, told_of};
 ghost use Rattle.bridge_numbers.specs.Numbers.{bridge_numbers};
 ghost use Rattle.exports.specs.Calls.{Exact, NeedsExact, Ceiling, MadeExact, SetMadeExact};
 
-use report::Answer;
+use refusal::Refusal;
+use report::Report;
 
 // What a call that corrects tells.
-fn tell_answer(done: Answer, answer: &mut [u64]) -> u64
+fn tell_answer(done: Result<Report, Refusal>, answer: &mut [u64]) -> u64
     ensures { Told (numbers_of (answer_of done)) answer.old result answer.new }
 {
     let numbers = answer_numbers::numbers_of(done);
