@@ -2,8 +2,6 @@
 // each: the answer, and how many lent bytes are as they were and how many are zero.
 #![tactic(auto)]
 
-ghost use Rattle.std.specs.Prelude.{◌≡◌, ◌≤◌, length, vec_len};
-
 use needs::Need;
 use refusal::Refusal;
 use report::Report;
@@ -18,6 +16,7 @@ const ONE: &[u8] = b"\x01\x01";
 const GRAPH: &[u8] = b"\x03\x01";
 
 // What a call tells.
+#[derive(Drop)]
 struct Told<T>(Result<T, Refusal>);
 
 impl fmt::Display for Told<Report> {
@@ -52,6 +51,7 @@ impl fmt::Display for Told<Need> {
 }
 
 // How many lent bytes are as they were, and how many are zero.
+#[derive(Drop)]
 struct Lent<'a>(&'a [u8]);
 
 impl fmt::Display for Lent<'_> {
@@ -69,43 +69,57 @@ fn print_case(
     output: &[u8],
     work: &[u8],
 ) -> io::Result<()> {
-    println!(rt; "{name}: {}; output {}, work {}", Told(answer), Lent(output), Lent(work))
+    println!(rt;
+        "{name}: {}; output {}, work {}",
+        Told(answer),
+        Lent(output),
+        Lent(work)
+    )
 }
 
+// A single read, with output and work buffer of these lengths.
 fn read_case(
     rt: &impl Print,
+    alloc: Global,
     name: &str,
     set: &[u8],
     job: &[u8],
     read: &[u8],
-    output: &mut [u8],
-    work: &mut [u8],
+    room: usize,
+    rest: usize,
 ) -> io::Result<()> {
-    let answer = job::correct_read(set, b"", &[], job, read, output, work);
-    print_case(rt, name, answer, output, work)
+    let mut output = vec![in alloc; FILL; room]?;
+    let mut work = vec![in alloc; FILL; rest]?;
+    let answer = job::correct_read(set, b"", &[], job, read, &mut output, &mut work);
+    print_case(rt, name, answer, &output, &work)
 }
 
 fn batch_case(
     rt: &impl Print,
+    alloc: Global,
     name: &str,
     set: &[u8],
     batch: &[u8],
-    output: &mut [u8],
-    work: &mut [u8],
+    room: usize,
+    rest: usize,
 ) -> io::Result<()> {
-    let answer = job::correct_batch(set, b"", &[], ONE, batch, output, work);
-    print_case(rt, name, answer, output, work)
+    let mut output = vec![in alloc; FILL; room]?;
+    let mut work = vec![in alloc; FILL; rest]?;
+    let answer = job::correct_batch(set, b"", &[], ONE, batch, &mut output, &mut work);
+    print_case(rt, name, answer, &output, &work)
 }
 
 fn needs_case(
     rt: &impl Print,
+    alloc: Global,
     name: &str,
     set: &[u8],
     batch: &[u8],
-    work: &mut [u8],
+    rest: usize,
 ) -> io::Result<()> {
-    let need = needs::needs(set, b"", &[], GRAPH, batch, work);
-    println!(rt; "{name}: {}; work {}", Told(need), Lent(work))
+    let mut work = vec![in alloc; FILL; rest]?;
+    let need = needs::needs(set, b"", &[], GRAPH, batch, &mut work);
+    println!(rt; "{name}: {}; work {}", Told(need), Lent(&work))
 }
 
 // The sample set: k = 3, keys 6, 23, 51, 58, 60.
@@ -123,96 +137,139 @@ fn sample_set() -> [u8; 1024] {
     set
 }
 
-// Refusal 1, and refusal 5 by the longest buffers; the last two calls are accepted, and clear the buffers. For needs there is no work buffer too
-// long.
-fn limit_cases(
-    rt: &impl Print,
-    set: &[u8],
-    long: &[u8],
-    output: &mut [u8],
-    work: &mut [u8],
-) -> io::Result<()>
-    requires long_enough { (1048577 ≡ length long.now) × (1048577 ≡ length output.old) × (2097153 ≡ length work.old) }
-{
-    batch_case(rt, "batch of 1048577 bytes", set, long, output, work)?;
-    let room = &mut output[..1048576];
-    let spare = &mut work[..2097152];
-    read_case(rt, "read of 1048577 bytes", set, ONE, long, room, spare)?;
-    needs_case(rt, "needs of 1048577 bytes", set, long, work)?;
-    let spare = &mut work[..2097152];
-    read_case(rt, "output of 1048577 bytes", set, ONE, &long[..3], output, spare)?;
-    let room = &mut output[..1048576];
-    read_case(rt, "work of 2097153 bytes", set, ONE, &long[..3], room, work)?;
-    let room = &mut output[..1048576];
-    let spare = &mut work[..2097152];
-    read_case(rt, "read of 1048576 bytes", set, ONE, &long[..1048576], room, spare)?;
-    needs_case(rt, "needs, work of 2097153 bytes", set, b"AACGCCG\nAA\n", work)
-}
-
-fn longest_cases(rt: &impl Print, alloc: Global, set: &[u8]) -> io::Result<()> {
+// Refusal 1, and refusal 5 by the longest buffers; the last two calls are accepted. For needs there is no work buffer too long.
+fn limit_cases(rt: &impl Print, alloc: Global, set: &[u8]) -> io::Result<()> {
     let long = vec![in alloc; b'A'; 1048577]?;
-    let mut output = vec![in alloc; FILL; 1048577]?;
-    let mut work = vec![in alloc; FILL; 2097153]?;
-    limit_cases(rt, set, &long, &mut output, &mut work)
+    let longest = vec![in alloc; b'A'; 1048576]?;
+    batch_case(
+        rt,
+        alloc,
+        "batch of 1048577 bytes",
+        set,
+        &long,
+        1048577,
+        2097153,
+    )?;
+    read_case(
+        rt,
+        alloc,
+        "read of 1048577 bytes",
+        set,
+        ONE,
+        &long,
+        1048576,
+        2097152,
+    )?;
+    needs_case(rt, alloc, "needs of 1048577 bytes", set, &long, 2097153)?;
+    read_case(
+        rt,
+        alloc,
+        "output of 1048577 bytes",
+        set,
+        ONE,
+        b"AAA",
+        1048577,
+        2097152,
+    )?;
+    read_case(
+        rt,
+        alloc,
+        "work of 2097153 bytes",
+        set,
+        ONE,
+        b"AAA",
+        1048576,
+        2097153,
+    )?;
+    read_case(
+        rt,
+        alloc,
+        "read of 1048576 bytes",
+        set,
+        ONE,
+        &longest,
+        1048576,
+        2097152,
+    )?;
+    let batch = b"AACGCCG\nAA\n";
+    needs_case(
+        rt,
+        alloc,
+        "needs, work of 2097153 bytes",
+        set,
+        batch,
+        2097153,
+    )
 }
 
 // Refusal 5, work against twice the longer of output and read.
-fn work_cases(rt: &impl Print, set: &[u8]) -> io::Result<()> {
-    let mut output = [FILL; 8];
-    let mut work = [FILL; 18];
-    read_case(rt, "work of 15, output of 8", set, ONE, b"AAC", &mut output, &mut work[..15])?;
-    read_case(rt, "work of 17, read of 9", set, ONE, b"AACAACAAC", &mut output, &mut work[..17])?;
-    read_case(rt, "work of 18, read of 9", set, ONE, b"AACAACAAC", &mut output, &mut work)?;
-    work = [FILL; 18];
-    read_case(rt, "work of 16, output of 8", set, ONE, b"AAC", &mut output, &mut work[..16])
+fn work_cases(rt: &impl Print, alloc: Global, set: &[u8]) -> io::Result<()> {
+    let read = b"AACAACAAC";
+    read_case(
+        rt,
+        alloc,
+        "work of 15, output of 8",
+        set,
+        ONE,
+        b"AAC",
+        8,
+        15,
+    )?;
+    read_case(rt, alloc, "work of 17, read of 9", set, ONE, read, 8, 17)?;
+    read_case(rt, alloc, "work of 18, read of 9", set, ONE, read, 8, 18)?;
+    read_case(
+        rt,
+        alloc,
+        "work of 16, output of 8",
+        set,
+        ONE,
+        b"AAC",
+        8,
+        16,
+    )
 }
 
 // Refusal 2; the second job has eight entries and half of one.
-fn entry_cases(rt: &impl Print, set: &[u8]) -> io::Result<()> {
-    let mut output = [FILL; 8];
-    let mut work = [FILL; 16];
-    let job = [1; 18];
-    read_case(rt, "9 entries", set, &job, b"AACC", &mut output, &mut work)?;
-    read_case(rt, "job of 17 bytes", set, &job[..17], b"AACC", &mut output, &mut work)?;
-    read_case(rt, "8 entries", set, &job[..16], b"AACC", &mut output, &mut work)
+fn entry_cases(rt: &impl Print, alloc: Global, set: &[u8]) -> io::Result<()> {
+    read_case(rt, alloc, "9 entries", set, &[1; 18], b"AACC", 8, 16)?;
+    read_case(rt, alloc, "job of 17 bytes", set, &[1; 17], b"AACC", 8, 16)?;
+    read_case(rt, alloc, "8 entries", set, &[1; 16], b"AACC", 8, 16)
 }
 
-fn line_cases(rt: &impl Print, set: &[u8]) -> io::Result<()> {
-    let mut output = [FILL; 1024];
-    let mut work = [FILL; 2050];
-    let batch = [b'\n'; 1025];
-    batch_case(rt, "1025 lines", set, &batch, &mut output, &mut work)?;
-    batch_case(rt, "1024 lines", set, &batch[..1024], &mut output, &mut work)
+fn line_cases(rt: &impl Print, alloc: Global, set: &[u8]) -> io::Result<()> {
+    batch_case(rt, alloc, "1025 lines", set, &[b'\n'; 1025], 1024, 2050)?;
+    batch_case(rt, alloc, "1024 lines", set, &[b'\n'; 1024], 1024, 2050)
 }
 
-fn set_case(rt: &impl Print, name: &str, set: &[u8]) -> io::Result<()> {
-    let mut output = [FILL; 8];
-    let mut work = [FILL; 16];
-    batch_case(rt, name, set, b"AAC\n", &mut output, &mut work)
+fn set_case(rt: &impl Print, alloc: Global, name: &str, set: &[u8]) -> io::Result<()> {
+    batch_case(rt, alloc, name, set, b"AAC\n", 8, 16)
 }
 
-fn header_cases(rt: &impl Print, mut set: [u8; 1024]) -> io::Result<()> {
+fn header_cases(rt: &impl Print, alloc: Global, sample: [u8; 1024]) -> io::Result<()> {
+    let mut set = sample;
     set[0] = 4;
-    set_case(rt, "wrong check of block 0", &set)?;
+    set_case(rt, alloc, "wrong check of block 0", &set)?;
     set[504] = 10;
-    set_case(rt, "even k", &set)
+    set_case(rt, alloc, "even k", &set)
 }
 
-fn key_cases(rt: &impl Print, mut set: [u8; 1024]) -> io::Result<()> {
+fn key_cases(rt: &impl Print, alloc: Global, sample: [u8; 1024]) -> io::Result<()> {
+    let mut set = sample;
     set[512] = 7;
-    set_case(rt, "wrong check of block 1", &set)?;
+    set_case(rt, alloc, "wrong check of block 1", &set)?;
     set[1016] = 201;
-    set_case(rt, "first key not canonical", &set)
+    set_case(rt, alloc, "first key not canonical", &set)
 }
 
 fn main(rt: HostRuntime) -> io::Result<()> {
+    let alloc = rt.alloc();
     let set = sample_set();
-    longest_cases(&rt, rt.alloc(), &set)?;
-    work_cases(&rt, &set)?;
-    entry_cases(&rt, &set)?;
-    line_cases(&rt, &set)?;
-    set_case(&rt, "no set", b"")?;
-    set_case(&rt, "set of 513 bytes", &[0; 513])?;
-    header_cases(&rt, set)?;
-    key_cases(&rt, set)
+    limit_cases(&rt, alloc, &set)?;
+    work_cases(&rt, alloc, &set)?;
+    entry_cases(&rt, alloc, &set)?;
+    line_cases(&rt, alloc, &set)?;
+    set_case(&rt, alloc, "no set", b"")?;
+    set_case(&rt, alloc, "set of 513 bytes", &[0; 513])?;
+    header_cases(&rt, alloc, set)?;
+    key_cases(&rt, alloc, set)
 }

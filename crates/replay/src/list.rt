@@ -1,8 +1,6 @@
 // The records of a list, and the bytes behind them. compare/README.md has the format.
-ghost use Rattle.std.specs.Prelude.{◌≡◌, ◌<◌, ◌+◌, ◌*◌, length, vec_len, IfOk};
+ghost use Rattle.std.specs.Prelude.{◌<◌, ◌+◌, ◌*◌, length};
 
-use refusal::Refusal;
-use report::Report;
 use std::alloc::{AllocError, Global};
 use std::io;
 use std::io::Read;
@@ -86,6 +84,12 @@ impl Record {
         Ok(Record { numbers })
     }
 
+    fn number(&self, i: usize) -> u64
+        requires { i < 19 }
+    {
+        u64::from(self.numbers[i])
+    }
+
     pub fn kind(&self) -> Result<Kind, ListError> {
         Kind::try_from(self.numbers[0])
     }
@@ -112,7 +116,7 @@ impl Record {
         self.numbers[5] as usize
     }
 
-    pub fn result(&self) -> usize {
+    pub fn expected(&self) -> usize {
         self.numbers[6] as usize
     }
 
@@ -121,34 +125,42 @@ impl Record {
         self.numbers[8]
     }
 
-    pub fn is_accepted(&self) -> bool {
-        self.numbers[8] == 0 && self.numbers[9] == 0
+    // What the call tells a host, in the order of the host's answer: of an opened set, of what a job needs, and of a call that corrects.
+    pub fn opened(&self) -> [u64; 4] {
+        [
+            self.number(8),
+            self.number(9),
+            self.number(10),
+            self.number(11),
+        ]
     }
 
-    pub fn refuses(&self, refusal: Refusal) -> bool {
-        u64::from(self.numbers[8]) == refusal.number() && u64::from(self.numbers[9]) == refusal.place()
+    pub fn need(&self) -> [u64; 5] {
+        [
+            self.number(8),
+            self.number(9),
+            self.number(10),
+            self.number(11),
+            self.number(12),
+        ]
     }
 
-    // The i-th number that an accepted call tells.
-    pub fn told(&self, i: usize) -> u64
-        requires { i < 9 }
-    {
-        u64::from(self.numbers[10 + i])
-    }
-
-    pub fn report(&self) -> Report {
-        Report {
-            written: self.numbers[10] as usize,
-            turns: self.told(1),
-            lookups: self.told(2),
-            attempts: self.told(3),
-            accepted: self.told(4),
-            yield_: self.told(5),
-            support: (self.numbers[7] == 1).then_some(self.numbers[1]),
-            quotient: self.told(6),
-            remainder: self.told(7),
-            bases: self.told(8),
-        }
+    pub fn answer(&self) -> [u64; 13] {
+        [
+            self.number(8),
+            self.number(9),
+            self.number(10),
+            self.number(11),
+            self.number(12),
+            self.number(13),
+            self.number(14),
+            self.number(15),
+            self.number(7),
+            self.number(1),
+            self.number(16),
+            self.number(17),
+            self.number(18),
+        ]
     }
 }
 

@@ -5,10 +5,10 @@
 mod agree;
 mod list;
 
-ghost use Rattle.std.specs.Prelude.{◌≤◌, length};
-
-use agree::{answer_agrees, lent_is, need_agrees, opened_agrees, rest_of};
+use agree::{lent_is, rest_of};
 use list::{Kind, ListError, Record, counts_of, number_at, read_bytes};
+use refusal::Refusal;
+use report::Report;
 use std::alloc::Global;
 use std::io;
 use std::io::Read;
@@ -77,7 +77,24 @@ fn lent(alloc: Global, length: usize, most: usize, fill: u8) -> Result<Vec<u8>, 
     Ok(vec![in alloc; fill; length]?)
 }
 
-// The call of a record: its job and input follow, and the result that is expected of it.
+// The call that a record is about.
+fn call(
+    kind: Kind,
+    offered: &Offered,
+    job: &[u8],
+    input: &[u8],
+    output: &mut [u8],
+    work: &mut [u8],
+) -> Result<Report, Refusal> {
+    let Offered { set, index, counts } = offered;
+    match kind {
+        Kind::Read => job::correct_read(set, index, counts, job, input, output, work),
+        Kind::Fasta => fasta::correct_fasta(set, index, counts, job, input, output, work),
+        _ => job::correct_batch(set, index, counts, job, input, output, work),
+    }
+}
+
+// Its job and input follow, and the result that is expected.
 fn call_agrees<L: Read>(
     list: &mut L,
     alloc: Global,
@@ -88,27 +105,16 @@ fn call_agrees<L: Read>(
 ) -> Result<bool, ListError> {
     let job = read_bytes(list, alloc, record.job(), MAX_JOB)?;
     let input = read_bytes(list, alloc, record.input(), MAX_INPUT)?;
-    let result = read_bytes(list, alloc, record.result(), MAX_OUTPUT)?;
+    let expected = read_bytes(list, alloc, record.expected(), MAX_OUTPUT)?;
     let mut output = lent(alloc, record.output(), MAX_OUTPUT, fill)?;
     let mut work = lent(alloc, record.work(), MAX_WORK, fill)?;
-    let correct = match kind {
-        Kind::Read => job::correct_read,
-        Kind::Fasta => fasta::correct_fasta,
-        _ => job::correct_batch,
-    };
-    let answer = correct(
-        &offered.set,
-        &offered.index,
-        &offered.counts,
-        &job,
-        &input,
-        &mut output,
-        &mut work,
-    );
+    let answer = call(kind, offered, &job, &input, &mut output, &mut work);
     let rest = rest_of(record, fill);
-    Ok(answer_agrees(answer, record)
-        && lent_is(&output, &result, rest)
-        && lent_is(&work, b"", rest))
+    Ok(
+        answer_numbers::numbers_of(answer) == record.answer()
+            && lent_is(&output, &expected, rest)
+            && lent_is(&work, b"", rest),
+    )
 }
 
 // The same of a call that has no output.
@@ -122,15 +128,16 @@ fn needs_agree<L: Read>(
     let job = read_bytes(list, alloc, record.job(), MAX_JOB)?;
     let batch = read_bytes(list, alloc, record.input(), MAX_INPUT)?;
     let mut work = lent(alloc, record.work(), MAX_WORK, fill)?;
-    let answer = needs::needs(
-        &offered.set,
-        &offered.index,
-        &offered.counts,
-        &job,
-        &batch,
-        &mut work,
-    );
-    Ok(need_agrees(answer, record) && lent_is(&work, b"", rest_of(record, fill)))
+    let Offered { set, index, counts } = offered;
+    let need = needs::needs(set, index, counts, &job, &batch, &mut work);
+    Ok(
+        answer_numbers::needs_numbers(need) == record.need()
+            && lent_is(&work, b"", rest_of(record, fill)),
+    )
+}
+
+fn open_agrees(offered: &Offered, record: &Record) -> bool {
+    answer_numbers::open_numbers(opening::open(&offered.set)) == record.opened()
 }
 
 // Whether the next case agrees. Before it at most a set, an index and counts are offered, in this order.
@@ -148,7 +155,7 @@ fn case_agrees<L: Read>(
         }
     }
     match record.kind()? {
-        Kind::Open => Ok(opened_agrees(opening::open(&offered.set), &record)),
+        Kind::Open => Ok(open_agrees(offered, &record)),
         Kind::Needs => needs_agree(list, alloc, offered, &record, fill),
         Kind::Set | Kind::Index | Kind::Counts => Err(ListError::Malformed),
         kind => call_agrees(list, alloc, offered, kind, &record, fill),
