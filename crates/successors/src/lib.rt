@@ -18,8 +18,9 @@ pub struct Alt {
     pub place: usize,
 }
 
-// All letters of the k-mer but its first are known: the four have them in common. The places of their keys go into the lent array. It is a
-// loop so that it is short enough to become part of the walks that call it.
+// All letters of the k-mer but its first are known: the four have them in common. The places of their keys go into the lent array. It is part
+// of the walks that call it: a call of its own at each move made Graph a tenth slower.
+#[inline(always)]
 pub fn next_nucs(set: &KmerSet, kmer: Kmer, places: &mut [usize; 4]) -> [bool; 4]
     requires { IsKmer set.now.head.k kmer × ((add set.now.head.k (kmer_of kmer) 0).unknown ≡ 0) }
     ensures { (result ≡ rules.successors set.now.head.k (solid (set_of set.now.bytes.now)) (kmer_of kmer))
