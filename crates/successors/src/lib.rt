@@ -19,7 +19,7 @@ pub struct Alt {
 }
 
 // All letters of the k-mer but its first are known: the four have them in common. The places of their keys go into the lent array. It is part
-// of the walks that call it: a call of its own at each move made Graph a tenth slower.
+// of the walks that call it: with a call of its own at each move Graph takes a tenth more instructions.
 #[inline(always)]
 pub fn next_nucs(set: &KmerSet, kmer: Kmer, places: &mut [usize; 4]) -> [bool; 4]
     requires { IsKmer set.now.head.k kmer × ((add set.now.head.k (kmer_of kmer) 0).unknown ≡ 0) }
