@@ -1,5 +1,5 @@
 // The records of a list, and the bytes behind them. compare/README.md has the format.
-ghost use Rattle.std.specs.Prelude.{◌<◌, ◌+◌, ◌*◌, length};
+ghost use Rattle.std.specs.Prelude.{◌≡◌, ◌<◌, ◌+◌, ◌*◌, length, vec_len, IfOk};
 
 use std::alloc::{AllocError, Global};
 use std::io;
@@ -170,7 +170,9 @@ pub fn read_bytes<L: Read>(
     alloc: Global,
     count: usize,
     most: usize,
-) -> Result<Vec<u8>, ListError> {
+) -> Result<Vec<u8>, ListError>
+    ensures { IfOk result (λ v. vec_len v ≡ count) }
+{
     if most < count {
         return Err(ListError::Malformed);
     }
