@@ -32,17 +32,6 @@ module _ (bytes : List ℕ) (k : ℕ) (e : k ≡ header_k bytes) where
 
 -- ---- an offered index
 
--- Tests of one number after another, as the code makes them.
-pub tests_all : (ok : ℕ → Bool) (i m : ℕ) → list_all ok (range_with_len i m) ≡ is_none (first_failing ok i m)
-unfolding first_failing is_none
-tests_all ok i zero = refl
-tests_all ok i (suc m) = go (ok i) refl (tests_all ok (suc i) m)
-  where
-    go : (b : Bool) → ok i ≡ b → list_all ok (range_with_len (suc i) m) ≡ is_none (first_failing ok (suc i) m)
-        → list_all ok (range_with_len i (suc m)) ≡ is_none (first_failing ok i (suc m))
-    go true e rest = rw (add-one, e, first_failing) rest
-    go false e rest = rw (e, first_failing)
-
 -- Tests that all hold, as the code finds them.
 all_hold : (ok : ℕ → Bool) (m : ℕ) → (is_none (first_failing ok 0 m) ≡ true) ↔ ((j : ℕ) → j < m → ok j ≡ true)
 unfolding is_none

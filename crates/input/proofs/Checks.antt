@@ -13,23 +13,6 @@ use Rattle.rules.specs.Calls.{max_read, buffers_right, job_check, input_check}
 use Rattle.rules_laws.proofs.Upward.{or_else-assoc}
 use Rattle.rules_needs.specs.Needs.{needs_check}
 
--- The first failing index from i on, of n.
-module _ (ok : ℕ → Bool) (n i : ℕ) where
-  one_more : i < n → n - i ≡ suc (n - suc i)
-  one_more h = omega arith
-
-  pub fails : i < n → ok i ≡ false → first_failing ok i (n - i) ≡ some i
-  unfolding first_failing
-  fails h e = rw (one_more h, first_failing, e)
-
-  pub holds : i < n → ok i ≡ true → first_failing ok i (n - i) ≡ first_failing ok (i + 1) (n - (i + 1))
-  unfolding first_failing
-  holds h e = rw (one_more h, add-one i, first_failing, e)
-
-  pub none_left : n ≤ i → first_failing ok i (n - i) ≡ none
-  unfolding first_failing
-  none_left h = let e : n - i ≡ 0 = omega arith in rw (e, first_failing)
-
 -- Both calls begin with checks 1 to 4.
 pub input-by-start : (input output work : ℕ) (job : List ℕ)
     → input_check input job output work ≡ (unless (leb input max_read) 1 or_else job_check job) or_else unless (buffers_right input output work) 5

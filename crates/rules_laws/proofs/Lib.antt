@@ -14,6 +14,7 @@ pub mod Asked
 pub mod Support
 pub mod Opened
 pub mod Job
+pub mod First
 pub mod Keys
 pub mod Blocks
 pub mod SetBlocks

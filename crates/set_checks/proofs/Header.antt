@@ -13,17 +13,6 @@ use Rattle.rules.specs.Refusal.{first_failing}
 use Rattle.rules.specs.Set.{block_word, header_k, header_n, header_right, is_none}
 use Rattle.rules_laws.proofs.Opened.{both}
 
--- of m numbers from i on, all pass, or one is the first that fails
-pub all-hold : (ok : ℕ → Bool) (i m : ℕ) → list_all ok (range_with_len i m) ≡ is_none (first_failing ok i m)
-unfolding is_none first_failing
-all-hold ok i zero = refl
-all-hold ok i (suc m) = go (ok i) (rw add-one (all-hold ok (suc i) m))
-  where
-    go : (t : Bool) → list_all ok (range_with_len (i + 1) m) ≡ is_none (first_failing ok (suc i) m)
-        → (t && list_all ok (range_with_len (i + 1) m)) ≡ is_none (elim t [ true ↦ first_failing ok (suc i) m | false ↦ some i ])
-    go true e = e
-    go false e = refl
-
 -- what a right header says of k, n and the count of blocks
 pub record Sized (bytes : List ℕ) (k n : ℕ) : Type 0 where
   pub odd : k % 2 ≡ 1

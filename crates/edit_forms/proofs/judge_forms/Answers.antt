@@ -2,7 +2,7 @@ use Rattle.std.proofs.Common.{◌≡◌, refl, sym, ap, ◌∙◌, ℕ, List, []
 use native.Mathlib.Nat.{sub-zero}
 use Rattle.rules.specs.Refusal.{first_failing}
 use Rattle.rules_edits.specs.Edits.{sheet, formed, letters_to}
-use Rattle.blocks.proofs.First.{passed, failed, ended}
+use Rattle.rules_laws.proofs.First.{passed, failed, ended}
 use Rattle.edit_forms.proofs.Forms.{count_is, numbers-fit, letters-more, letters-fit}
 use Rattle.edit_forms.proofs.judge_forms.Goals.{Else-not-is_formed}
 use Rattle.edit_forms.proofs.judge_forms.Goals as goal

@@ -8,7 +8,7 @@ use Rattle.rules.specs.Refusal.{at_place}
 use Rattle.rules.specs.Set as Rules
 use Rattle.set_checks.specs.Keys.{least_key}
 use Rattle.set_checks.specs.Checks.{first_wrong}
-use Rattle.blocks.proofs.First.{passed, failed, ended}
+use Rattle.rules_laws.proofs.First.{passed, failed, ended}
 use Rattle.set_checks.proofs.Header.{Sized, sized}
 use Rattle.opening.proofs.Opening.{at_8, at-10}
 use Rattle.opening.proofs.check_keys.Goals.{Else-not-check_right, In-loop-block, Start}

@@ -3,7 +3,7 @@ use borrow.Author.Rules.{rules}
 use borrow.Author.Tests.{eq-eqb, ne_eqb}
 use Rattle.rules.specs.Refusal.{at_place}
 use Rattle.rules.specs.Set as Rules
-use Rattle.blocks.proofs.First.{passed, failed, ended}
+use Rattle.rules_laws.proofs.First.{passed, failed, ended}
 use Rattle.set_checks.proofs.Keys.{spare-test}
 use Rattle.opening.proofs.check_spare.Goals as goal
 

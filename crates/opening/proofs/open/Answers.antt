@@ -6,7 +6,7 @@ use borrow.Author.Rules.{rules}
 use Rattle.std.proofs.lemmas.Result.{err_from_is_err_and}
 use Rattle.rules.specs.Refusal.{at_place}
 use Rattle.rules.specs.Set as Rules
-use Rattle.blocks.proofs.First.{passed, failed}
+use Rattle.rules_laws.proofs.First.{passed, failed}
 use Rattle.opening.proofs.Opening.{length-right, length-zero, length-odd, accepted-by, refused-by, at_7, at_8, at_9}
 use Rattle.set_checks.specs.Checks.{first_wrong}
 use Rattle.opening.proofs.open.Goals.{Else-not-check_right, Else-set-ne0, then-set-eq0-via-then-set-eq0, then-set-eq0-via-else-set-eq0+then-set-ne0}

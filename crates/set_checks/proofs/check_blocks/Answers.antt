@@ -4,7 +4,7 @@ use lib.ListN.{length}
 use borrow.Author.Rules.{rules}
 use Rattle.rules.specs.Refusal.{at_place}
 use Rattle.rules.specs.Set as Rules
-use Rattle.blocks.proofs.First.{passed, failed, ended}
+use Rattle.rules_laws.proofs.First.{passed, failed, ended}
 use Rattle.set_checks.proofs.check_blocks.Goals as goal
 
 pub returns-then-not-check_right : goal.returns-then-not-check_right

@@ -9,7 +9,7 @@ use Rattle.rules.specs.Letters.{mask, even_ones}
 use Rattle.rules.specs.Refusal.{at_place}
 use Rattle.rules.specs.Set as Rules
 use Rattle.kmer.proofs.Laws.{bound}
-use Rattle.blocks.proofs.First.{passed, failed}
+use Rattle.rules_laws.proofs.First.{passed, failed}
 use Rattle.set_checks.proofs.Header.{Sized, sized}
 use Rattle.set_checks.proofs.Keys.{key-test, least-next}
 use Rattle.rules_laws.proofs.Opened.{both}

@@ -2,7 +2,7 @@ use Rattle.std.proofs.Common.{◌∙◌, refl, eqb, rules, tests}
 use Rattle.std.proofs.lemmas.Iterator.{YieldsList-from_range}
 use Rattle.std.proofs.lemmas.Iterator.Search.{all_from_yields_List}
 use Rattle.rules.specs.Set as Rules
-use Rattle.set_checks.proofs.Header.{all-hold}
+use Rattle.rules_laws.proofs.First.{all-hold}
 use Rattle.set_checks.proofs.rest_zero.Goals as goal
 
 pub returns : goal.returns
