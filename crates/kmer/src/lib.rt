@@ -1,5 +1,5 @@
-// Document 01, "Letters", and document 02, W5: codes of bases, and k-mers as numbers in base four. Ports `mask` and `add_nuc_to_end` of src/correct/mod.rs, and
-// `nuc2bit`, `bit2nuc`, `seq2bit` and `canonical` of the crate cocktail.
+// Document 01, "Letters", and document 02, W5: codes of bases, and k-mers as numbers in base four. Ports `mask` and `add_nuc_to_end` of
+// src/correct/mod.rs, and `nuc2bit`, `bit2nuc`, `seq2bit` and `canonical` of the crate cocktail.
 #![tactic(auto)]
 
 mod shifts;
@@ -18,6 +18,42 @@ pub struct Kmer {
     pub rev: u64,
     pub unknown: u64,
 }
+
+// Entry k is 4^k − 1.
+const MASK_LOOKUP: [u64; 32] = [
+    0,
+    3,
+    15,
+    63,
+    255,
+    1023,
+    4095,
+    16383,
+    65535,
+    262143,
+    1048575,
+    4194303,
+    16777215,
+    67108863,
+    268435455,
+    1073741823,
+    4294967295,
+    17179869183,
+    68719476735,
+    274877906943,
+    1099511627775,
+    4398046511103,
+    17592186044415,
+    70368744177663,
+    281474976710655,
+    1125899906842623,
+    4503599627370495,
+    18014398509481983,
+    72057594037927935,
+    288230376151711743,
+    1152921504606846975,
+    4611686018427387903,
+];
 
 // The letters that have a code, a bit for each: its number is the letter's last five bits, the same in upper and lower case.
 const LETTERS: u64 = 3145866;
@@ -74,7 +110,7 @@ pub fn mask(k: usize) -> u64
     requires { k < 32 }
     ensures { result ≡ Letters.mask k }
 {
-    (1 << (2 * k)) - 1
+    MASK_LOOKUP[k]
 }
 
 pub fn header_of(k: usize, n: usize, shift: u32, finer: u32) -> Header

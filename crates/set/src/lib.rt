@@ -79,8 +79,8 @@ impl Lookup<'_> {
 
 // A lookup is made only of a k-mer without unknown letters. Of the header it takes what it needs: a struct that is handed over is laid into
 // memory for each lookup, and so is a seventh number, hence the last is the one that is seldom used. Since `place_of`, `get` and `ask` all
-// call it, and none of them another, it stays a function of its own. It answers n where there is no key: an enum would go through memory, and its case be a branch that is often
-// guessed wrong.
+// call it, and none of them another, it stays a function of its own. It answers n where there is no key: an enum would go through memory, and
+// its case be a branch that is often guessed wrong.
 fn look_up(set: &[u8], starts: &[u32], kmer: Kmer, n: usize, shift: u32, finer: u32) -> usize
     requires { Table set.now starts.now shift finer × IsKmer (header_k set.now) kmer × (kmer.unknown ≡ 0) }
     ensures { result ≡ place_in n (lookup (set_of set.now) kmer.code) }

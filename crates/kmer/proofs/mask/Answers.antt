@@ -1,15 +1,26 @@
+use Prim.Native.Nat.{ℕ, zero, suc, ◌+◌, ◌<◌}
 use native.Mathlib.Omega.{arith}
-use native.Mathlib.Nat.{mod-eq_of_lt}
-use Prim.Native.Nat.{ℕ, ◌*◌, ◌-◌, ◌^◌, ◌≤◌}
-use mathlib.Core.Path.{◌≡◌, ap}
+use native.Mathlib.Nat.{zero-add}
+use mathlib.Core.Path.{◌≡◌, ap, ◌∙◌}
+use mathlib.Core.List.{List, [], ◌∷◌}
+use lib.ListN.{get_or}
+use borrow.Author.Rules.{rules}
 use Rattle.rules.specs.Letters.{mask}
-use Rattle.rules_laws.proofs.Kmer.{two-four}
-use Rattle.kmer.proofs.Laws.{bound}
 use Rattle.kmer.proofs.mask.Goals as goal
 
-pub returns : goal.returns
+-- the masks of m lengths from i on
+masks : ℕ → ℕ → List ℕ
 unfolding mask
-returns c =
-    let low : 2 ^ (2 * c.args.k) ≤ 2 ^ 62 = rw (two-four c.args.k) (bound c.args.k (omega arith)) in
-    let e : 1 * 2 ^ (2 * c.args.k) ≡ 4 ^ c.args.k = omega (arith, two-four c.args.k) in
-    rw e (ap (λ (n : ℕ). n - 1) (mod-eq_of_lt (omega (arith, low, two-four c.args.k))))
+masks i zero = []
+masks i (suc m) = mask i ∷ masks (suc i) m
+
+masks-at : (i m k : ℕ) → k < m → get_or (masks i m) k 0 ≡ mask (i + k)
+unfolding masks
+masks-at i zero k h = absurd (omega arith)
+masks-at i (suc m) zero h = ap mask (omega arith)
+masks-at i (suc m) (suc k) h = masks-at (suc i) m k (omega arith) ∙ ap mask (omega arith)
+
+-- the table is computed to be the masks of 0 to 31
+pub returns : goal.returns
+unfolding masks
+returns c = masks-at 0 32 c.args.k (search rules) ∙ ap mask (zero-add _)
