@@ -1,8 +1,8 @@
 // A call's answer as numbers, and numbers told in a slice that the host lends.
 #![tactic(auto)]
 
-ghost use Rattle.std.specs.Prelude.{◌≡◌, ◌-◌, ◌≤◌, ◌<◌, ◌∷◌, length, replicate};
-ghost use Rattle.refusal.specs.Refusal.{refusal_of, check_of};
+ghost use Rattle.std.specs.Prelude.{◌≡◌, ◌<◌, length};
+ghost use Rattle.refusal.specs.Refusal.{check_of};
 ghost use Rattle.report.specs.Answer.{answer_of};
 ghost use Rattle.solid.specs.Solid.{count_of};
 ghost use Rattle.lay.specs.Made.{outcome_of};
@@ -14,17 +14,6 @@ use opening::Opened;
 use refusal::Refusal;
 use report::Report;
 use solid::Count;
-
-// Of a refusal, its number and place; what does not apply is 0.
-fn refused<const N: usize>(refusal: Refusal) -> [u64; N]
-    requires { 2 ≤ N }
-    ensures { result ≡ (refusal_of refusal).number ∷ (refusal_of refusal).place ∷ replicate (N - 2) 0 }
-{
-    let mut numbers = [0; N];
-    numbers[0] = refusal.number();
-    numbers[1] = refusal.place();
-    numbers
-}
 
 // The numbers of a call.
 #[tactic(auto, unfolding(crate::specs::Numbers::numbers_of))]
@@ -47,7 +36,7 @@ pub fn numbers_of(answer: Result<Report, Refusal>) -> [u64; 13]
             report.remainder,
             report.bases,
         ],
-        Err(refusal) => refused(refusal),
+        Err(refusal) => refusal.numbers(),
     }
 }
 
@@ -57,7 +46,7 @@ pub fn open_numbers(opened: Result<Opened, Refusal>) -> [u64; 4]
 {
     match opened {
         Ok(set) => [0, 0, set.k as u64, set.n as u64],
-        Err(refusal) => refused(refusal),
+        Err(refusal) => refusal.numbers(),
     }
 }
 
@@ -68,7 +57,7 @@ pub fn solid_numbers(count: Result<Count, Refusal>) -> [u64; 4]
 {
     match count {
         Ok(count) => [0, 0, count.kmers, count.solid],
-        Err(refusal) => refused(refusal),
+        Err(refusal) => refusal.numbers(),
     }
 }
 
@@ -79,7 +68,7 @@ pub fn made_numbers(made: Result<usize, Refusal>) -> [u64; 3]
 {
     match made {
         Ok(length) => [0, 0, length as u64],
-        Err(refusal) => refused(refusal),
+        Err(refusal) => refusal.numbers(),
     }
 }
 
@@ -90,7 +79,7 @@ pub fn needs_numbers(answer: Result<Need, Refusal>) -> [u64; 5]
 {
     match answer {
         Ok(need) => [0, 0, need.bytes as u64, need.turns, need.lookups],
-        Err(refusal) => refused(refusal),
+        Err(refusal) => refusal.numbers(),
     }
 }
 
@@ -101,7 +90,7 @@ pub fn check_numbers(checked: Result<(), Refusal>) -> [u64; 2]
 {
     match checked {
         Ok(()) => [0, 0],
-        Err(refusal) => refused(refusal),
+        Err(refusal) => refusal.numbers(),
     }
 }
 

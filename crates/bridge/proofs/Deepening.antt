@@ -11,6 +11,7 @@ use lib.ListN.{length, take, replicate}
 use lib.Seq.{take-append_seam}
 use Rattle.rules.specs.Counted.{Counted}
 use Rattle.rules_bridge.specs.Bridge.{End, found, tried, stopped, from_kmer, Bridge, bridge_by, rounds, bridge, max_moves, Told, moves_of, letters_of, told}
+use Rattle.rules_bridge.proofs.Search.{chain_length, sound}
 use Rattle.bridge_search.specs.declared.End.TheVariants as Ends
 use Rattle.bridge_search.specs.declared.Search.{Search}
 use Rattle.bridge_search.specs.Search.{laid, EndIs, SearchIs}
@@ -72,6 +73,13 @@ unfolding told moves_of letters_of
 none_told l f stop = refl
 
 -- ---- rounds
+
+-- a found chain has a move
+module _ (k : ℕ) (sol : ℕ → Bool) (to budget from d l : ℕ) (r : Search) (s : SearchIs budget 0 d (from_kmer k sol to budget d from l) r) where
+  pub found-moves : (n : ℕ) → r.end ≡ Ends.Found n → 1 ≤ n
+  found-moves n e =
+      let f = was-found d (from_kmer k sol to budget d from l) r n (from_kmer k sol to budget d from l).answer refl s.end e in
+      omega (arith, f.moves, chain_length (sound k sol to budget d from l f.bs f.is).0)
 
 module _ (k : ℕ) (sol : ℕ → Bool) (to budget from : ℕ) (deep : List ℕ) (moves d l : ℕ) where
   rounds-end : moves ≤ d → rounds k sol to budget from deep (moves - d) d l ≡ bridge_by (some deep) l d false

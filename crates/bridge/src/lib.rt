@@ -1,6 +1,8 @@
 // Document 02, W13: the shortest bridge between two solid k-mers, as far as lookups last.
 #![tactic(auto)]
 
+mod chain;
+
 ghost use Rattle.std.specs.Prelude.{◌≡◌, Bool, ◌-◌, ◌≤◌, length, take};
 ghost use Rattle.std.proofs.Math.Option.{none};
 ghost use Rattle.rules.specs.Set.{solid, set_of, opened};
@@ -11,6 +13,7 @@ ghost use Rattle.bridge_search.specs.Search.{laid};
 ghost use Rattle.bridge.specs.Answer.{told_by, answer_of};
 
 use bridge_search::{End, Search};
+pub use chain::Chain;
 use kmer::Kmer;
 use refusal::Refusal;
 use set::{KmerSet, STARTS};
@@ -18,48 +21,50 @@ use set::{KmerSet, STARTS};
 // The most moves of a chain.
 const MOVES: usize = 16;
 
-// The chain's moves (0: none), the lookups made, the floor, and the chain's letters, 0 behind the last.
+// The shortest chain found, the lookups made, and the floor.
 #[derive(Clone, Copy)]
 pub struct Bridge {
-    pub moves: usize,
+    pub chain: Option<Chain>,
     pub lookups: u64,
     pub floor: u64,
-    pub letters: [u8; 16],
 }
 
-// Rounds of 1 move, 2 moves and so on, while shorter than the deep search's chain of so many moves. It is a `while`,
-// since the floor is the round at which it ends. An array field goes into a literal by way of a variable, as the borrow checker asks.
-fn rounds(set: &KmerSet, from: Kmer, to: u64, budget: u64, deep: Search, moves: usize) -> Bridge
-    requires { IsKmer set.now.head.k from × (from.unknown ≡ 0) × (deep.lookups ≤ budget) × (moves ≤ 16)
-        × (deep.letters ≡ laid 0 (take moves deep.letters)) × (length (take moves deep.letters) ≡ moves) }
-    ensures { told_by result
-        ≡ rules.told (rules.rounds set.now.head.k (solid (set_of set.now.bytes.now)) to budget from.code (take moves deep.letters) (moves - 1) 1 deep.lookups) }
+// The chain that a search found. An array field goes into a literal by way of a variable, as the borrow checker asks.
+fn chain_of(search: Search, moves: usize) -> Chain
+    requires { 1 ≤ moves }
+    ensures { (result.moves ≡ moves) × (result.letters ≡ search.letters) }
 {
-    let letters = deep.letters;
-    let mut best = Bridge {
-        moves,
-        lookups: deep.lookups,
-        floor: 1,
-        letters,
-    };
-    while best.floor < moves as u64 {
-        let round = best.floor as usize;
-        let r = bridge_search::from_kmer(set, from, to, 0, round, budget, best.lookups);
-        best.lookups = r.lookups;
-        match r.end {
-            End::Tried => best.floor += 1,
-            End::Stopped => return best,
-            End::Found(n) => {
-                let letters = r.letters;
-                return Bridge {
-                    moves: n,
-                    letters,
-                    ..best
-                };
-            }
-        }
+    let letters = search.letters;
+    Chain { moves, letters }
+}
+
+// Rounds of 1 move, 2 moves and so on, while shorter than the deep search's chain. Its moves are what a round asks, and the floor where it is the last.
+fn rounds(set: &KmerSet, from: Kmer, to: u64, budget: u64, lookups: u64, deep: Chain) -> Bridge
+    requires { IsKmer set.now.head.k from × (from.unknown ≡ 0) × (lookups ≤ budget) × (deep.moves ≤ 16)
+        × (deep.letters ≡ laid 0 (take deep.moves deep.letters)) × (length (take deep.moves deep.letters) ≡ deep.moves) }
+    ensures { told_by result
+        ≡ rules.told (rules.rounds set.now.head.k (solid (set_of set.now.bytes.now)) to budget from.code (take deep.moves deep.letters) (deep.moves - 1) 1 lookups) }
+{
+    let mut lookups = lookups;
+    for round in 1..deep.moves {
+        let r = bridge_search::from_kmer(set, from, to, 0, round, budget, lookups);
+        lookups = r.lookups;
+        let chain = match r.end {
+            End::Tried => continue,
+            End::Stopped => deep,
+            End::Found(moves) => chain_of(r, moves),
+        };
+        return Bridge {
+            chain: Some(chain),
+            lookups,
+            floor: round as u64,
+        };
     }
-    best
+    Bridge {
+        chain: Some(deep),
+        lookups,
+        floor: deep.moves as u64,
+    }
 }
 
 // No chain.
@@ -67,10 +72,9 @@ fn nothing(lookups: u64, floor: u64) -> Bridge
     ensures { (stop : Bool) → told_by result ≡ rules.told (rules.bridge_by none lookups floor stop) }
 {
     Bridge {
-        moves: 0,
+        chain: None,
         lookups,
         floor,
-        letters: [0; 16],
     }
 }
 
@@ -81,7 +85,10 @@ fn shortest(set: &KmerSet, from: Kmer, to: u64, budget: u64) -> Bridge
 {
     let deep = bridge_search::from_kmer(set, from, to, 0, MOVES, budget, 0);
     match deep.end {
-        End::Found(moves) => rounds(set, from, to, budget, deep, moves),
+        End::Found(moves) => {
+            let chain = chain_of(deep, moves);
+            rounds(set, from, to, budget, deep.lookups, chain)
+        }
         End::Tried => nothing(deep.lookups, 17),
         End::Stopped => nothing(deep.lookups, 1),
     }

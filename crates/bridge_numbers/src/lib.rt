@@ -8,24 +8,21 @@ ghost use Rattle.bridge_numbers.specs.Numbers.{bridge_numbers};
 use bridge::Bridge;
 use refusal::Refusal;
 
+#[tactic(auto, unfolding(crate::specs::Numbers::bridge_numbers))]
 pub fn numbers_of(answer: Result<Bridge, Refusal>) -> [u64; 21]
     ensures { result ≡ bridge_numbers (answer_of answer) }
 {
-    let mut numbers = [0; 21];
     match answer {
         Ok(bridge) => {
-            numbers[2] = bridge.moves as u64;
+            let mut numbers = [0; 21];
             numbers[3] = bridge.lookups;
             numbers[4] = bridge.floor;
-            let letters = bridge.letters;
-            for i in 0..16 {
-                numbers[5 + i] = letters[i] as u64;
+            if let Some(chain) = bridge.chain {
+                numbers[2] = chain.moves as u64;
+                numbers[5..].copy_from_slice(&chain.letters.map(u64::from));
             }
+            numbers
         }
-        Err(refusal) => {
-            numbers[0] = refusal.number();
-            numbers[1] = refusal.place();
-        }
+        Err(refusal) => refusal.numbers(),
     }
-    numbers
 }

@@ -1,7 +1,7 @@
 // Why a call is refused: the refusals of documents 01 and 02, with their numbers and places.
 #![tactic(auto)]
 
-ghost use Rattle.std.specs.Prelude.{◌≡◌};
+ghost use Rattle.std.specs.Prelude.{◌≡◌, ◌-◌, ◌≤◌, ◌∷◌, replicate};
 ghost use Rattle.refusal.specs.Refusal.{refusal_of};
 
 use std::fmt;
@@ -76,6 +76,17 @@ impl Refusal {
             | Refusal::NotSolid(place) => place as u64,
             _ => 0,
         }
+    }
+
+    // Number and place at the start of what a host is told; what does not apply to a refusal is 0.
+    pub fn numbers<const N: usize>(self) -> [u64; N]
+        requires { 2 ≤ N }
+        ensures { result ≡ (refusal_of self).number ∷ (refusal_of self).place ∷ replicate (N - 2) 0 }
+    {
+        let mut numbers = [0; N];
+        numbers[0] = self.number();
+        numbers[1] = self.place();
+        numbers
     }
 }
 

@@ -8,4 +8,4 @@ returns-in-Ok c bytes t = set-numbers bytes _ (subst (Opens bytes) c.in-Ok.is t)
 
 pub returns-in-Err : goal.returns-in-Err
 returns-in-Err c bytes t =
-    c.refused.ensures ∙ refused-numbers bytes c.in-Err.refusal (subst (Opens bytes) c.in-Err.is t)
+    c.numbers.ensures ∙ refused-numbers bytes c.in-Err.refusal (subst (Opens bytes) c.in-Err.is t)

@@ -1,15 +1,20 @@
 use Rattle.std.proofs.Common.{arith, rules}
-use Rattle.bridge.proofs.Deepening.{best-laid, best-moves, chained, chain-deep, tried-deep, stopped-deep}
+use Rattle.bridge.proofs.Deepening.{best-laid, best-moves, found-moves, chained, chain-deep, tried-deep, stopped-deep}
 use Rattle.bridge.proofs.shortest.Goals as goal
+
+pub chain_of-chain-requires : goal.chain_of-chain-requires
+chain_of-chain-requires c = found-moves _ _ _ _ _ _ _ c.from_kmer-deep.result c.from_kmer-deep.ensures _ c.in-Found.is
 
 pub rounds-requires : goal.rounds-requires
 rounds-requires c =
     let f = chained _ _ _ _ _ c.from_kmer-deep.result c.from_kmer-deep.ensures _ c.in-Found.is in
-    (search rules, search rules, c.from_kmer-deep.ensures.within, omega (arith, f.moves, f.short), best-laid f, best-moves f)
+    let e = c.chain_of-chain.ensures in
+    (search rules, search rules, c.from_kmer-deep.ensures.within, omega (arith, e.0, f.moves, f.short), rw (e.0, e.1) (best-laid f), rw (e.0, e.1) (best-moves f))
 
 pub returns-in-Found : goal.returns-in-Found
 returns-in-Found c =
-    chain-deep _ _ _ _ _ c.from_kmer-deep.result c.from_kmer-deep.ensures _ _ c.in-Found.is c.rounds.ensures
+    let e = c.chain_of-chain.ensures in
+    chain-deep _ _ _ _ _ c.from_kmer-deep.result c.from_kmer-deep.ensures _ _ c.in-Found.is (rw (e.0, e.1) at c.rounds.ensures)
 
 pub returns-in-Tried : goal.returns-in-Tried
 returns-in-Tried c =
