@@ -33,6 +33,7 @@ pub fn check_word(set: &[u8], block: usize) -> u64
     ensures { result ≡ Rules.check set.now block }
 {
     let mut sum: u64 = 0;
+    // Over a range, for a word is read by its number: the bytes are no slice of words.
     for i in 0..63usize {
         sum = sum.wrapping_add(block_word(set, block, i));
     }

@@ -11,7 +11,7 @@ use lib.Dec.{eqb, ltb, leb}
 use Rattle.rules_laws.proofs.Opened.{both}
 use Rattle.std.specs.Prelude.{Some, None}
 use Rattle.few_keys.specs.Find.{key_in, Sorted, LowerBefore, Bracket, Answers}
-use Rattle.cache_line.specs.Lines.{first_key}
+use Rattle.cache_line.specs.Lines.{first_key, in_window}
 use Rattle.few_keys.proofs.Bracket.{lower-through, higher-from}
 
 -- ---- two words
@@ -64,7 +64,7 @@ module _ (skip : ℕ) (part : List ℕ) (x line at word : ℕ) (low : at < 7)
 module _ {skip : ℕ} {part : List ℕ} {first last : ℕ} (sorted : Sorted skip part first last) (x : ℕ) where
   -- x is not below the window's first key: it is above its last.
   pub behind-window : (line : ℕ) → first_key (line + 3) ≤ last
-      → (leb (key_in skip part (first_key line)) x && leb x (key_in skip part (first_key (line + 2) + 6))) ≡ false
+      → in_window skip part x line ≡ false
       → key_in skip part (first_key line) ≤ x → LowerBefore skip part first last x (first_key (line + 2) + 7)
   behind-window line room e l j f g k =
       let top : ℕ = first_key (line + 2) + 6 in
@@ -76,7 +76,7 @@ module _ {skip : ℕ} {part : List ℕ} {first last : ℕ} (sorted : Sorted skip
 
   -- x belongs to none of three lines: it can stand only before them, or only behind them.
   pub outside : (line lo hi low high : ℕ) → first ≤ first_key line → first_key (line + 3) ≤ last
-      → (leb (key_in skip part (first_key line)) x && leb x (key_in skip part (first_key (line + 2) + 6))) ≡ false
+      → in_window skip part x line ≡ false
       → lo < hi → Bracket skip part first last x lo hi
       → low ≡ cond (ltb x (key_in skip part (first_key line))) lo (first_key (line + 2) + 7)
       → high ≡ cond (ltb x (key_in skip part (first_key line))) (first_key line) hi

@@ -4,9 +4,9 @@
 
 ghost use Rattle.std.specs.Prelude.{◌≡◌, ◌+◌, ◌≤◌, ◌<◌, min};
 ghost use Rattle.rules.specs.Set.{max_keys};
-ghost use Rattle.few_keys.specs.Part.{key_of, BracketIn, AnswersIn};
-ghost use Rattle.cache_line.specs.Lines;
-ghost use Rattle.cache_line.specs.Lines.{first_key, HasLines};
+ghost use Rattle.few_keys.specs.Find.{key_in};
+ghost use Rattle.few_keys.specs.Part.{BracketIn, AnswersIn};
+ghost use Rattle.cache_line.specs.Lines.{first_key, Lines, HasLines, in_window};
 
 use few_keys::KeyPart;
 
@@ -27,11 +27,11 @@ pub fn line_of(i: usize) -> usize
 }
 
 // One of a line's first seven words, which are never the check word.
-pub fn line_key(part: &KeyPart, line: usize, at: usize) -> u64
-    requires { HasLines part.now line (line + 1) × (at < 7) }
-    ensures { result ≡ key_of part.now (first_key line + at) }
+pub fn line_key(part: &[u8], skip: usize, line: usize, at: usize) -> u64
+    requires { Lines skip part.now line (line + 1) × (at < 7) }
+    ensures { result ≡ key_in skip part.now (first_key line + at) }
 {
-    blocks::word_at(part.bytes, 512 + 64 * line + 8 * at - part.skip)
+    blocks::word_at(part, 512 + 64 * line + 8 * at - skip)
 }
 
 // Two words of a line, but no check word: it is the last word in the last line of a block.
@@ -55,17 +55,18 @@ pub fn in_line(part: &KeyPart, key: u64, line: usize) -> Option<usize>
     requires { BracketIn part.now key (first_key line) (first_key (line + 1)) }
     ensures { AnswersIn part.now key part.now.first part.now.last result }
 {
-    let half = number::pick(line_key(part, line, 4) <= key, 4, 0);
-    let quarter = number::pick(line_key(part, line, half + 2) <= key, 2, 0);
+    let (bytes, skip) = (part.bytes, part.skip);
+    let half = number::pick(line_key(bytes, skip, line, 4) <= key, 4, 0);
+    let quarter = number::pick(line_key(bytes, skip, line, half + 2) <= key, 2, 0);
     in_pair(part, key, line, half + quarter)
 }
 
 // Whether the key stands between the first of three lines' keys and the last that is surely none of their check words.
-pub fn in_window(part: &KeyPart, key: u64, line: usize) -> bool
-    requires { HasLines part.now line (line + 3) }
-    ensures { result ≡ Lines.in_window part.now key line }
+pub fn in_window(part: &[u8], skip: usize, key: u64, line: usize) -> bool
+    requires { Lines skip part.now line (line + 3) }
+    ensures { result ≡ in_window skip part.now key line }
 {
-    (line_key(part, line, 0) <= key) & (key <= line_key(part, line + 2, 6))
+    (line_key(part, skip, line, 0) <= key) & (key <= line_key(part, skip, line + 2, 6))
 }
 
 // Which of three lines the key belongs to.
@@ -73,7 +74,8 @@ pub fn window_line(part: &KeyPart, key: u64, line: usize) -> usize
     requires { BracketIn part.now key (first_key line) (first_key (line + 3)) }
     ensures { BracketIn part.now key (first_key result) (first_key (result + 1)) }
 {
-    let second = number::pick(line_key(part, line + 1, 0) <= key, 1, 0);
-    let third = number::pick(line_key(part, line + 2, 0) <= key, 1, 0);
+    let (bytes, skip) = (part.bytes, part.skip);
+    let second = number::pick(line_key(bytes, skip, line + 1, 0) <= key, 1, 0);
+    let third = number::pick(line_key(bytes, skip, line + 2, 0) <= key, 1, 0);
     line + second + third
 }

@@ -10,10 +10,6 @@ use Rattle.std.specs.Prelude.{Option, Some, None}
 use Rattle.few_keys.specs.Find.{key_in, Sorted, LowerBefore, HigherFrom, Bracket, Answers}
 
 module _ {skip : ℕ} {part : List ℕ} {first last : ℕ} (sorted : Sorted skip part first last) (x m : ℕ) where
-  -- Key m is at most x: every key before it is below x.
-  pub lower-before : m < last → key_in skip part m ≤ x → LowerBefore skip part first last x m
-  lower-before h l j f g k = omega (arith, sorted.rising j m f k h)
-
   -- Key m is below x, and so is every key before it.
   pub lower-through : m < last → key_in skip part m < x → LowerBefore skip part first last x (m + 1)
   lower-through h l j f g k = before (eq-or-lt_of_le {n = j} {m = m} (omega arith))

@@ -1,4 +1,5 @@
-// A key compared with a few of a set's keys.
+// A key compared with a few of a set's keys: from key `from` on and before key `end`, two numbers, since a Range is not Copy and each step
+// takes it apart.
 #![tactic(auto)]
 
 mod key_part;

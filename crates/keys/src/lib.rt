@@ -1,4 +1,5 @@
-// Where a key stands among some of a set's keys.
+// Where a key stands among some of a set's keys: from key `from` on and before key `end`, two numbers, since a Range is not Copy and each step
+// takes it apart.
 #![tactic(auto)]
 
 ghost use Rattle.std.specs.Prelude.{◌≡◌, false, ◌+◌, ◌≤◌, ◌<◌};
@@ -63,12 +64,12 @@ fn search(part: &KeyPart, key: u64, from: usize, end: usize, guessed: usize) -> 
         if beyond(part, line) {
             return part.bisect(key, low, high);
         }
-        if cache_line::in_window(part, key, line) {
+        if cache_line::in_window(part.bytes, part.skip, key, line) {
             let found = cache_line::window_line(part, key, line);
             return cache_line::in_line(part, key, found);
         }
         step = (2 * step).min(16777216);
-        if key < cache_line::line_key(part, line, 0) {
+        if key < cache_line::line_key(part.bytes, part.skip, line, 0) {
             high = cache_line::first_key(line);
             i = back(low, high, step);
         } else {
@@ -112,7 +113,7 @@ fn guessed_line(key: u64, shift: u32, first: usize, last: usize, from: usize, en
     cache_line::line_of(inside(guess(key, shift, from, end), first, last)) - 1
 }
 
-// No line: it lies behind every set.
+// No line: it lies behind every set. No Option, for `touch` has to test for a line behind its set anyway.
 pub const NO_LINE: usize = 16777216;
 
 // The first of the three lines that a search for the key reads first, all of them within the keys from `first` on and before `last`.
@@ -143,10 +144,11 @@ pub fn touch(set: &[u8], line: u32) -> u64 {
 
 // A key that belongs to none of three lines. At an end of the range only a few keys are left.
 fn beside(part: &KeyPart, key: u64, from: usize, end: usize, line: usize) -> Option<usize>
-    requires { BracketIn part.now key from end × (from < end) × HasLines part.now line (line + 3) × (in_window part.now key line ≡ false) }
+    requires { BracketIn part.now key from end × (from < end) × HasLines part.now line (line + 3)
+        × (in_window part.now.skip part.now.bytes.now key line ≡ false) }
     ensures { AnswersIn part.now key part.now.first part.now.last result }
 {
-    let below = key < cache_line::line_key(part, line, 0);
+    let below = key < cache_line::line_key(part.bytes, part.skip, line, 0);
     let low = number::pick(below, from, cache_line::first_key(line + 2) + 7);
     let high = number::pick(below, cache_line::first_key(line), end);
     if high <= low + 8 {
@@ -167,7 +169,7 @@ pub fn find(part: &KeyPart, key: u64, shift: u32, from: usize, end: usize) -> Op
         return part.bisect(key, from, end);
     }
     let line = guessed_line(key, shift, part.first, part.last, from, end);
-    if cache_line::in_window(part, key, line) {
+    if cache_line::in_window(part.bytes, part.skip, key, line) {
         let found = cache_line::window_line(part, key, line);
         return cache_line::in_line(part, key, found);
     }

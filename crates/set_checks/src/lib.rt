@@ -15,6 +15,7 @@ use refusal::Refusal;
 pub fn check_blocks(set: &[u8], from: usize) -> Result<(), Refusal>
     ensures { check_of result ≡ at_place 8 (first_wrong set.now from) }
 {
+    // Over a range, for a block's number is what is asked and answered.
     for block in from..set.len() / 512 {
         if !blocks::check_right(set, block) {
             return Err(Refusal::Check(block));
@@ -57,6 +58,7 @@ pub fn look_at_keys(set: &[u8], block: usize, n: usize, first: u64, mask: u64) -
     let end = n.min(63 * block);
     // The least that the next key may be.
     let mut least = first;
+    // Over a range, for the number of a wrong key is answered, and the block's bytes are no slice of words.
     for i in from..end {
         let key = blocks::block_word(set, block, i - from);
         if !key_right(key, least, mask) {
