@@ -9,17 +9,10 @@ use lib.ListN.{length, get_or, take, set, length-append, get_or-append}
 use lib.Seq.{get_or_at, take-suc, take-suc-set, take_all}
 use lib.Bits.{bit_and, and_mask}
 use Rattle.rules.specs.Letters.{Kmer, code, letter, last_letter, drop_last, last, add_all, in_place}
-use Rattle.rules_laws.proofs.Kmer.{two-four, code-letter}
+use Rattle.rules_laws.proofs.Kmer.{two-four, code-letter, last-length}
 use Rattle.scenario.specs.declared.mend.Mend.{Mend}
 use Rattle.scenario.specs.Scenario.{of_code, spelled_out}
 use Rattle.exist.specs.Exist.{LetterIs}
-
-last-length : (n : ℕ) (y : Kmer) → length (last n y) ≡ n
-unfolding last
-last-length zero y = refl
-last-length (suc n) y =
-    let i = last-length n (drop_last y) in
-    omega (arith, length-append (last n (drop_last y)) (last_letter y ∷ []))
 
 pub spelled-length : (m : Mend) → length (spelled_out m).letters ≡ m.letters
 spelled-length m = last-length m.letters (of_code m.code)

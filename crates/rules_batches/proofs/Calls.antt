@@ -24,6 +24,7 @@ use Rattle.rules_fasta.proofs.Shares.{Opens, result-same, share-same, report-sup
 use Rattle.rules_fasta.proofs.Batch.{Accepted, batch-accepted}
 use Rattle.rules_batches.specs.Batches.{line_at, result_in, place_in, place_at, bytes_at, passes_at, share_at, text_by, Tells, SameLine}
 use Rattle.rules_batches.proofs.Lists.{results_at, passes-in, own_share}
+use Rattle.rules_fasta.proofs.Calls.{regroup}
 
 -- ---- passes, whatever is offered
 
@@ -95,9 +96,6 @@ module _ (g : Given) where
           ap (λ (t : List ℕ). take (length own + 1) (drop (length front) t)) is
           ∙ ap (take (length own + 1)) (drop-append_seam front ((own ++ (10 ∷ [])) ++ (behind ++ zeros)))
           ∙ take_at (own ++ (10 ∷ [])) (behind ++ zeros) (length own + 1) (length-append own (10 ∷ []))
-        where
-          regroup : (x y z u : List ℕ) → (x ++ (y ++ z)) ++ u ≡ x ++ (y ++ (z ++ u))
-          regroup x y z u = simp append_assoc
 
       -- Line i of the text written is its own result.
       pub keeper-line : get_or (lines (text_by correct_batch g r)) i [] ≡ result_in g (line_at g i)

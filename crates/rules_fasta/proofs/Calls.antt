@@ -175,7 +175,7 @@ all-at P [] i d h lt = absurd (omega arith)
 all-at P (a ∷ l) zero d (also p ps) lt = p
 all-at P (a ∷ l) (suc i) d (also p ps) lt = all-at P l i d ps (omega arith)
 
-regroup : (x y z u : List ℕ) → (x ++ (y ++ z)) ++ u ≡ x ++ (y ++ (z ++ u))
+pub regroup : (x y z u : List ℕ) → (x ++ (y ++ z)) ++ u ≡ x ++ (y ++ (z ++ u))
 regroup x y z u = simp append_assoc
 
 -- A line without byte 10, with its end, is a right batch.

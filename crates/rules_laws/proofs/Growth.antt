@@ -17,15 +17,11 @@ use Rattle.rules.specs.Graph.{spell, Walk, start, moved, halt, walk, walk_from, 
 use Rattle.rules.specs.GapSize.{gap, gap_from, gap_size}
 use Rattle.rules.specs.Driver.{State, keep_base, mend_base, turn, turns_of, begin, drive}
 use Rattle.rules.specs.Job.{Method, One, Two, Graph, GapSize, Entry, correct_error, pass}
+use Rattle.rules_laws.proofs.Kmer.{last-length}
 use Rattle.rules_laws.proofs.Counted.{bind-both}
 use Rattle.rules_laws.proofs.Scan.{sole-four}
 use Rattle.rules_laws.proofs.Exist.{all_of, Kept, exist-some}
 use Rattle.rules_laws.proofs.Driver.{Case, solid_found, is-quiet, is-refused, is-mended, case, turn-solid, turn-quiet, turn-refused, turn-mended, turns_of-step, turns_of-end}
-
-last-length : (m : ℕ) (y : Kmer) → length (last m y) ≡ m
-unfolding last
-last-length zero y = refl
-last-length (suc m) y = length-append (last m (drop_last y)) (last_letter y ∷ []) ∙ omega (arith, last-length m (drop_last y))
 
 pub length-spell : (ys : List Kmer) → length (spell ys) ≡ length ys
 unfolding spell

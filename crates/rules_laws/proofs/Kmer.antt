@@ -6,9 +6,17 @@ use mathlib.Core.Path.{◌≡◌, refl, sym, ap, ◌∙◌, subst}
 use mathlib.Core.Bool.{Bool, true, false, not, ◌&&◌, false≢true, true≢false}
 use borrow.Author.Tests.{eqb-true, eqb-false, eq-eqb, ne_eqb}
 use lib.Dec.{eqb, lit<}
+use lib.ListN.{length, length-append}
+use mathlib.Core.List.{[], ◌∷◌}
 use lib.Count.{ones_in, ones, ones_step, ones_cat}
 use lib.Arith.{mod-mul, digits_lt, digits_div, digits_mod}
-use Rattle.rules.specs.Letters.{Kmer, has_code, all_known, same, push, add, drop_last, add_all, code, letter, last_letter, last, complement, revcomp, even_ones}
+use Rattle.rules.specs.Letters.{Kmer, canonical, has_code, all_known, same, push, add, drop_last, add_all, code, letter, last_letter, last, complement, revcomp, even_ones}
+
+-- So many last letters are so many.
+pub last-length : (n : ℕ) (y : Kmer) → length (last n y) ≡ n
+unfolding last
+last-length zero y = refl
+last-length (suc n) y = length-append (last n (drop_last y)) (last_letter y ∷ []) ∙ omega (arith, last-length n (drop_last y))
 
 pub four-pos : (j : ℕ) → 0 < 4 ^ j
 four-pos j = one-le-pow j 4 (lit< tt)
@@ -184,6 +192,15 @@ pub revcomp-lt : (k y : ℕ) → revcomp k y < 4 ^ k
 unfolding revcomp
 revcomp-lt zero y = lit< tt
 revcomp-lt (suc k) y = rw pow-succ' (digits_lt (complement-lt (y % 4)) (revcomp-lt k (y / 4)))
+
+-- The canonical code of a k-mer is below 4^k too.
+pub canonical-lt : (k y : ℕ) → y < 4 ^ k → canonical k y < 4 ^ k
+unfolding canonical
+canonical-lt k y h = go (even_ones k y)
+  where
+    go : (t : Bool) → elim t [ true ↦ y | false ↦ revcomp k y ] < 4 ^ k
+    go true = h
+    go false = revcomp-lt k y
 
 quarter-lt : (k y : ℕ) → y < 4 ^ suc k → y / 4 < 4 ^ k
 quarter-lt k y h = let e = pow-suc 4 k in omega arith

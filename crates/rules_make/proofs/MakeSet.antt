@@ -14,7 +14,7 @@ use Rattle.rules.specs.Refusal.{Refusal, accepted, refused, Check, ◌or_else◌
 use Rattle.rules.specs.Set.{max_k, max_keys, k_right, opened}
 use Rattle.rules.specs.Blocks.{Keys, set_blocks, fits, filled}
 use Rattle.rules_make.specs.MakeSet.{text_lines, kept, kept_lines, form_right, line_count, line_key, line_keys, text_keys, max_count, line_counts, text_counts, unless_at, rises_from, line_check, last_kept, lines_check, text_check, set_unmade, both_laid, make_set}
-use Rattle.rules_laws.proofs.Kmer.{four-pos, add-lt, revcomp-lt, canonical-one}
+use Rattle.rules_laws.proofs.Kmer.{four-pos, add-lt, revcomp-lt, canonical-lt, canonical-one}
 use Rattle.rules_laws.proofs.Opened.{both, passed, unless-passed}
 use Rattle.rules_laws.proofs.Blocks.{Into}
 use Rattle.rules_laws.proofs.SetBlocks.{set-opens}
@@ -30,15 +30,7 @@ kmer-lt k bs = go (record { code = 0; unknown = 0 }) (four-pos k) bs
     go y l [] = l
     go y l (b ∷ ls) = go (add k y (code b)) (add-lt k y (code b)) ls
 
--- The canonical code of a k-mer is below 4^k, and its own canonical code.
-pub canonical-lt : (k y : ℕ) → y < 4 ^ k → canonical k y < 4 ^ k
-unfolding canonical
-canonical-lt k y h = go (even_ones k y)
-  where
-    go : (t : Bool) → elim t [ true ↦ y | false ↦ revcomp k y ] < 4 ^ k
-    go true = h
-    go false = revcomp-lt k y
-
+-- The canonical code of a k-mer is its own canonical code.
 pub canonical-twice : (k y : ℕ) → k % 2 ≡ 1 → y < 4 ^ k → canonical k (canonical k y) ≡ canonical k y
 unfolding canonical
 canonical-twice k y odd h = go (even_ones k y) refl

@@ -12,7 +12,8 @@ use Rattle.few_keys.proofs.Bracket.{answers-all, answers-none}
 use Rattle.set.specs.Found.{index_of, place_in}
 use Rattle.set.proofs.Among.{answers-lookup}
 use Rattle.set.proofs.Part.{part-bracket, part-answers}
-use Rattle.set.proofs.Table.{shift-lt, canonical-lt, prefix-bracket, prefix-in-range}
+use Rattle.rules_laws.proofs.Kmer.{canonical-lt}
+use Rattle.set.proofs.Table.{shift-lt, prefix-bracket, prefix-in-range}
 use Rattle.set.proofs.look_up.Goals.{After-canonical-key, After-span_of}
 use Rattle.set.proofs.look_up.Goals as goal
 

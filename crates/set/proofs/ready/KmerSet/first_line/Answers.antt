@@ -4,7 +4,8 @@ use Rattle.rules.specs.Letters.{canonical}
 use Rattle.rules.specs.Set.{header_k}
 use Prim.Native.Nat.{◌^◌, ◌<◌}
 use Rattle.set.proofs.Opened.{opened-n-le}
-use Rattle.set.proofs.Table.{shift-lt, canonical-lt, one-prefix}
+use Rattle.rules_laws.proofs.Kmer.{canonical-lt}
+use Rattle.set.proofs.Table.{shift-lt, one-prefix}
 use Rattle.set.proofs.ready.KmerSet.first_line.Goals.{After-canonical-key}
 use Rattle.set.proofs.ready.KmerSet.first_line.Goals as goal
 
