@@ -10,26 +10,21 @@ use refusal::Refusal;
 pub fn judge(text: &[u8], head: Header, least: u64) -> Result<usize, Refusal>
     ensures { JudgedAs text.now head.k least result }
 {
-    let mut at = 0;
-    let mut line = 0;
     let mut kept = 0;
     // The least that the next kept code may be.
     let mut floor: u64 = 0;
-    while at < text.len() {
-        let end = kmer_text::line_end(text, at);
-        if !kmer_text::form_right(&text[at..end], head.k) {
-            return Err(Refusal::Line(line));
+    for (i, line) in text.split_inclusive(|byte| *byte == b'\n').enumerate() {
+        if !kmer_text::form_right(line, head.k) {
+            return Err(Refusal::Line(i));
         }
-        if kmer_text::is_kept(&text[at..end], head.k, least) {
-            let key = kmer_text::line_key(&text[at..end], head);
+        if kmer_text::is_kept(line, head.k, least) {
+            let key = kmer_text::line_key(line, head);
             if key < floor {
-                return Err(Refusal::NotRising(line));
+                return Err(Refusal::NotRising(i));
             }
             floor = key + 1;
             kept += 1;
         }
-        line += 1;
-        at = end;
     }
     Ok(kept)
 }

@@ -1,9 +1,9 @@
--- Laws of a text's bytes and lines.
+-- Laws of a line's bytes and form.
 use Prim.Native.Nat.{ℕ, zero, suc, ◌+◌, ◌*◌, ◌-◌, ◌^◌, ◌≤◌, ◌<◌}
 use native.Mathlib.Omega.{arith}
 use native.Mathlib.Nat.{pow-suc}
 use native.Mathlib.Numerals.{add-one}
-use borrow.Author.Tests.{eq-eqb, ne_eqb, leb-true, le-leb, lt-leb}
+use borrow.Author.Tests.{ne_eqb, leb-true, le-leb, lt-leb}
 use mathlib.Core.Path.{◌≡◌, refl, sym, ap, ◌∙◌}
 use mathlib.Core.Bool.{Bool, true, false, ◌&&◌}
 use mathlib.Core.Logic.{inl, inr}
@@ -11,11 +11,10 @@ use mathlib.Core.List.{List, [], ◌∷◌}
 use types.Run.{OneOf}
 use lib.Dec.{eqb, leb}
 use lib.ListN.{length, get_or, take, drop, length-take, length-drop, drop_of_length-le}
-use lib.Seq.{slice, drop-cons, drop-drop, take_all, take-nil}
+use lib.Seq.{slice, drop-cons, take-nil}
 use Rattle.std.specs.List.{list_all}
 use Rattle.rules_laws.proofs.Opened.{both}
-use Rattle.rules_make.specs.MakeSet.{in_front, text_lines, is_letter, is_digit, all, digits, number, form_right}
-use Rattle.kmer_text.specs.Text.{TextLine}
+use Rattle.rules_make.specs.MakeSet.{is_letter, is_digit, all, digits, number, form_right}
 
 -- ---- all bytes
 
@@ -69,47 +68,6 @@ number-end s i sum h = rw (drop_of_length-le s {i = i} h)
 
 pub ten-more : (i sum d : ℕ) → sum < 10 ^ i → 48 ≤ d → d ≤ 57 → 10 * sum + (d - 48) < 10 ^ (i + 1)
 ten-more i sum d h l g = rw (add-one i, pow-suc 10 i) (omega arith)
-
--- ---- lines
-
-line-ended : (s : List ℕ) (m : ℕ) → m < length s → ((j : ℕ) → j < m → get_or s j 0 ≡ 10 → ⊥) → get_or s m 0 ≡ 10
-    → text_lines s ≡ take (suc m) s ∷ text_lines (drop (suc m) s)
-unfolding text_lines in_front
-line-ended [] m h f e = absurd (omega arith)
-line-ended (b ∷ s) zero h f e = rw (eq-eqb b 10 e, text_lines)
-line-ended (b ∷ s) (suc m) h f e =
-    rw (ne_eqb b 10 (f 0 (omega arith)), text_lines, line-ended s m (omega arith) (λ j l. f (suc j) (omega arith)) e)
-
-line-open : (b : ℕ) (s : List ℕ) → ((j : ℕ) → j < suc (length s) → get_or (b ∷ s) j 0 ≡ 10 → ⊥) → text_lines (b ∷ s) ≡ (b ∷ s) ∷ []
-unfolding text_lines in_front
-line-open b [] f = rw (ne_eqb b 10 (f 0 (omega arith)), text_lines)
-line-open b (b' ∷ s) f = rw (ne_eqb b 10 (f 0 (omega arith)), text_lines, line-open b' s (λ j l. f (suc j) (omega arith)))
-
-module _ (text : List ℕ) (from : ℕ) where
-  pub ended-line : (i : ℕ) → i < length (drop from text) → get_or (drop from text) i 0 ≡ 10 → ((j : ℕ) → j < i → get_or (drop from text) j 0 ≡ 10 → ⊥)
-      → TextLine text from (from + i + 1)
-  ended-line i h e none_before = record {
-    after = omega arith;
-    within = omega (arith, length-drop from text);
-    is =
-        let count : from + i + 1 - from ≡ suc i = omega arith in
-        let next : from + i + 1 ≡ from + suc i = omega arith in
-        rw (count, next, ← (drop-drop (suc i) from text)) (line-ended (drop from text) i h none_before e);
-  }
-
-  pub open-line : from < length text → ((j : ℕ) → j < length (drop from text) → get_or (drop from text) j 0 ≡ 10 → ⊥) → TextLine text from (length text)
-  unfolding text_lines
-  open-line h none_there = record {
-    after = h;
-    within = omega arith;
-    is =
-        rw (take_all (length text - from) (drop from text) (omega (arith, length-drop from text)), drop_of_length-le text {i = length text} (omega arith))
-        (go (drop from text) (omega (arith, length-drop from text)) none_there);
-  }
-    where
-      go : (s : List ℕ) → 0 < length s → ((j : ℕ) → j < length s → get_or s j 0 ≡ 10 → ⊥) → text_lines s ≡ s ∷ text_lines []
-      go [] l f = absurd (omega arith)
-      go (b ∷ s) l f = line-open b s f
 
 -- ---- a line's form
 

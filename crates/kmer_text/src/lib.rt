@@ -1,11 +1,9 @@
-// Document 02, W3 and W8: a site's k-mer counts as text. Where a line ends, whether it has the form, whether it is kept, its canonical code and its
-// count.
+// Document 02, W3 and W8: a site's k-mer counts as text. Of a line: whether it has the form, whether it is kept, its canonical code and its count.
 #![tactic(auto)]
 
-ghost use Rattle.std.specs.Prelude.{◌≡◌, true, ◌≤◌, ◌<◌, min, length};
+ghost use Rattle.std.specs.Prelude.{◌≡◌, true, ◌≤◌, min, length};
 ghost use Rattle.rules.specs.Set.{max_k};
 ghost use Rattle.rules_make.specs.MakeSet as Rules;
-ghost use Rattle.kmer_text.specs.Text.{TextLine};
 
 use kmer::Header;
 
@@ -92,15 +90,4 @@ pub fn line_key(line: &[u8], head: Header) -> u64
     ensures { result ≡ Rules.line_key head.k line.now }
 {
     kmer::canonical(kmer::seq2bit(line, head))
-}
-
-// Where the line from `from` on ends: behind its byte 10, or where the text does.
-pub fn line_end(text: &[u8], from: usize) -> usize
-    requires { from < length text.now }
-    ensures { TextLine text.now from result }
-{
-    match text[from..].iter().position(|b| *b == b'\n') {
-        Some(i) => from + i + 1,
-        None => text.len(),
-    }
 }

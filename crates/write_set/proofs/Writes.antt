@@ -18,8 +18,8 @@ use Rattle.rules_laws.proofs.SetBlocks.{set-length, set_words_lem}
 use Rattle.rules_make.proofs.MakeSet.{unless-at, text-keys, text-counts-length}
 use Rattle.lay.specs.Lay.{Put, Sealed, Holds, Extended}
 use Rattle.lay.proofs.Laws.{extended_none, extended-more, holds-none, holds_more, holds_same, sealed-is}
-use Rattle.kmer_text.specs.Text.{TextLine}
 use Rattle.kmer_text.proofs.Keys.{keys_of, key-kept, key-passed}
+use Rattle.kmer_text.proofs.Lines.{no-line}
 
 -- Lines that all have the form.
 pub data AllFormed (k : ℕ) : List (List ℕ) → Type 0 where
@@ -73,13 +73,12 @@ module _ (k least count : ℕ) (line : List ℕ) (count_is : count ≡ line_coun
   unfolding kept
   passed-by h = lt-leb least (line_count k line) (rw count_is at h)
 
--- The first i keys and counts are written, and the lines from `at` on give the others.
-pub record Writing (text : List ℕ) (k least : ℕ) (before blocks old counts : List ℕ) (at i : ℕ) : Type 0 where
-  pub within : at ≤ length text
+-- The first i keys and counts are written, those of n lines, and the lines that are left give the others.
+pub record Writing (text : List ℕ) (k least : ℕ) (before blocks old counts : List ℕ) (n i : ℕ) : Type 0 where
   pub few : i ≤ length (text_keys k least text)
-  pub formed : AllFormed k (text_lines (drop at text))
-  pub left : drop i (text_keys k least text) ≡ keys_of k least (text_lines (drop at text))
-  pub counts_left : drop i (text_counts k least text) ≡ counts_of k least (text_lines (drop at text))
+  pub formed : AllFormed k (drop n (text_lines text))
+  pub left : drop i (text_keys k least text) ≡ keys_of k least (drop n (text_lines text))
+  pub counts_left : drop i (text_counts k least text) ≡ counts_of k least (drop n (text_lines text))
   pub written : Extended before 63 (take i (text_keys k least text)) blocks
   pub counts_long : length counts ≡ length old
   pub counted : counts ≡ paste old 0 (text_counts k least text) i
@@ -88,7 +87,6 @@ pub writing-starts : (text : List ℕ) (k least : ℕ) (before old : List ℕ) �
     → Writing text k least before before old old 0 0
 unfolding text_keys text_counts
 writing-starts text k least before old h = record {
-  within = omega arith;
   few = omega arith;
   formed = all-formed k least 0 none (text_lines text) h;
   left = refl;
@@ -98,63 +96,65 @@ writing-starts text k least before old h = record {
   counted = paste-zero old 0 (text_counts k least text);
 }
 
-module _ {text : List ℕ} {k least : ℕ} {before blocks old counts : List ℕ} {at i : ℕ} (w : Writing text k least before blocks old counts at i) (h : length text ≤ at) where
+module _ {text : List ℕ} {k least : ℕ} {before blocks old counts : List ℕ} {n i : ℕ} (w : Writing text k least before blocks old counts n i) (h : n ≡ length (text_lines text)) where
   all_done : i ≡ length (text_keys k least text)
-  unfolding text_lines kept_lines line_keys
+  unfolding kept_lines line_keys
   all_done =
-      let none_left : drop i (text_keys k least text) ≡ [] =
-      w.left ∙ ap (λ (s : List ℕ). keys_of k least (text_lines s)) (drop_of_length-le text {i = at} h) in
+      let none_left : drop i (text_keys k least text) ≡ [] = w.left ∙ ap (keys_of k least) (no-line (text_lines text) n h) in
       let size : length (drop i (text_keys k least text)) ≡ 0 = ap length none_left in
       omega (arith, w.few, length-drop i (text_keys k least text))
 
   pub writing-ends : Extended before 63 (text_keys k least text) blocks × (counts ≡ text_counts k least text ++ drop (length (text_keys k least text)) old)
   writing-ends =
-      let n : ℕ = length (text_keys k least text) in
-      let z : 0 + n ≡ n = omega arith in (
+      let all : ℕ = length (text_keys k least text) in
+      let z : 0 + all ≡ all = omega arith in (
         rw (take_all i (text_keys k least text) (omega (arith, all_done))) at w.written,
-        w.counted ∙ rw (all_done, z, take_all n (text_counts k least text) (omega (arith, text-counts-length k least text))),
+        w.counted ∙ rw (all_done, z, take_all all (text_counts k least text) (omega (arith, text-counts-length k least text))),
       )
 
-module _ {text : List ℕ} {k least : ℕ} {before blocks old counts : List ℕ} {at i end : ℕ} (w : Writing text k least before blocks old counts at i) (t : TextLine text at end) where
-  lines : AllFormed k (take (end - at) (drop at text) ∷ text_lines (drop end text))
-  lines = rw t.is at w.formed
+-- Line n.
+module _ {text : List ℕ} {k least : ℕ} {before blocks old counts : List ℕ} {n i : ℕ} {line : List ℕ} (w : Writing text k least before blocks old counts n i)
+    (t : drop n (text_lines text) ≡ line ∷ drop (n + 1) (text_lines text)) where
+  abbrev rest : List (List ℕ)
+  rest = drop (n + 1) (text_lines text)
+
+  lines : AllFormed k (line ∷ rest)
+  lines = rw t at w.formed
 
   -- It has the form.
-  pub line-formed : form_right k (take (end - at) (drop at text)) ≡ true
+  pub line-formed : form_right k line ≡ true
   line-formed = first-formed lines
 
-  pub written-passed : kept k least (take (end - at) (drop at text)) ≡ false → Writing text k least before blocks old counts end i
+  pub written-passed : kept k least line ≡ false → Writing text k least before blocks old counts (n + 1) i
   written-passed is-passed = record {
-    within = t.within;
     few = w.few;
     formed = rest-formed lines;
-    left = w.left ∙ ap (keys_of k least) t.is ∙ key-passed k least _ (text_lines (drop end text)) is-passed;
-    counts_left = w.counts_left ∙ ap (counts_of k least) t.is ∙ count-passed k least _ (text_lines (drop end text)) is-passed;
+    left = w.left ∙ ap (keys_of k least) t ∙ key-passed k least line rest is-passed;
+    counts_left = w.counts_left ∙ ap (counts_of k least) t ∙ count-passed k least line rest is-passed;
     written = w.written;
     counts_long = w.counts_long;
     counted = w.counted;
   }
 
-  module _ (is-kept : kept k least (take (end - at) (drop at text)) ≡ true) where
-    left-kept : drop i (text_keys k least text) ≡ line_key k (take (end - at) (drop at text)) ∷ keys_of k least (text_lines (drop end text))
-    left-kept = w.left ∙ ap (keys_of k least) t.is ∙ key-kept k least _ (text_lines (drop end text)) is-kept
+  module _ (is-kept : kept k least line ≡ true) where
+    left-kept : drop i (text_keys k least text) ≡ line_key k line ∷ keys_of k least rest
+    left-kept = w.left ∙ ap (keys_of k least) t ∙ key-kept k least line rest is-kept
 
-    counts-kept : drop i (text_counts k least text) ≡ min (line_count k (take (end - at) (drop at text))) max_count ∷ counts_of k least (text_lines (drop end text))
-    counts-kept = w.counts_left ∙ ap (counts_of k least) t.is ∙ count_kept k least _ (text_lines (drop end text)) is-kept
+    counts-kept : drop i (text_counts k least text) ≡ min (line_count k line) max_count ∷ counts_of k least rest
+    counts-kept = w.counts_left ∙ ap (counts_of k least) t ∙ count_kept k least line rest is-kept
 
     pub written-inside : i < length (text_keys k least text)
     written-inside = left-inside (text_keys k least text) i _ _ left-kept
 
-    pub written-kept : {key count : ℕ} {after : List ℕ} → key ≡ line_key k (take (end - at) (drop at text)) → Put blocks (63 + i + (63 + i) / 63) key after
-        → count ≡ min (line_count k (take (end - at) (drop at text))) max_count → length (text_keys k least text) ≤ length old
-        → Writing text k least before after old (set counts i count) end (i + 1)
+    pub written-kept : {key count : ℕ} {after : List ℕ} → key ≡ line_key k line → Put blocks (63 + i + (63 + i) / 63) key after
+        → count ≡ min (line_count k line) max_count → length (text_keys k least text) ≤ length old
+        → Writing text k least before after old (set counts i count) (n + 1) (i + 1)
     written-kept {key} {count} {after} key-is p count_is room =
         let keys : List ℕ = text_keys k least text in
         let cs : List ℕ = text_counts k least text in
         let z : 0 + i ≡ i = omega arith in
         let inside : i < length cs = left-inside cs i _ _ counts-kept in
         record {
-          within = t.within;
           few = omega (arith, written-inside);
           formed = rest-formed lines;
           left = left-rest keys i _ _ left-kept;

@@ -20,19 +20,16 @@ fn write_lines(text: &[u8], head: Header, least: u64, blocks: &mut [u8], counts:
         × (counts.new ≡ Rules.text_counts head.k least text.now
         ++ drop (length (Rules.text_keys head.k least text.now)) counts.old) }
 {
-    let mut at = 0;
     let mut i = 0;
-    while at < text.len() {
-        let end = kmer_text::line_end(text, at);
-        let count = kmer_text::line_count(&text[at..end], head.k);
+    for line in text.split_inclusive(|byte| *byte == b'\n') {
+        let count = kmer_text::line_count(line, head.k);
         // As `is_kept`, whose count the list needs.
         if least <= count {
-            let key = kmer_text::line_key(&text[at..end], head);
+            let key = kmer_text::line_key(line, head);
             lay::put(blocks, 63 + i, key);
             counts[i] = kmer_text::held(count);
             i += 1;
         }
-        at = end;
     }
 }
 

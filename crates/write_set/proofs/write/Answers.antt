@@ -1,7 +1,5 @@
 use native.Mathlib.Omega.{arith}
-use mathlib.Core.Path.{ap, ◌∙◌}
-use Prim.Native.Nat.{ℕ}
-use lib.ListN.{length, length-replicate}
+use mathlib.Core.Path.{◌∙◌}
 use Rattle.write_set.proofs.Writes.{all-written, counts-written, still-room}
 use Rattle.write_set.proofs.Judged.{text-passed}
 use borrow.Author.Rules.{rules}
