@@ -78,9 +78,10 @@ impl Lookup<'_> {
 }
 
 // A lookup is made only of a k-mer without unknown letters. Of the header it takes what it needs: a struct that is handed over is laid into
-// memory for each lookup, and so is a seventh number, hence the last is the one that is seldom used. Since `place_of`, `get` and `ask` all
-// call it, and none of them another, it stays a function of its own. It answers n where there is no key: an enum would go through memory, and
-// its case be a branch that is often guessed wrong.
+// memory for each lookup, and so is a seventh number, hence the last is the one that is seldom used. It stays a function of its own: its code
+// is long, and stands behind every question. It answers n where there is no key: an enum would go through memory, and its case be a branch
+// that is often guessed wrong.
+#[inline(never)]
 fn look_up(set: &[u8], starts: &[u32], kmer: Kmer, n: usize, shift: u32, finer: u32) -> usize
     requires { Table set.now starts.now shift finer × IsKmer (header_k set.now) kmer × (kmer.unknown ≡ 0) }
     ensures { result ≡ place_in n (lookup (set_of set.now) kmer.code) }
@@ -137,16 +138,12 @@ impl KmerSet<'_> {
         requires { IsKmer self.now.head.k kmer × (kmer.unknown ≡ 0) }
         ensures { index_of result ≡ lookup (set_of self.now.bytes.now) kmer.code }
     {
-        let head = self.head;
-        let place = look_up(
-            self.bytes,
-            self.starts,
-            kmer,
-            head.n,
-            head.shift,
-            head.finer,
-        );
-        if place < head.n { Some(place) } else { None }
+        let place = self.place_of(kmer);
+        if place < self.head.n {
+            Some(place)
+        } else {
+            None
+        }
     }
 
     // Document 02, W5: a k-mer that holds an unknown letter isn't solid, and no lookup is made for it.
@@ -160,17 +157,9 @@ impl KmerSet<'_> {
                 lookups: 0,
             };
         }
-        let head = self.head;
-        let place = look_up(
-            self.bytes,
-            self.starts,
-            kmer,
-            head.n,
-            head.shift,
-            head.finer,
-        );
+        let place = self.place_of(kmer);
         Asked {
-            solid: place < head.n,
+            solid: place < self.head.n,
             lookups: 1,
         }
     }

@@ -17,15 +17,10 @@ returns-then-kmer-ne0 c =
     let e = ask-none _ _ (ne-known _ unknown) in
     record { solid = sym (ap (λ (t : Counted Bool). t.answer) e); lookups = sym (ap (λ (t : Counted Bool). t.lookups) e) }
 
-pub look_up-place-requires : goal.look_up-place-requires
-look_up-place-requires c =
-    let p = c.args.self.now.ready in
-    (p.table, rw (← p.k_is) c.requires, omega arith)
-
 pub returns : goal.returns
 unfolding kmer_of
 returns c =
     let s = c.args.self.now in
     let known : c.args.kmer.unknown ≡ 0 = omega arith in
-    let solid = place-solid (set_of s.bytes.now) c.args.kmer.code _ _ (s.ready.n_is ∙ sym (set-count s.bytes.now)) c.look_up-place.ensures in
+    let solid = place-solid (set_of s.bytes.now) c.args.kmer.code _ _ (s.ready.n_is ∙ sym (set-count s.bytes.now)) c.place_of-place.ensures in
     record { solid = solid ∙ sym (ask-is _ _ known); lookups = sym (ask-one _ _ known) }
