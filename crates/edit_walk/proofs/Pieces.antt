@@ -8,6 +8,7 @@ use mathlib.Core.Bool.{Bool}
 use mathlib.Core.Option.{none}
 use lib.ListN.{length, take, drop, length-drop}
 use lib.Seq.{take_all}
+use Rattle.std.specs.Prelude.{None}
 use Rattle.rules.specs.Refusal.{first_failing}
 use Rattle.rules_edits.specs.Edits.{Sheet, count, position, taken, given, end_of, letters_to, kept_from, kept, letters_of, rest, formed}
 use Rattle.rules_laws.proofs.Keys.{none-fails}
@@ -68,26 +69,26 @@ module _ (k : ℕ) (s : Sheet) (n : ℕ) (all : first_failing (formed k s) 0 n �
     letters-next = rw (g, is.gives, add-one, letters_to)
 
 module _ (k : ℕ) (sol : ℕ → Bool) (n : ℕ) (s : Sheet) (i : ℕ) (w : Stand) where
-  at-edit : i < n → walk_from k sol n s (n - i) i w ≡ and_then (over_edit k sol n i (kept s i) (letters_of s i) w) (walk_from k sol n s (n - (i + 1)) (i + 1))
+  at-edit : i < n → walk_from k sol s (n - i) i w ≡ and_then (over_edit k sol i (kept s i) (letters_of s i) w) (walk_from k sol s (n - (i + 1)) (i + 1))
   unfolding walk_from
   at-edit h =
       let e : n - i ≡ suc (n - (i + 1)) = omega arith in
-      ap (λ (m : ℕ). walk_from k sol n s m i w) e ∙ rw add-one
+      ap (λ (m : ℕ). walk_from k sol s m i w) e ∙ rw add-one
 
-  pub walk-on : {v : Stand} → i < n → over_edit k sol n i (kept s i) (letters_of s i) w ≡ on v
-      → walk_from k sol n s (n - i) i w ≡ walk_from k sol n s (n - (i + 1)) (i + 1) v
+  pub walk-on : {v : Stand} → i < n → over_edit k sol i (kept s i) (letters_of s i) w ≡ on v
+      → walk_from k sol s (n - i) i w ≡ walk_from k sol s (n - (i + 1)) (i + 1) v
   unfolding and_then
   walk-on h e = at-edit h ∙ rw e
 
-  pub walk-stops : {j : ℕ} → i < n → over_edit k sol n i (kept s i) (letters_of s i) w ≡ offends j → walk_from k sol n s (n - i) i w ≡ offends j
+  pub walk-stops : {j : ℕ} → i < n → over_edit k sol i (kept s i) (letters_of s i) w ≡ offends j → walk_from k sol s (n - i) i w ≡ offends j
   unfolding and_then
   walk-stops h e = at-edit h ∙ rw e
 
-  pub walk_end : n ≤ i → walk_from k sol n s (n - i) i w ≡ pass_over k sol n n (rest s) w
+  pub walk_end : n ≤ i → walk_from k sol s (n - i) i w ≡ pass_over k sol None (rest s) w
   unfolding walk_from
   walk_end h = let e : n - i ≡ 0 = omega arith in rw e
 
-pub walk-starts : (k : ℕ) (sol : ℕ → Bool) (s : Sheet) (n : ℕ) (w : Stand) → count s ≡ n → w ≡ begins k n s.mended
-    → walk k sol s ≡ walk_from k sol n s (n - 0) 0 w
+pub walk-starts : (k : ℕ) (sol : ℕ → Bool) (s : Sheet) (n : ℕ) (w : Stand) → count s ≡ n → w ≡ begins k s.mended
+    → walk k sol s ≡ walk_from k sol s (n - 0) 0 w
 unfolding walk
 walk-starts k sol s n w c e = rw (c, e, sub-zero n)

@@ -1,13 +1,15 @@
 -- The walk is the second judgement, and what it leaves of the partner's read is the third.
-use Prim.Native.Nat.{ℕ, zero, suc, ◌+◌, ◌≤◌, ◌<◌, min}
+use Prim.Native.Nat.{ℕ, zero, suc, ◌+◌, ◌≤◌, ◌<◌}
 use native.Mathlib.Omega.{arith}
-use borrow.Author.Tests.{eqb-true, eqb-false, ltb-true, ltb-false}
+use borrow.Author.Tests.{eqb-true, eqb-false}
 use mathlib.Core.Path.{◌≡◌, refl, sym, ap, ◌∙◌, subst}
 use mathlib.Core.Bool.{Bool, true, false, true≢false}
 use mathlib.Core.Option.{Option, none, some}
 use mathlib.Core.List.{List, [], ◌∷◌, ◌++◌, append_assoc, append-nil}
 use lib.ListN.{length, length-append}
-use lib.Dec.{eqb, ltb}
+use lib.Dec.{eqb}
+use Rattle.std.specs.Prelude.{⊤, Option as Asking, Some, None}
+use Rattle.std.specs.Option.{option_or}
 use Rattle.rules.specs.Letters.{Kmer, add_base, kmer}
 use Rattle.rules.specs.Refusal.{first_failing}
 use Rattle.rules.specs.Set.{is_none}
@@ -15,7 +17,7 @@ use Rattle.rules_laws.proofs.Keys.{none-fails}
 use Rattle.rules_laws.proofs.Keys.{none-failing}
 use Rattle.rules_edits.specs.Edits.{Sheet, count, given, kept, letters_of, made_to, rest, made, start, kmer_to, supported}
 use Rattle.rules_edits.proofs.Edits.{Formed, letters-length, made-le, ends-before, start-low, rest_some}
-use Rattle.edit_walk.specs.Walk.{Stand, Walked, on, offends, next, stepped, and_then, yes, pass_over, at_edit, over_edit, walk_from, begins, walk}
+use Rattle.edit_walk.specs.Walk.{Stand, Walked, on, offends, next, stepped, and_then, yes, blamed, pass_over, at_edit, over_edit, walk_from, begins, walk}
 use Rattle.edit_walk.proofs.Windows.{add-snoc, window}
 
 -- ---- first failures
@@ -63,6 +65,17 @@ module _ (k : ℕ) (sol : ℕ → Bool) (s : Sheet) where
 
 -- ---- where a walk stands
 
+-- Edit j comes before the one that asks, if one does.
+abbrev pub Before : ℕ → Asking ℕ → Type 0
+Before j (Some i) = j < i
+Before j None = ⊤
+
+some-same : {i j : ℕ} → Some i ≡ Some j → i ≡ j
+some-same e = cc
+
+none-asks : {A : Type 0} {j : ℕ} → ◌≡◌ {A = Asking ℕ} None (Some j) → A
+none-asks e = absurd (let z : ◌≡◌ {A = ℕ} 0 1 = cc in omega arith)
+
 -- Behind the bases `pre`, with i edits begun.
 pub record Stands (k : ℕ) (sol : ℕ → Bool) (s : Sheet) (i : ℕ) (pre : List ℕ) (w : Stand) : Type 0 where
   pub kmer_is : w.kmer ≡ kmer k pre
@@ -70,8 +83,8 @@ pub record Stands (k : ℕ) (sol : ℕ → Bool) (s : Sheet) (i : ℕ) (pre : Li
   -- what the edits ask of the bases so far holds
   pub seen : (j x : ℕ) → j < i → start s j ≤ x → x ≤ start s j + given s j + 1 → x ≤ length pre → yes sol (kmer_to k (made s) x) ≡ true
   -- an edit before the one that asks next asks no more
-  pub earlier : (j : ℕ) → j < i → j < w.asks → start s j + given s j + 1 ≤ length pre
-  pub asked : w.asks < count s → (w.asks < i) × (start s w.asks ≤ suc (length pre)) × (length pre ≤ start s w.asks + given s w.asks)
+  pub earlier : (j : ℕ) → j < i → Before j w.asks → start s j + given s j + 1 ≤ length pre
+  pub asked : (j : ℕ) → w.asks ≡ Some j → (j < i) × (start s j ≤ suc (length pre)) × (length pre ≤ start s j + given s j)
 
 -- The walk goes on so, or the second judgement fails first at the edit that offends.
 abbrev pub Goes : (k : ℕ) → (ℕ → Bool) → Sheet → ℕ → List ℕ → Walked → Type 0
@@ -88,9 +101,9 @@ module _ (k : ℕ) (sol : ℕ → Bool) (s : Sheet) (all : (i : ℕ) → i < cou
 
   -- ---- one base
 
-  module _ (i then b : ℕ) (pre post : List ℕ) (w : Stand) (m : made s ≡ pre ++ (b ∷ post)) (st : Stands k sol s i pre w) (le : i ≤ count s)
-      (before : (j : ℕ) → j < i → j < then → start s j + given s j ≤ length pre)
-      (on-it : then < count s → (then < i) × (start s then ≤ length pre) × (suc (length pre) ≤ start s then + given s then)) where
+  module _ (i : ℕ) (then : Asking ℕ) (b : ℕ) (pre post : List ℕ) (w : Stand) (m : made s ≡ pre ++ (b ∷ post)) (st : Stands k sol s i pre w) (le : i ≤ count s)
+      (before : (j : ℕ) → j < i → Before j then → start s j + given s j ≤ length pre)
+      (on-it : (j : ℕ) → then ≡ Some j → (j < i) × (start s j ≤ length pre) × (suc (length pre) ≤ start s j + given s j)) where
     made-is : made s ≡ (pre ++ (b ∷ [])) ++ post
     made-is = m ∙ sym (append_assoc pre (b ∷ []) post)
 
@@ -115,7 +128,7 @@ module _ (k : ℕ) (sol : ℕ → Bool) (s : Sheet) (all : (i : ℕ) → i < cou
           left_is = ap (next b) st.left_is ∙ sym (after-snoc pre b (some s.mended));
           seen = λ j x lt lo hi g. saw j x lt lo hi (omega arith) (eqb x (suc (length pre))) refl;
           earlier = λ j lt g. let h = before j lt g in omega arith;
-          asked = λ lt. let h = on-it lt in (h.0, omega (arith, h.1), omega (arith, h.2));
+          asked = λ j e. let h = on-it j e in (h.0, omega (arith, h.1), omega (arith, h.2));
         }
       where
         saw : (j x : ℕ) → j < i → start s j ≤ x → x ≤ start s j + given s j + 1 → x ≤ suc (length pre) → (t : Bool) → eqb x (suc (length pre)) ≡ t
@@ -128,46 +141,46 @@ module _ (k : ℕ) (sol : ℕ → Bool) (s : Sheet) (all : (i : ℕ) → i < cou
             ap (λ (y : ℕ). yes sol (kmer_to k (made s) y)) p ∙ ap (yes sol) (asked-kmer j j-lt lo') ∙ sure j lt lo' hi'
         saw j x lt lo hi g false q = let p = eqb-false x (suc (length pre)) q in st.seen j x lt lo hi (omega arith)
 
-    base-off : w.asks < count s → yes sol (add_base k w.kmer b) ≡ false → first_failing (supported k sol s) 0 (count s) ≡ some w.asks
-    base-off lt e =
-        let h = st.asked lt in
-        first-at (supported k sol s) 0 (count s) w.asks (omega arith) (omega arith)
-        (supported-no k sol s w.asks (suc (length pre)) h.1 (omega (arith, h.2)) (ap (yes sol) (asked-kmer w.asks lt h.1) ∙ e))
+    base-off : (asks : ℕ) → w.asks ≡ Some asks → yes sol (add_base k w.kmer b) ≡ false → first_failing (supported k sol s) 0 (count s) ≡ some asks
+    base-off asks is e =
+        let h = st.asked asks is in
+        let lt : asks < count s = omega (arith, h.0) in
+        first-at (supported k sol s) 0 (count s) asks (omega arith) (omega arith)
+        (supported-no k sol s asks (suc (length pre)) h.1 (omega (arith, h.2)) (ap (yes sol) (asked-kmer asks lt h.1) ∙ e))
         (λ j z g. supported-yes k sol s j
         (λ x lo hi.
         let j-lt : j < i = omega (arith, h.0) in
-        let q = st.earlier j j-lt g in
+        let q = st.earlier j j-lt (subst (Before j) (sym is) g) in
         st.seen j x j-lt lo hi (omega arith)))
 
   -- ---- a part
 
-  pass-goes : (i then : ℕ) (bs pre post : List ℕ) (w : Stand) → made s ≡ pre ++ (bs ++ post) → Stands k sol s i pre w → i ≤ count s
-      → ((j : ℕ) → j < i → j < then → start s j + given s j ≤ length pre)
-      → (then < count s → (then < i) × (start s then ≤ length pre) × (length pre + length bs ≤ start s then + given s then))
-      → Goes k sol s i (pre ++ bs) (pass_over k sol (count s) then bs w)
-  unfolding pass_over
+  pass-goes : (i : ℕ) (then : Asking ℕ) (bs pre post : List ℕ) (w : Stand) → made s ≡ pre ++ (bs ++ post) → Stands k sol s i pre w → i ≤ count s
+      → ((j : ℕ) → j < i → Before j then → start s j + given s j ≤ length pre)
+      → ((j : ℕ) → then ≡ Some j → (j < i) × (start s j ≤ length pre) × (length pre + length bs ≤ start s j + given s j))
+      → Goes k sol s i (pre ++ bs) (pass_over k sol then bs w)
+  unfolding pass_over blamed
   pass-goes i then [] pre post w m st le before on-it = subst (λ (l : List ℕ). Stands k sol s i l w) (sym (append-nil pre)) st
   pass-goes i then (b ∷ bs) pre post w m st le before on-it =
       go
       (λ v.
-      subst (λ (l : List ℕ). Goes k sol s i l (pass_over k sol (count s) then bs (stepped k then b w))) (append_assoc pre (b ∷ []) bs)
+      subst (λ (l : List ℕ). Goes k sol s i l (pass_over k sol then bs (stepped k then b w))) (append_assoc pre (b ∷ []) bs)
       (pass-goes i then bs (pre ++ (b ∷ [])) post (stepped k then b w) (m ∙ sym (append_assoc pre (b ∷ []) (bs ++ post))) v le
       (λ j lt g. let h = before j lt g in omega (arith, snoc-length pre b))
-      (λ lt. let h = on-it lt in (h.0, omega (arith, h.1, snoc-length pre b), omega (arith, h.2, snoc-length pre b)))))
-      (ltb w.asks (count s)) refl (yes sol (add_base k w.kmer b)) refl
+      (λ j e. let h = on-it j e in (h.0, omega (arith, h.1, snoc-length pre b), omega (arith, h.2, snoc-length pre b)))))
+      w.asks refl (yes sol (add_base k w.kmer b)) refl
     where
-      once : then < count s → (then < i) × (start s then ≤ length pre) × (suc (length pre) ≤ start s then + given s then)
-      once lt = let h = on-it lt in (h.0, h.1, omega (arith, h.2))
+      once : (j : ℕ) → then ≡ Some j → (j < i) × (start s j ≤ length pre) × (suc (length pre) ≤ start s j + given s j)
+      once j e = let h = on-it j e in (h.0, h.1, omega (arith, h.2))
 
-      go : (Stands k sol s i (pre ++ (b ∷ [])) (stepped k then b w) → Goes k sol s i (pre ++ (b ∷ bs)) (pass_over k sol (count s) then bs (stepped k then b w)))
-          → (p : Bool) → ltb w.asks (count s) ≡ p → (q : Bool) → yes sol (add_base k w.kmer b) ≡ q → Goes k sol s i (pre ++ (b ∷ bs)) (pass_over k sol (count s) then (b ∷ bs) w)
-      go r true e true f = rw (e, pass_over, f) (r (base_on i then b pre (bs ++ post) w m st le before once (λ j lt lo hi. f)))
-      go r true e false f = rw (e, pass_over, f) (base-off i then b pre (bs ++ post) w m st le before once (ltb-true w.asks (count s) e) f)
-      go r false e q f =
-          let g = ltb-false w.asks (count s) e in
-          rw (e, pass_over)
+      go : (Stands k sol s i (pre ++ (b ∷ [])) (stepped k then b w) → Goes k sol s i (pre ++ (b ∷ bs)) (pass_over k sol then bs (stepped k then b w)))
+          → (o : Asking ℕ) → w.asks ≡ o → (q : Bool) → yes sol (add_base k w.kmer b) ≡ q → Goes k sol s i (pre ++ (b ∷ bs)) (pass_over k sol then (b ∷ bs) w)
+      go r (Some j) e true f = rw (e, pass_over, f, blamed) (r (base_on i then b pre (bs ++ post) w m st le before once (λ j lt lo hi. f)))
+      go r (Some j) e false f = rw (e, pass_over, f, blamed) (base-off i then b pre (bs ++ post) w m st le before once j e f)
+      go r None e q f =
+          rw (e, pass_over, blamed)
           (r (base_on i then b pre (bs ++ post) w m st le before once
-          (λ j lt lo hi. absurd (omega (arith, st.earlier j lt (omega arith))))))
+          (λ j lt lo hi. absurd (omega (arith, st.earlier j lt (subst (Before j) (sym e) tt))))))
 
   -- ---- an edit
 
@@ -191,27 +204,25 @@ module _ (k : ℕ) (sol : ℕ → Bool) (s : Sheet) (all : (i : ℕ) → i < cou
     edit-off e =
         first-at (supported k sol s) 0 (count s) i (omega arith) (omega arith)
         (supported-no k sol s i (start s i) (omega arith) (omega arith) (ap (yes sol) kmer-here ∙ e))
-        (λ j z l. supported-yes k sol s j (λ x lo hi. fine j l x lo hi (ltb w.asks (count s)) refl))
+        (λ j z l. supported-yes k sol s j (λ x lo hi. fine j l x lo hi w.asks refl))
       where
-        fine : (j : ℕ) → j < i → (x : ℕ) → start s j ≤ x → x ≤ start s j + given s j + 1 → (t : Bool) → ltb w.asks (count s) ≡ t → yes sol (kmer_to k (made s) x) ≡ true
-        fine j l x lo hi true q =
-            let h = st.asked (ltb-true w.asks (count s) q) in
-            let d = done w.asks h.0 in
-            let p = st.seen w.asks (start s i) h.0 (omega arith) (omega (arith, h.2, pre-length)) (omega (arith, pre-length)) in
+        fine : (j : ℕ) → j < i → (x : ℕ) → start s j ≤ x → x ≤ start s j + given s j + 1 → (o : Asking ℕ) → w.asks ≡ o → yes sol (kmer_to k (made s) x) ≡ true
+        fine j l x lo hi (Some a) q =
+            let h = st.asked a q in
+            let d = done a h.0 in
+            let p = st.seen a (start s i) h.0 (omega arith) (omega (arith, h.2, pre-length)) (omega (arith, pre-length)) in
             absurd (true≢false (sym p ∙ ap (yes sol) kmer-here ∙ e))
-        fine j l x lo hi false q =
-            let g = ltb-false w.asks (count s) q in
-            st.seen j x l lo hi (omega (arith, st.earlier j l (omega arith)))
+        fine j l x lo hi None q = st.seen j x l lo hi (omega (arith, st.earlier j l (subst (Before j) (sym q) tt)))
 
     begun : yes sol w.kmer ≡ true
-        → Stands k sol s (suc i) (made_to s i ++ kept s i) (record { kmer = w.kmer; asks = min w.asks i; left = w.left })
+        → Stands k sol s (suc i) (made_to s i ++ kept s i) (record { kmer = w.kmer; asks = option_or w.asks (Some i); left = w.left })
     begun e =
         record {
           kmer_is = st.kmer_is;
           left_is = st.left_is;
           seen = λ j x l lo hi g. saw j x l lo hi g (eqb j i) refl;
-          earlier = λ j l g. st.earlier j (omega arith) (omega arith);
-          asked = λ l. asks (ltb w.asks (count s)) refl;
+          earlier = λ j l g. before w.asks refl j l g;
+          asked = λ j q. asks w.asks refl j q;
         }
       where
         saw : (j x : ℕ) → j < suc i → start s j ≤ x → x ≤ start s j + given s j + 1 → x ≤ length (made_to s i ++ kept s i) → (t : Bool) → eqb j i ≡ t
@@ -223,33 +234,33 @@ module _ (k : ℕ) (sol : ℕ → Bool) (s : Sheet) (all : (i : ℕ) → i < cou
             ap (λ (z : ℕ). yes sol (kmer_to k (made s) z)) r ∙ ap (yes sol) kmer-here ∙ e
         saw j x l lo hi g false q = let p = eqb-false j i q in st.seen j x (omega arith) lo hi g
 
-        asks : (t : Bool) → ltb w.asks (count s) ≡ t
-            → (min w.asks i < suc i)
-            × (start s (min w.asks i) ≤ suc (length (made_to s i ++ kept s i)))
-            × (length (made_to s i ++ kept s i) ≤ start s (min w.asks i) + given s (min w.asks i))
-        asks true q =
-            let h = st.asked (ltb-true w.asks (count s) q) in
-            let r : min w.asks i ≡ w.asks = omega (arith, h.0) in
-            (omega arith, rw r h.1, rw r h.2)
-        asks false q =
-            let g = ltb-false w.asks (count s) q in
-            let r : min w.asks i ≡ i = omega arith in
-            (omega arith, rw r (omega (arith, pre-length)), rw r (omega (arith, pre-length)))
+        before : (o : Asking ℕ) → w.asks ≡ o → (j : ℕ) → j < suc i → Before j (option_or o (Some i)) → start s j + given s j + 1 ≤ length (made_to s i ++ kept s i)
+        before (Some a) q j l g = let h = st.asked a q in st.earlier j (omega (arith, h.0)) (subst (Before j) (sym q) g)
+        before None q j l g = st.earlier j g (subst (Before j) (sym q) tt)
 
-    edit-goes : Goes k sol s (suc i) (made_to s (suc i)) (at_edit k sol (count s) i (letters_of s i) w)
+        asks : (o : Asking ℕ) → w.asks ≡ o → (j : ℕ) → option_or o (Some i) ≡ Some j
+            → (j < suc i) × (start s j ≤ suc (length (made_to s i ++ kept s i))) × (length (made_to s i ++ kept s i) ≤ start s j + given s j)
+        asks (Some a) q j e = let h = st.asked j (q ∙ e) in (omega (arith, h.0), h.1, h.2)
+        asks None q j e =
+            let r : i ≡ j = some-same e in
+            rw (← r) (omega arith, omega (arith, pre-length), omega (arith, pre-length))
+
+    edit-goes : Goes k sol s (suc i) (made_to s (suc i)) (at_edit k sol i (letters_of s i) w)
     unfolding at_edit made_to
     edit-goes = go (yes sol w.kmer) refl
       where
-        go : (t : Bool) → yes sol w.kmer ≡ t → Goes k sol s (suc i) (made_to s i ++ (kept s i ++ letters_of s i)) (at_edit k sol (count s) i (letters_of s i) w)
+        go : (t : Bool) → yes sol w.kmer ≡ t → Goes k sol s (suc i) (made_to s i ++ (kept s i ++ letters_of s i)) (at_edit k sol i (letters_of s i) w)
         go false e = rw (e, at_edit) (edit-off e)
         go true e =
             rw (e, at_edit)
             (subst
-            (λ (l : List ℕ). Goes k sol s (suc i) l (pass_over k sol (count s) i (letters_of s i) (record { kmer = w.kmer; asks = min w.asks i; left = w.left })))
+            (λ (l : List ℕ). Goes k sol s (suc i) l (pass_over k sol (Some i) (letters_of s i) (record { kmer = w.kmer; asks = option_or w.asks (Some i); left = w.left })))
             (append_assoc (made_to s i) (kept s i) (letters_of s i))
-            (pass-goes (suc i) i (letters_of s i) (made_to s i ++ kept s i) post (record { kmer = w.kmer; asks = min w.asks i; left = w.left }) m (begun e) lt
+            (pass-goes (suc i) (Some i) (letters_of s i) (made_to s i ++ kept s i) post (record { kmer = w.kmer; asks = option_or w.asks (Some i); left = w.left }) m (begun e) lt
             (λ j l g. omega (arith, done j g, pre-length))
-            (λ l. (omega arith, omega (arith, pre-length), omega (arith, pre-length, letters-length k s all i lt)))))
+            (λ j q.
+            let r : i ≡ j = some-same q in
+            rw (← r) (omega arith, omega (arith, pre-length), omega (arith, pre-length, letters-length k s all i lt)))))
 
   -- ---- all edits
 
@@ -272,25 +283,25 @@ module _ (k : ℕ) (sol : ℕ → Bool) (s : Sheet) (all : (i : ℕ) → i < cou
   then-goes i pre (on w) f j last h g = g w h
   then-goes i pre (offends x) f j last h g = h
 
-  walk-goes : (m i : ℕ) (w : Stand) → i + m ≡ count s → Stands k sol s i (made_to s i) w → Goes k sol s (count s) (made s) (walk_from k sol (count s) s m i w)
+  walk-goes : (m i : ℕ) (w : Stand) → i + m ≡ count s → Stands k sol s i (made_to s i) w → Goes k sol s (count s) (made s) (walk_from k sol s m i w)
   unfolding walk_from over_edit ahead
   walk-goes zero i w e st =
       let q : i ≡ count s = omega arith in
-      let p = pass-goes i (count s) (rest s) (made_to s i) [] w (made-split zero i e ∙ ap (λ (l : List ℕ). made_to s i ++ l) (sym (append-nil (rest s)))) st (omega arith)
-      (λ j l g. ends-before k s all i j l (omega arith)) (λ l. absurd (omega arith)) in
-      subst (λ (l : List ℕ). Goes k sol s (count s) l (pass_over k sol (count s) (count s) (rest s) w)) (sym (made-split zero i e))
-      (subst (λ (x : ℕ). Goes k sol s x (made_to s i ++ rest s) (pass_over k sol (count s) (count s) (rest s) w)) q p)
+      let p = pass-goes i None (rest s) (made_to s i) [] w (made-split zero i e ∙ ap (λ (l : List ℕ). made_to s i ++ l) (sym (append-nil (rest s)))) st (omega arith)
+      (λ j l g. ends-before k s all i j l (omega arith)) (λ j. none-asks) in
+      subst (λ (l : List ℕ). Goes k sol s (count s) l (pass_over k sol None (rest s) w)) (sym (made-split zero i e))
+      (subst (λ (x : ℕ). Goes k sol s x (made_to s i ++ rest s) (pass_over k sol None (rest s) w)) q p)
   walk-goes (suc m) i w e st =
       let lt : i < count s = omega arith in
       let sp = made-split (suc m) i e in
-      then-goes (suc i) (made_to s (suc i)) (over_edit k sol (count s) i (kept s i) (letters_of s i) w) (walk_from k sol (count s) s m (suc i)) (count s) (made s)
-      (then-goes i (made_to s i ++ kept s i) (pass_over k sol (count s) (count s) (kept s i) w) (at_edit k sol (count s) i (letters_of s i)) (suc i) (made_to s (suc i))
-      (pass-goes i (count s) (kept s i) (made_to s i) (letters_of s i ++ ahead m (suc i)) w sp st (omega arith)
-      (λ j l g. ends-before k s all i j l (omega arith)) (λ l. absurd (omega arith)))
+      then-goes (suc i) (made_to s (suc i)) (over_edit k sol i (kept s i) (letters_of s i) w) (walk_from k sol s m (suc i)) (count s) (made s)
+      (then-goes i (made_to s i ++ kept s i) (pass_over k sol None (kept s i) w) (at_edit k sol i (letters_of s i)) (suc i) (made_to s (suc i))
+      (pass-goes i None (kept s i) (made_to s i) (letters_of s i ++ ahead m (suc i)) w sp st (omega arith)
+      (λ j l g. ends-before k s all i j l (omega arith)) (λ j. none-asks))
       (λ v h. edit-goes i lt (ahead m (suc i)) v (sp ∙ sym (append_assoc (made_to s i) (kept s i) (letters_of s i ++ ahead m (suc i)))) h))
       (λ v h. walk-goes m (suc i) v (omega arith) h)
 
-  starts : Stands k sol s 0 [] (begins k (count s) s.mended)
+  starts : Stands k sol s 0 [] (begins k s.mended)
   unfolding begins after_all
   starts =
       record {
@@ -298,12 +309,12 @@ module _ (k : ℕ) (sol : ℕ → Bool) (s : Sheet) (all : (i : ℕ) → i < cou
         left_is = refl;
         seen = λ j x l. absurd (omega arith);
         earlier = λ j l. absurd (omega arith);
-        asked = λ l. absurd (omega arith);
+        asked = λ j. none-asks;
       }
 
   pub whole-goes : Goes k sol s (count s) (made s) (walk k sol s)
   unfolding walk made_to
-  whole-goes = walk-goes (count s) 0 (begins k (count s) s.mended) (omega arith) starts
+  whole-goes = walk-goes (count s) 0 (begins k s.mended) (omega arith) starts
 
   -- a walk to the end has paid every edit
   pub all_paid : (w : Stand) → Stands k sol s (count s) (made s) w → first_failing (supported k sol s) 0 (count s) ≡ none

@@ -1,7 +1,8 @@
 -- One walk over the pieces of the read with all edits made, by lists.
-use Prim.Native.Nat.{ℕ, zero, suc, ◌≤◌, min}
-use Rattle.std.specs.Prelude.{◌≡◌, Bool, cond, ◌&&◌, length, drop, eqb, ltb, Result, Ok, Err}
-use Rattle.std.proofs.Math.Bool.{true, false, not}
+use Prim.Native.Nat.{ℕ, zero, suc, ◌≤◌}
+use Rattle.std.specs.Prelude.{◌≡◌, Bool, cond, length, drop, eqb, Option as Asking, Some, None, Result, Ok, Err}
+use Rattle.std.specs.Option.{option_or}
+use Rattle.std.proofs.Math.Bool.{true, false}
 use Rattle.std.proofs.Math.Option.{Option, none, some}
 use mathlib.Core.List.{List, [], ◌∷◌}
 use Rattle.rules.specs.Letters.{Kmer, add, add_base, code, kmer}
@@ -13,8 +14,8 @@ use Rattle.edit_walk.specs.declared.Walk.{Walk}
 -- Where a walk stands.
 pub record Stand : Type 0 where
   pub kmer : Kmer
-  -- the first edit that asks the next base's k-mer to be solid; the number of edits, if none does
-  pub asks : ℕ
+  -- the first edit that asks the next base's k-mer to be solid, if one does
+  pub asks : Asking ℕ
   -- what is left of the partner's read, if it was the same so far
   pub left : Option (List ℕ)
 
@@ -29,8 +30,8 @@ next b none = none
 next b (some []) = none
 next b (some (c ∷ l)) = elim (eqb b c) [ true ↦ some l | false ↦ none ]
 
--- After base b; edit `then` asks next.
-unfoldable pub stepped : ℕ → ℕ → ℕ → Stand → Stand
+-- After base b; edit `then` asks next, or none does.
+unfoldable pub stepped : ℕ → Asking ℕ → ℕ → Stand → Stand
 unfolding add code next
 stepped k then b w = record { kmer = add_base k w.kmer b; asks = then; left = next b w.left }
 
@@ -43,46 +44,51 @@ and_then (offends i) f = offends i
 abbrev pub yes : (ℕ → Bool) → Kmer → Bool
 yes sol y = (ask sol y).answer
 
-module _ (k : ℕ) (sol : ℕ → Bool) (n : ℕ) where
-  -- A part, behind each base of which edit `then` asks.
-  unfoldable pub pass_over : ℕ → List ℕ → Stand → Walked
-  unfolding stepped ask
+-- The edit that asks, if one does and the k-mer is not solid.
+unfoldable pub blamed : Asking ℕ → Bool → Asking ℕ
+blamed None solid = None
+blamed (Some i) solid = cond solid None (Some i)
+
+module _ (k : ℕ) (sol : ℕ → Bool) where
+  -- A part, behind each base of which edit `then` asks, or none does.
+  unfoldable pub pass_over : Asking ℕ → List ℕ → Stand → Walked
+  unfolding stepped ask blamed
   pass_over then [] w = on w
   pass_over then (b ∷ bs) w =
-      elim (ltb w.asks n && not (yes sol (add_base k w.kmer b))) [
-        | true ↦ offends w.asks
-        | false ↦ pass_over then bs (stepped k then b w)
+      elim (blamed w.asks (yes sol (add_base k w.kmer b))) [
+        | Some i ↦ offends i
+        | None ↦ pass_over then bs (stepped k then b w)
       ]
 
-  -- At edit i: the base before it is asked, and its letters follow.
+  -- At edit i: the base before it is asked, and its letters follow. What an earlier edit asks too is that edit's.
   unfoldable pub at_edit : ℕ → List ℕ → Stand → Walked
   unfolding pass_over ask
   at_edit i letters w =
       elim (yes sol w.kmer) [
         | false ↦ offends i
-        | true ↦ pass_over i letters (record { kmer = w.kmer; asks = min w.asks i; left = w.left })
+        | true ↦ pass_over (Some i) letters (record { kmer = w.kmer; asks = option_or w.asks (Some i); left = w.left })
       ]
 
   -- The bases kept before edit i, and the edit.
   unfoldable pub over_edit : ℕ → List ℕ → List ℕ → Stand → Walked
   unfolding pass_over and_then at_edit
-  over_edit i bases letters w = and_then (pass_over n bases w) (at_edit i letters)
+  over_edit i bases letters w = and_then (pass_over None bases w) (at_edit i letters)
 
   -- m edits from i on, and the bases behind the last.
   unfoldable pub walk_from : Sheet → ℕ → ℕ → Stand → Walked
   unfolding over_edit and_then pass_over
-  walk_from s zero i w = pass_over n (rest s) w
+  walk_from s zero i w = pass_over None (rest s) w
   walk_from s (suc m) i w = and_then (over_edit i (kept s i) (letters_of s i) w) (walk_from s m (suc i))
 
 -- Before the first base.
-unfoldable pub begins : ℕ → ℕ → List ℕ → Stand
+unfoldable pub begins : ℕ → List ℕ → Stand
 unfolding kmer
-begins k n mended = record { kmer = kmer k []; asks = n; left = some mended }
+begins k mended = record { kmer = kmer k []; asks = None; left = some mended }
 
 -- The whole walk.
 unfoldable pub walk : ℕ → (ℕ → Bool) → Sheet → Walked
 unfolding walk_from begins
-walk k sol s = walk_from k sol (count s) s (count s) 0 (begins k (count s) s.mended)
+walk k sol s = walk_from k sol s (count s) 0 (begins k s.mended)
 
 -- ---- the code's walk
 

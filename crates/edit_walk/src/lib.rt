@@ -12,18 +12,18 @@ ghost use Rattle.edit_walk.specs.Walk.{Sound, StepIs, stand_of, stepped, pass_ov
 use kmer::{Header, Kmer};
 use set::KmerSet;
 
-// Where a walk stands: its k-mer, the first edit that asks the next base's k-mer to be solid (the number of edits: none does), how many
-// bases equal the partner's, and whether all of them do.
+// Where a walk stands: its k-mer, the first edit that asks the next base's k-mer to be solid, if one does, how many bases equal the
+// partner's, and whether all of them do.
 #[derive(Clone, Copy)]
 pub struct Walk {
     pub kmer: Kmer,
-    pub asks: usize,
+    pub asks: Option<usize>,
     pub at: usize,
     pub same: bool,
 }
 
 // The next base: the k-mer rolls, and the base is compared.
-fn take_base(mended: &[u8], head: Header, walk: Walk, base: u8, then: usize) -> Walk
+fn take_base(mended: &[u8], head: Header, walk: Walk, base: u8, then: Option<usize>) -> Walk
     requires { Sound head.k mended.now walk }
     ensures { Sound head.k mended.now result
         × (stand_of mended.now result ≡ stepped head.k then base (stand_of mended.now walk)) }
@@ -45,26 +45,27 @@ fn take_base(mended: &[u8], head: Header, walk: Walk, base: u8, then: usize) -> 
     }
 }
 
-// A part, behind each base of which an edit asks the next one (the number of edits: none does); or the edit that offends.
+// A part, behind each base of which edit `then` asks the next one, or none does; or the edit that offends.
 fn pass_over(
     set: &KmerSet,
     part: &[u8],
     mended: &[u8],
     walk: Walk,
-    then: usize,
-    edits: usize,
+    then: Option<usize>,
 ) -> Result<Walk, usize>
     requires { Sound set.now.head.k mended.now walk }
     ensures { StepIs set.now.head.k mended.now
-        (pass_over set.now.head.k (solid (set_of set.now.bytes.now)) edits then part.now (stand_of mended.now walk))
+        (pass_over set.now.head.k (solid (set_of set.now.bytes.now)) then part.now (stand_of mended.now walk))
         result }
 {
     let mut walk = walk;
     for base in part {
         let asks = walk.asks;
         walk = take_base(mended, set.head, walk, *base, then);
-        if asks < edits && !set.ask(walk.kmer).solid {
-            return Err(asks);
+        if let Some(i) = asks {
+            if !set.ask(walk.kmer).solid {
+                return Err(i);
+            }
         }
     }
     Ok(walk)
@@ -78,26 +79,25 @@ fn over_edit(
     mended: &[u8],
     walk: Walk,
     i: usize,
-    edits: usize,
 ) -> Result<Walk, usize>
     requires { Sound set.now.head.k mended.now walk }
     ensures { StepIs set.now.head.k mended.now
-        (over_edit set.now.head.k (solid (set_of set.now.bytes.now)) edits i kept.now letters.now (stand_of mended.now walk))
+        (over_edit set.now.head.k (solid (set_of set.now.bytes.now)) i kept.now letters.now (stand_of mended.now walk))
         result }
 {
-    let before = pass_over(set, kept, mended, walk, edits, edits)?;
+    let before = pass_over(set, kept, mended, walk, None)?;
     if !set.ask(before.kmer).solid {
         return Err(i);
     }
     // A base that an earlier edit asks too is that edit's.
     let asked = Walk {
-        asks: before.asks.min(i),
+        asks: before.asks.or(Some(i)),
         ..before
     };
-    pass_over(set, letters, mended, asked, i, edits)
+    pass_over(set, letters, mended, asked, Some(i))
 }
 
-// The bases kept before each edit, its letters, and the bases behind the last.
+// The bases kept before each edit, its letters, and the bases behind the last. It goes by the edits' numbers, since one is the answer.
 pub fn over_edits(
     set: &KmerSet,
     read: &[u8],
@@ -115,7 +115,7 @@ pub fn over_edits(
 {
     let mut walk = Walk {
         kmer: kmer::all_a(set.head),
-        asks: n,
+        asks: None,
         at: 0,
         same: true,
     };
@@ -132,10 +132,9 @@ pub fn over_edits(
             mended,
             walk,
             i,
-            n,
         )?;
         from = position + edit.taken as usize;
         given = end;
     }
-    pass_over(set, &read[from..], mended, walk, n, n)
+    pass_over(set, &read[from..], mended, walk, None)
 }

@@ -1,4 +1,4 @@
-use Rattle.std.proofs.Common.{refl, sym, ap, ap₂, ◌∙◌, ℕ, List, arith, rules}
+use Rattle.std.proofs.Common.{refl, sym, ap, ap₂, ◌∙◌, ℕ, List, None, arith, rules}
 use Rattle.std.proofs.lemmas.Result.{err_from_is_err_and}
 use Rattle.rules.specs.Set.{solid, set_of}
 use Rattle.rules_edits.specs.Edits.{sheet, kept_from, letters_to, kept, letters_of}
@@ -54,7 +54,7 @@ stepped-over : (c : After-over_edit) → let l = c.loop-i in
     let a = c.args in
     let s = sheet a.read.now a.mended.now a.edits.now a.letters.now in
     StepIs a.set.now.head.k a.mended.now
-    (over_edit a.set.now.head.k (solid (set_of a.set.now.bytes.now)) a.n l.i (kept s l.i) (letters_of s l.i) (stand_of a.mended.now l.walk))
+    (over_edit a.set.now.head.k (solid (set_of a.set.now.bytes.now)) l.i (kept s l.i) (letters_of s l.i) (stand_of a.mended.now l.walk))
     c.over_edit.result
 stepped-over c =
     let l = c.loop-i in
@@ -62,7 +62,7 @@ stepped-over c =
     let e = kept-is _ _ _ c.requires.1 l.i l.from l.given l.invariant.2 l.invariant.3 _ c.edit_at-edit.ensures in
     let f = letters-are _ _ _ c.requires.1 l.i l.from l.given l.invariant.2 l.invariant.3 _ c.edit_at-edit.ensures in
     same_step a.set.now.head.k a.mended.now c.over_edit.result
-    (ap₂ (λ (x y : List ℕ). over_edit a.set.now.head.k (solid (set_of a.set.now.bytes.now)) a.n l.i x y (stand_of a.mended.now l.walk)) e f)
+    (ap₂ (λ (x y : List ℕ). over_edit a.set.now.head.k (solid (set_of a.set.now.bytes.now)) l.i x y (stand_of a.mended.now l.walk)) e f)
     c.over_edit.ensures
 
 pub returns-in_err-walk : goal.returns-in_err-walk
@@ -94,5 +94,5 @@ returns c =
     same_step a.set.now.head.k a.mended.now c.pass_over.result
     (l.invariant.5
     ∙ walk_end _ _ _ _ l.i _ (search rules)
-    ∙ ap (λ (x : List ℕ). pass_over a.set.now.head.k (solid (set_of a.set.now.bytes.now)) a.n a.n x (stand_of a.mended.now l.walk)) (sym g))
+    ∙ ap (λ (x : List ℕ). pass_over a.set.now.head.k (solid (set_of a.set.now.bytes.now)) None x (stand_of a.mended.now l.walk)) (sym g))
     c.pass_over.ensures

@@ -14,4 +14,4 @@ invariant-loop-i l =
     × (l.given ≡ letters_to (sheet l.read l.mended l.edits l.letters) l.i)
     × Sound l.set.head.k l.mended l.walk
     × (walk l.set.head.k (solid (set_of l.set.bytes.now)) (sheet l.read l.mended l.edits l.letters)
-    ≡ walk_from l.set.head.k (solid (set_of l.set.bytes.now)) l.n (sheet l.read l.mended l.edits l.letters) (l.n - l.i) l.i (stand_of l.mended l.walk))
+    ≡ walk_from l.set.head.k (solid (set_of l.set.bytes.now)) (sheet l.read l.mended l.edits l.letters) (l.n - l.i) l.i (stand_of l.mended l.walk))

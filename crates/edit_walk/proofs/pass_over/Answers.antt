@@ -3,7 +3,7 @@ use borrow.Author.Tests.{not-true, not-false}
 use Rattle.rules.specs.Set.{solid, set_of}
 use Rattle.edit_walk.specs.Walk.{stand_of}
 use Rattle.edit_walk.proofs.Steps.{step-free, step-solid, step-offends, part_end}
-use Rattle.edit_walk.proofs.pass_over.Goals.{else-asks-edits-via-then-asks-edits+else-not-ask, else-asks-edits-via-else-asks-edits}
+use Rattle.edit_walk.proofs.pass_over.Goals.{in-Some+else-not-ask, in_default}
 use Rattle.edit_walk.proofs.pass_over.Goals as goal
 
 pub returns-then-not-ask : goal.returns-then-not-ask
@@ -11,8 +11,8 @@ returns-then-not-ask c =
     let l = c.loop-base in
     let a = c.args in
     l.invariant.1
-    ∙ step-offends a.set.now.head.k (solid (set_of a.set.now.bytes.now)) a.edits a.«then» a.part.now l.base-index (stand_of a.mended.now l.walk) (search rules)
-    (stand_of a.mended.now c.take_base-walk.result) c.take_base-walk.ensures.1 c.if-asks-edits.true
+    ∙ step-offends a.set.now.head.k (solid (set_of a.set.now.bytes.now)) a.«then» a.part.now l.base-index (stand_of a.mended.now l.walk) (search rules)
+    (stand_of a.mended.now c.take_base-walk.result) c.take_base-walk.ensures.1 c.in-Some.is
     (sym c.ask.ensures.solid ∙ not-true _ c.if-not-ask.true)
 
 pub loop-base-preserved : goal.loop-base-preserved
@@ -24,12 +24,12 @@ loop-base-preserved c =
     let v = stand_of a.mended.now c.take_base-walk.result in (
       c.take_base-walk.ensures.0,
       l.invariant.1
-          ∙ elim c.else-asks-edits.branch [
-            | else-asks-edits-via-then-asks-edits+else-not-ask x ↦
-                step-solid a.set.now.head.k sol a.edits a.«then» a.part.now l.base-index w (search rules) v c.take_base-walk.ensures.1
+          ∙ elim c.match-asks.branch [
+            | in-Some+else-not-ask x ↦
+                step-solid a.set.now.head.k sol a.«then» a.part.now l.base-index w (search rules) v c.take_base-walk.ensures.1
                 (sym x.ask.ensures.solid ∙ not-false _ x.if-not-ask.false)
-            | else-asks-edits-via-else-asks-edits x ↦
-                step-free a.set.now.head.k sol a.edits a.«then» a.part.now l.base-index w (search rules) v c.take_base-walk.ensures.1 x.if-asks-edits.false
+            | in_default x ↦
+                step-free a.set.now.head.k sol a.«then» a.part.now l.base-index w (search rules) v c.take_base-walk.ensures.1 x.in_default.is
           ],
     )
 
@@ -37,4 +37,4 @@ pub returns : goal.returns
 returns c =
     let l = c.loop-base in
     let a = c.args in
-    (l.invariant.1 ∙ part_end a.set.now.head.k (solid (set_of a.set.now.bytes.now)) a.edits a.«then» a.part.now l.base-index (stand_of a.mended.now l.walk) (search rules), l.invariant.0)
+    (l.invariant.1 ∙ part_end a.set.now.head.k (solid (set_of a.set.now.bytes.now)) a.«then» a.part.now l.base-index (stand_of a.mended.now l.walk) (search rules), l.invariant.0)

@@ -7,5 +7,5 @@ use Rattle.edit_walk.proofs.pass_over.Given as goal
 abbrev pub invariant-loop-base : goal.invariant-loop-base
 invariant-loop-base l =
     Sound l.set.head.k l.mended l.walk
-    × (pass_over l.set.head.k (solid (set_of l.set.bytes.now)) l.edits l.then l.part (stand_of l.mended l.initial.walk)
-    ≡ pass_over l.set.head.k (solid (set_of l.set.bytes.now)) l.edits l.then (drop l.base-index l.part) (stand_of l.mended l.walk))
+    × (pass_over l.set.head.k (solid (set_of l.set.bytes.now)) l.then l.part (stand_of l.mended l.initial.walk)
+    ≡ pass_over l.set.head.k (solid (set_of l.set.bytes.now)) l.then (drop l.base-index l.part) (stand_of l.mended l.walk))
