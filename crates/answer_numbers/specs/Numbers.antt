@@ -7,7 +7,7 @@ use Rattle.rules.specs.Set.{KmerSet, opened}
 use Rattle.rules.specs.Solid.{Solids}
 use Rattle.rules_needs.specs.Needs.{Needs}
 use Rattle.refusal.specs.declared.Refusal.{Refusal as Reason}
-use Rattle.opening.specs.declared.Opened.{Opened}
+use Rattle.index.specs.declared.open_set.OpenSet.{OpenSet}
 use Rattle.opening.specs.Opened.{Opens}
 
 -- A support: supported (1 or 0), and the smallest count, 0 where there is none; then other numbers.
@@ -33,7 +33,7 @@ open_numbers (accepted set) = 0 ∷ 0 ∷ set.k ∷ length set.keys ∷ []
 open_numbers (refused r) = refused_numbers r
 
 -- What opening answered, told as the rules' numbers: of any bytes that open so.
-abbrev pub OpenNumbers : Result Opened Reason → List ℕ → Type 0
+abbrev pub OpenNumbers : Result OpenSet Reason → List ℕ → Type 0
 OpenNumbers o ns = (bytes : List ℕ) → Opens bytes o → ns ≡ open_numbers (opened bytes)
 
 -- Counting: the refusal's number (0: none), its place, the read's k-mers, the solid ones among them.

@@ -9,8 +9,8 @@ ghost use Rattle.lay.specs.Made.{outcome_of};
 ghost use Rattle.needs.specs.Needs.{answer_of as needs_told};
 ghost use Rattle.answer_numbers.specs.Numbers.{numbers_of, OpenNumbers, solid_numbers, made_numbers, needs_numbers, check_numbers, Told};
 
+use index::OpenSet;
 use needs::Need;
-use opening::Opened;
 use refusal::Refusal;
 use report::Report;
 use solid::Count;
@@ -41,8 +41,8 @@ pub fn numbers_of(answer: Result<Report, Refusal>) -> [u64; 13]
 }
 
 // The numbers of opening.
-pub fn open_numbers(opened: Result<Opened, Refusal>) -> [u64; 4]
-    ensures { OpenNumbers opened result }
+pub fn open_numbers(opened: Result<OpenSet, Refusal>) -> [u64; 4]
+    ensures { OpenNumbers opened.entry result }
 {
     match opened {
         Ok(set) => [0, 0, set.k as u64, set.n as u64],

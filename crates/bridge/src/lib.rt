@@ -108,14 +108,7 @@ fn between(set: &KmerSet, from: u64, to: u64, budget: u64) -> Result<Bridge, Ref
 pub fn find_bridge(set: &[u8], from: u64, to: u64, budget: u64) -> Result<Bridge, Refusal>
     ensures { answer_of result ≡ rules.told_of (rules.find_bridge set.now from to budget) }
 {
-    let opened = opening::open(set)?;
-    let mut starts = [0; STARTS];
-    let head = prepare::prepare(set, b"", opened.k, opened.n, 0, &mut starts);
-    let set = KmerSet {
-        bytes: set,
-        starts: &starts,
-        counts: &[],
-        head,
-    };
-    between(&set, from, to, budget)
+    let mut starts = [0u32; STARTS];
+    let opened = offered::open(set, b"", &[], 0, &mut starts)?;
+    between(&opened, from, to, budget)
 }

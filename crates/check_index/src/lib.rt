@@ -5,7 +5,6 @@ ghost use Rattle.std.specs.Prelude.{◌≡◌, ◌*◌, ◌≤◌, eqb, length, 
 ghost use Rattle.rules.specs.Refusal.{first_failing, unless};
 ghost use Rattle.rules.specs.Set.{is_none, check_right, set_of};
 ghost use Rattle.rules.specs.Index.{index_entry, index_list, index_blocks, same_bytes, index_check};
-ghost use Rattle.index.specs.Index.{Opens};
 ghost use Rattle.check_index.specs.Words.{word_right};
 
 use index::OpenSet;
@@ -55,9 +54,8 @@ fn index_right(set: &OpenSet, index: &[u8]) -> bool
 }
 
 // Refusal 15, unless it holds. An empty index counts as not offered.
-pub fn check_index(set: &[u8], k: usize, n: usize, index: &[u8]) -> bool
-    requires { Opens set.now k n }
-    ensures { unless result 15 ≡ index_check (set_of set.now) index.now }
+pub fn check_index(set: &OpenSet, index: &[u8]) -> bool
+    ensures { unless result 15 ≡ index_check (set_of set.now.bytes.now) index.now }
 {
-    index.is_empty() || index_right(&OpenSet { bytes: set, k, n }, index)
+    index.is_empty() || index_right(set, index)
 }

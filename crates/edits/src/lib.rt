@@ -52,14 +52,7 @@ pub fn check_edits(
 {
     input::check_length(read.len())?;
     input::check_length(mended.len())?;
-    let opened = opening::open(set)?;
-    let mut starts = [0; STARTS];
-    let head = prepare::prepare(set, b"", opened.k, opened.n, read.len(), &mut starts);
-    let set = KmerSet {
-        bytes: set,
-        starts: &starts,
-        counts: &[],
-        head,
-    };
-    judge(&set, read, mended, edits, letters)
+    let mut starts = [0u32; STARTS];
+    let opened = offered::open(set, b"", &[], read.len(), &mut starts)?;
+    judge(&opened, read, mended, edits, letters)
 }

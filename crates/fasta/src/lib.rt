@@ -76,12 +76,6 @@ pub fn correct_fasta(
     input::check_input(file.len(), job, output.len(), work.len())?;
     records::check_file(file)?;
     let mut starts = [0u32; STARTS];
-    let head = offered::open(set, index, counts, file.len(), &mut starts)?;
-    let opened = KmerSet {
-        bytes: set,
-        starts: &starts,
-        counts,
-        head,
-    };
+    let opened = offered::open(set, index, counts, file.len(), &mut starts)?;
     correct_records(&opened, job, file, output, work)
 }

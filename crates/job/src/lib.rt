@@ -53,13 +53,7 @@ pub fn correct_read(
 {
     input::check_input(read.len(), job, output.len(), work.len())?;
     let mut starts = [0u32; STARTS];
-    let head = offered::open(set, index, counts, read.len(), &mut starts)?;
-    let opened = KmerSet {
-        bytes: set,
-        starts: &starts,
-        counts,
-        head,
-    };
+    let opened = offered::open(set, index, counts, read.len(), &mut starts)?;
     correct_one(&opened, job, read, output, work)
 }
 
@@ -80,12 +74,6 @@ pub fn correct_batch(
     input::check_input(batch.len(), job, output.len(), work.len())?;
     input::check_batch(batch)?;
     let mut starts = [0u32; STARTS];
-    let head = offered::open(set, index, counts, batch.len(), &mut starts)?;
-    let opened = KmerSet {
-        bytes: set,
-        starts: &starts,
-        counts,
-        head,
-    };
+    let opened = offered::open(set, index, counts, batch.len(), &mut starts)?;
     lines::correct_lines(&opened, job, batch, output, work)
 }

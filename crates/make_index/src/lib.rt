@@ -17,6 +17,7 @@ fn skip_below(set: &OpenSet, v: usize, from: usize) -> usize
     ensures { result ≤ index_entry (set_of set.now.bytes.now) v }
 {
     let mut i = from;
+    // By steps of 63, so no iterator over the keys.
     while i + 63 <= set.n && set.is_below(v, i + 62) {
         i += 63;
     }
@@ -28,11 +29,10 @@ fn next_entry(set: &OpenSet, v: usize, from: usize) -> usize
     requires { from ≤ index_entry (set_of set.now.bytes.now) v }
     ensures { result ≡ index_entry (set_of set.now.bytes.now) v }
 {
-    let mut i = skip_below(set, v, from);
-    while i < set.n && set.is_below(v, i) {
-        i += 1;
-    }
-    i
+    let first = skip_below(set, v, from);
+    (first..set.n)
+        .find(|&i| !set.is_below(v, i))
+        .unwrap_or(set.n)
 }
 
 // One walk over the keys, since entries rise.
@@ -41,6 +41,7 @@ fn write_entries(set: &OpenSet, blocks: &mut [u8])
     ensures { Extended blocks.old 0 (index_list (set_of set.now.bytes.now)) blocks.new }
 {
     let mut entry = 0;
+    // By number, which is what is asked and written.
     for v in 0..index::entry_count(set.k) {
         entry = next_entry(set, v, entry);
         lay::put(blocks, v, entry as u64);
@@ -61,15 +62,10 @@ pub fn make_index(set: &[u8], blocks: &mut [u8]) -> Result<usize, Refusal>
     ensures { made_of result blocks.new ≡ make_index set.now blocks.old }
 {
     let opened = opening::open(set)?;
-    let open = OpenSet {
-        bytes: set,
-        k: opened.k,
-        n: opened.n,
-    };
-    let count = index::block_count(open.k);
+    let count = index::block_count(opened.k);
     if blocks.len() < 512 * count {
         return Err(Refusal::TooShort);
     }
-    write(&open, count, blocks);
+    write(&opened, count, blocks);
     Ok(512 * count)
 }

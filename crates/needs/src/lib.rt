@@ -73,12 +73,6 @@ pub fn needs(
     input::check_needs(batch.len(), job, work.len())?;
     input::check_batch(batch)?;
     let mut starts = [0u32; STARTS];
-    let head = offered::open(set, index, counts, batch.len(), &mut starts)?;
-    let opened = KmerSet {
-        bytes: set,
-        starts: &starts,
-        counts,
-        head,
-    };
+    let opened = offered::open(set, index, counts, batch.len(), &mut starts)?;
     Ok(count_lines(&opened, job, batch, work))
 }

@@ -5,27 +5,26 @@ ghost use Rattle.std.specs.Prelude.{◌≡◌, length};
 ghost use Rattle.set.specs.Ready.{table_length};
 ghost use Rattle.offered.specs.Offered.{OfferedIs};
 
-use kmer::Header;
-use opening::Opened;
 use refusal::Refusal;
+use set::KmerSet;
 
 // For lookups of about so many bases.
-pub fn open(
-    set: &[u8],
+pub fn open<'a>(
+    set: &'a [u8],
     index: &[u8],
-    counts: &[u32],
+    counts: &'a [u32],
     bases: usize,
-    starts: &mut [u32],
-) -> Result<Header, Refusal>
+    starts: &'a mut [u32],
+) -> Result<KmerSet<'a>, Refusal>
     requires { length starts.old ≡ table_length }
-    ensures { OfferedIs set.now index.now counts.now starts.new result }
+    ensures { OfferedIs set.now index.now counts.now result }
 {
-    let Opened { k, n } = opening::open(set)?;
-    if !check_index::check_index(set, k, n, index) {
+    let opened = opening::open(set)?;
+    if !check_index::check_index(&opened, index) {
         return Err(Refusal::Index);
     }
-    if !support::check_counts(counts, n) {
+    if !support::check_counts(counts, opened.n) {
         return Err(Refusal::Counts);
     }
-    Ok(prepare::prepare(set, index, k, n, bases, starts))
+    Ok(prepare::prepare(opened, index, counts, bases, starts))
 }

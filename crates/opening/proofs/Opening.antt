@@ -5,19 +5,15 @@ use mathlib.Core.Path.{◌≡◌, ◌∙◌}
 use mathlib.Core.Bool.{true, false, and-false}
 use mathlib.Core.Option.{none, some}
 use mathlib.Core.List.{List}
-use Rattle.std.specs.Prelude.{Ok}
 use lib.Dec.{ltb}
 use lib.ListN.{length}
 use borrow.Author.Tests.{lt-ltb, eq-eqb, ne_eqb}
 use Rattle.rules.specs.Refusal as Rules
 use Rattle.rules.specs.Refusal.{accepted, refused, at_place, first_failing}
-use Rattle.rules_laws.proofs.Opened.{opened-check}
-use Rattle.rules.specs.Set.{header_k, header_n, header_right, length_right, check_right, blocks, set_check, set_of, opened}
+use Rattle.rules.specs.Set.{header_k, header_right, length_right, check_right, blocks, set_check, set_of, opened}
 use Rattle.refusal.specs.declared.Refusal.TheVariants.{Length, Header}
 use Rattle.refusal.specs.Refusal.{refusal_of}
-use Rattle.opening.specs.declared.Opened.{Opened}
 use Rattle.set_checks.specs.Checks.{wrong_check, wrong_key}
-use Rattle.opening.specs.Opened.{Opens}
 
 module _ (bytes : List ℕ) where
   pub accepted-by : set_check bytes ≡ none → opened bytes ≡ accepted (set_of bytes)
@@ -59,10 +55,6 @@ module _ (bytes : List ℕ) where
   pub at-10 : length_right bytes ≡ true → wrong_check bytes ≡ none → header_right bytes ≡ true → set_check bytes ≡ wrong_key bytes 0
   unfolding set_check
   at-10 e e' e'' = rw (e, check-8 ∙ e', e'', sub-zero (63 * (blocks bytes - 1)))
-
--- what is known of a set that opened
-pub set-checked : (bytes : List ℕ) (o : Opened) → Opens bytes (Ok o) → (set_check bytes ≡ none) × (o.k ≡ header_k bytes) × (o.n ≡ header_n bytes)
-set-checked bytes o h = (opened-check bytes (set_of bytes) h.0, h.1, h.2)
 
 pub set-k : (bytes : List ℕ) {k : ℕ} → k ≡ header_k bytes → k ≡ (set_of bytes).k
 unfolding set_of

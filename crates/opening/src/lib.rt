@@ -7,14 +7,8 @@ ghost use Rattle.refusal.specs.Refusal.{check_of};
 ghost use Rattle.set_checks.specs.Checks.{wrong_key};
 ghost use Rattle.opening.specs.Opened.{Opens};
 
+use index::OpenSet;
 use refusal::Refusal;
-
-// A set's k and n.
-#[derive(Clone, Copy)]
-pub struct Opened {
-    pub k: usize,
-    pub n: usize,
-}
 
 // Check 10 for the words behind the keys.
 fn check_spare(set: &[u8], n: usize) -> Result<(), Refusal>
@@ -22,6 +16,7 @@ fn check_spare(set: &[u8], n: usize) -> Result<(), Refusal>
     ensures { check_of result ≡ wrong_key set.now n }
 {
     let words = 63 * (set.len() / 512 - 1);
+    // By number, which is what the refusal tells.
     for word in n..words {
         if blocks::key_at(set, word) != 0 {
             return Err(Refusal::Key(word));
@@ -38,6 +33,7 @@ fn check_keys(set: &[u8], k: usize, n: usize) -> Result<(), Refusal>
 {
     let mask = kmer::mask(k);
     let mut least = 0;
+    // By number, which is what is checked and told.
     for block in 1..set.len() / 512 {
         if !blocks::check_right(set, block) {
             return Err(Refusal::Check(block));
@@ -53,7 +49,7 @@ fn check_keys(set: &[u8], k: usize, n: usize) -> Result<(), Refusal>
     check_spare(set, n)
 }
 
-pub fn open(set: &[u8]) -> Result<Opened, Refusal>
+pub fn open(set: &[u8]) -> Result<OpenSet<'_>, Refusal>
     ensures { Opens set.now result }
 {
     if set.len() == 0 || set.len() % 512 != 0 {
@@ -69,5 +65,5 @@ pub fn open(set: &[u8]) -> Result<Opened, Refusal>
         return Err(Refusal::Header);
     }
     check_keys(set, k, n)?;
-    Ok(Opened { k, n })
+    Ok(OpenSet { bytes: set, k, n })
 }

@@ -3,13 +3,14 @@
 
 ghost use Rattle.std.specs.Prelude.{◌≡◌, ◌+◌, ◌-◌, ◌*◌, ◌≤◌, length};
 ghost use Rattle.std.proofs.Math.Option.{none};
-ghost use Rattle.rules.specs.Set.{max_k, max_keys, header_k, header_n, set_check, set_of, first_letters};
+ghost use Rattle.rules.specs.Set.{max_k, max_keys, set_of, first_letters};
 ghost use Rattle.rules.specs.Index.{index_blocks, index_check};
 ghost use Rattle.kmer.specs.Kmer.{Shifts};
 ghost use Rattle.set.specs.Ready.{table_length, Ready, Ranged};
 
 use index::OpenSet;
 use kmer::Header;
+use set::KmerSet;
 
 // How many bits a prefix has: at most 16, at most a key's 2k, and no more than four prefixes to a key.
 fn prefix_bits(k: usize, n: usize) -> usize
@@ -52,27 +53,40 @@ fn pays(bases: usize) -> bool {
     65536 < bases
 }
 
-// For lookups of about so many bases. Where no index is offered it is empty, and all keys are one range.
-pub fn prepare(
-    set: &[u8],
-    index: &[u8],
-    k: usize,
-    n: usize,
-    bases: usize,
-    starts: &mut [u32],
-) -> Header
-    requires { (set_check set.now ≡ none) × (k ≡ header_k set.now) × (n ≡ header_n set.now) × (length starts.old ≡ table_length)
-        × (index_check (set_of set.now) index.now ≡ none) }
-    ensures { Ready set.now starts.new result × Ranged index.now result }
+// The table by what is offered: where no index is, all keys are one range.
+fn by_offer(set: &OpenSet, index: &[u8], bases: usize, starts: &mut [u32]) -> Header
+    requires { (length starts.old ≡ table_length) × (index_check (set_of set.now.bytes.now) index.now ≡ none) }
+    ensures { Ready set.now.bytes.now starts.new result × Ranged index.now result }
 {
-    let open = OpenSet { bytes: set, k, n };
-    let bits = prefix_bits(k, n);
+    let bits = prefix_bits(set.k, set.n);
     if index.is_empty() {
-        return by_keys(&open, bits, bits, starts);
+        return by_keys(set, bits, bits, starts);
     }
-    let letters = 2 * index::letters(k);
+    let letters = 2 * index::letters(set.k);
     if letters < bits && pays(bases) {
-        return by_keys(&open, bits, bits - letters, starts);
+        return by_keys(set, bits, bits - letters, starts);
     }
-    by_index(&open, index, starts)
+    by_index(set, index, starts)
+}
+
+// For lookups of about so many bases. Where no index is offered it is empty.
+pub fn prepare<'a>(
+    set: OpenSet<'a>,
+    index: &[u8],
+    counts: &'a [u32],
+    bases: usize,
+    starts: &'a mut [u32],
+) -> KmerSet<'a>
+    requires { (length starts.old ≡ table_length) × (index_check (set_of set.bytes.now) index.now ≡ none) }
+    ensures same { (result.bytes.now ≡ set.entry.bytes.now) × (result.head.k ≡ set.entry.k) × (result.head.n ≡ set.entry.n) }
+    ensures counts { result.counts.now ≡ counts.now }
+    ensures ranged { Ranged index.now result.head }
+{
+    let head = by_offer(&set, index, bases, starts);
+    KmerSet {
+        bytes: set.bytes,
+        starts,
+        counts,
+        head,
+    }
 }

@@ -39,21 +39,15 @@ pub fn count_solid(set: &[u8], read: &[u8]) -> Result<Count, Refusal>
     ensures { count_of result ≡ count_solid set.now read.now }
 {
     input::check_length(read.len())?;
-    let opened = opening::open(set)?;
-    if read.len() < opened.k {
+    let mut starts = [0u32; STARTS];
+    let opened = offered::open(set, b"", &[], read.len(), &mut starts)?;
+    let k = opened.head.k;
+    if read.len() < k {
         return Ok(Count { kmers: 0, solid: 0 });
     }
-    let mut starts = [0; STARTS];
-    let head = prepare::prepare(set, b"", opened.k, opened.n, read.len(), &mut starts);
-    let set = KmerSet {
-        bytes: set,
-        starts: &starts,
-        counts: &[],
-        head,
-    };
-    let solid = count_kmers(&set, read);
+    let solid = count_kmers(&opened, read);
     Ok(Count {
-        kmers: (read.len() - opened.k + 1) as u64,
+        kmers: (read.len() - k + 1) as u64,
         solid,
     })
 }

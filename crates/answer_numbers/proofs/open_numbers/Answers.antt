@@ -4,7 +4,7 @@ use Rattle.answer_numbers.proofs.Numbers.{set-numbers, refused-numbers}
 use Rattle.answer_numbers.proofs.open_numbers.Goals as goal
 
 pub returns-in-Ok : goal.returns-in-Ok
-returns-in-Ok c bytes t = set-numbers bytes _ (subst (Opens bytes) c.in-Ok.is t)
+returns-in-Ok c bytes t = set-numbers bytes c.in-Ok.set (subst (Opens bytes) c.in-Ok.is t)
 
 pub returns-in-Err : goal.returns-in-Err
 returns-in-Err c bytes t =

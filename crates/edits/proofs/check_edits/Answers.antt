@@ -1,10 +1,6 @@
-use Rattle.std.proofs.Common.{refl, sym, ◌∙◌, ℕ, []}
+use Rattle.std.proofs.Common.{sym, ◌∙◌}
 use Rattle.std.proofs.lemmas.Result.{err_from_is_err_and}
-use mathlib.Core.Logic.{inl}
-use lib.ListN.{length-replicate}
-use Rattle.rules_laws.proofs.Index.{index_passes}
-use Rattle.opening.proofs.Opening.{set-checked}
-use Rattle.set.specs.Ready.{table_length}
+use Rattle.offered.proofs.Nothing.{set-refused}
 use Rattle.edits.proofs.Call.{read-long, mended-long, not_opened, is-judged}
 use Rattle.edits.proofs.check_edits.Goals as goal
 
@@ -21,14 +17,10 @@ returns-in_err-check_length-2 c =
 pub returns-in_err-opened : goal.returns-in_err-opened
 returns-in_err-opened c =
     let p = err_from_is_err_and c.from_residual-in_err-opened.result c.from_residual-in_err-opened.ensures.1 in
-    rw (p.1, p.2) (sym (not_opened _ _ (sym c.in_ok-check_length.ensures) (sym c.in_ok-check_length-2.ensures) _ c.in_err-opened.ensures))
-
-pub prepare-head-requires : goal.prepare-head-requires
-prepare-head-requires c =
-    let k = set-checked _ _ c.in_ok-opened.ensures in
-    (k.0, k.1, k.2, length-replicate {A = ℕ} table_length 0, (index_passes _ []).1 (inl refl))
+    rw (p.1, p.2) (sym (not_opened _ _ (sym c.in_ok-check_length.ensures) (sym c.in_ok-check_length-2.ensures) _ (set-refused _ _ c.in_err-opened.ensures)))
 
 pub returns : goal.returns
 returns c =
-    c.judge.ensures
-    ∙ sym (is-judged _ _ (sym c.in_ok-check_length.ensures) (sym c.in_ok-check_length-2.ensures) _ c.prepare-head.ensures.0.k_is c.in_ok-opened.ensures.0)
+    let o = c.in_ok-opened in
+    (rw o.ensures.bytes_are at c.judge.ensures)
+    ∙ sym (is-judged _ _ (sym c.in_ok-check_length.ensures) (sym c.in_ok-check_length-2.ensures) _ (rw o.ensures.bytes_are at o.opened.ready.k_is) o.ensures.opens)

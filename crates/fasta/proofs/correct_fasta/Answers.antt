@@ -19,10 +19,10 @@ returns-in_err-check_file-clause-exact c =
     let p = err_from_is_err_and c.from_residual-in_err-check_file.result c.from_residual-in_err-check_file.ensures.1 in
     rw (p.1, p.2) (file-refused _ _ (sym c.in_ok-check_input.ensures) (sym c.in_err-check_file.ensures))
 
-pub returns-in_err-head-clause-exact : goal.returns-in_err-head-clause-exact
-returns-in_err-head-clause-exact c =
-    let p = err_from_is_err_and c.from_residual-in_err-head.result c.from_residual-in_err-head.ensures.1 in
-    rw (p.1, p.2) (fasta-not-offered _ (sym c.in_ok-check_input.ensures) (sym c.in_ok-check_file.ensures) _ c.in_err-head.ensures)
+pub returns-in_err-opened-clause-exact : goal.returns-in_err-opened-clause-exact
+returns-in_err-opened-clause-exact c =
+    let p = err_from_is_err_and c.from_residual-in_err-opened.result c.from_residual-in_err-opened.ensures.1 in
+    rw (p.1, p.2) (fasta-not-offered _ (sym c.in_ok-check_input.ensures) (sym c.in_ok-check_file.ensures) _ c.in_err-opened.ensures)
 
 pub correct_records-requires : goal.correct_records-requires
 correct_records-requires c =
@@ -31,6 +31,7 @@ correct_records-requires c =
 pub returns : goal.returns
 unfolding without_index
 returns c =
-    let ready = c.in_ok-head.ensures in
-    let exact = fasta-corrected _ (sym c.in_ok-check_input.ensures) (sym c.in_ok-check_file.ensures) ready.0 ready.1 c.correct_records.result c.correct_records.ensures in
+    let ready = c.in_ok-opened.ensures in
+    let corrected = rw (ready.bytes_are, ready.counts_are) at c.correct_records.ensures in
+    let exact = fasta-corrected _ (sym c.in_ok-check_input.ensures) (sym c.in_ok-check_file.ensures) ready.opens ready.passes c.correct_records.result corrected in
     record { exact = exact; ceiling = fasta-ceiling _ c.correct_records.result exact }

@@ -16,10 +16,10 @@ returns-in_err-check_batch-clause-exact c =
     let p = err_from_is_err_and c.from_residual-in_err-check_batch.result c.from_residual-in_err-check_batch.ensures.1 in
     rw (p.1, p.2) (batch-not-right _ (sym c.in_ok-check_input.ensures) _ c.in_err-check_batch.ensures)
 
-pub returns-in_err-head-clause-exact : goal.returns-in_err-head-clause-exact
-returns-in_err-head-clause-exact c =
-    let p = err_from_is_err_and c.from_residual-in_err-head.result c.from_residual-in_err-head.ensures.1 in
-    rw (p.1, p.2) (batch-not-opened _ (sym c.in_ok-check_input.ensures) (sym c.in_ok-check_batch.ensures) _ c.in_err-head.ensures)
+pub returns-in_err-opened-clause-exact : goal.returns-in_err-opened-clause-exact
+returns-in_err-opened-clause-exact c =
+    let p = err_from_is_err_and c.from_residual-in_err-opened.result c.from_residual-in_err-opened.ensures.1 in
+    rw (p.1, p.2) (batch-not-opened _ (sym c.in_ok-check_input.ensures) (sym c.in_ok-check_batch.ensures) _ c.in_err-opened.ensures)
 
 pub correct_lines-requires : goal.correct_lines-requires
 correct_lines-requires c =
@@ -28,8 +28,8 @@ correct_lines-requires c =
 pub returns : goal.returns
 unfolding without_index
 returns c =
-    let ready = c.in_ok-head.ensures in
+    let ready = c.in_ok-opened.ensures in
     let f = sym c.in_ok-check_input.ensures in
-    let both =
-    batch-corrected _ f (sym c.in_ok-check_batch.ensures) _ ready.0 ready.1 (within _ _ _ _ f).confirms c.correct_lines.ensures in
+    let exact = rw (ready.bytes_are, ready.counts_are) at c.correct_lines.ensures in
+    let both = batch-corrected _ f (sym c.in_ok-check_batch.ensures) _ ready.opens ready.passes (within _ _ _ _ f).confirms exact in
     record { exact = both.0; ceiling = both.1 }

@@ -10,10 +10,10 @@ returns-in_err-check_input-clause-exact c =
     let p = err_from_is_err_and c.from_residual.result c.from_residual.ensures.1 in
     rw (p.1, p.2) (read-refused _ _ (sym c.in_err-check_input.ensures))
 
-pub returns-in_err-head-clause-exact : goal.returns-in_err-head-clause-exact
-returns-in_err-head-clause-exact c =
-    let p = err_from_is_err_and c.from_residual-in_err-head.result c.from_residual-in_err-head.ensures.1 in
-    rw (p.1, p.2) (read-not-opened _ _ (sym c.in_ok-check_input.ensures) c.in_err-head.ensures)
+pub returns-in_err-opened-clause-exact : goal.returns-in_err-opened-clause-exact
+returns-in_err-opened-clause-exact c =
+    let p = err_from_is_err_and c.from_residual-in_err-opened.result c.from_residual-in_err-opened.ensures.1 in
+    rw (p.1, p.2) (read-not-opened _ _ (sym c.in_ok-check_input.ensures) c.in_err-opened.ensures)
 
 pub correct_one-requires : goal.correct_one-requires
 correct_one-requires c = within _ _ _ _ (sym c.in_ok-check_input.ensures)
@@ -21,7 +21,8 @@ correct_one-requires c = within _ _ _ _ (sym c.in_ok-check_input.ensures)
 pub returns : goal.returns
 unfolding without_index
 returns c =
-    let ready = c.in_ok-head.ensures in
+    let ready = c.in_ok-opened.ensures in
     let f = sym c.in_ok-check_input.ensures in
-    let both = read-corrected _ _ f ready.0 ready.1 (within _ _ _ _ f).confirms c.correct_one.ensures in
+    let exact = rw (ready.bytes_are, ready.counts_are) at c.correct_one.ensures in
+    let both = read-corrected _ _ f ready.opens ready.passes (within _ _ _ _ f).confirms exact in
     record { exact = both.0; ceiling = both.1 }

@@ -1,6 +1,5 @@
 use native.Mathlib.Omega.{arith}
 use Rattle.std.proofs.lemmas.Result.{err_from_is_err_and}
-use Rattle.opening.proofs.Opening.{set-checked}
 use Rattle.index.specs.Index.{Opens}
 use Rattle.index.proofs.Laws.{count-few}
 use Rattle.make_index.proofs.Makes.{index-refused, index_short, index-fits}
@@ -12,9 +11,9 @@ returns-in_err-opened c =
     let p = err_from_is_err_and c.from_residual.result c.from_residual.ensures.1 in
     rw (p.1, p.2) (index-refused _ _ _ c.in_err-opened.ensures)
 
--- The set opened, with this k and this n.
+-- The call's bytes open, with this k and this n.
 opens : (c : In_ok-opened) → Opens c.args.set.now c.in_ok-opened.opened.k c.in_ok-opened.opened.n
-opens c = let t = set-checked _ _ c.in_ok-opened.ensures in record { right = t.0; k_is = t.1; n_is = t.2 }
+opens c = let o = c.in_ok-opened in rw o.ensures.1 at o.opened.opens
 
 pub overflow_mul-count : goal.overflow_mul-count
 overflow_mul-count c = omega (arith, c.block_count-count.ensures, count-few c.in_ok-opened.opened.k)
@@ -23,9 +22,7 @@ pub returns-then-blocks-count : goal.returns-then-blocks-count
 returns-then-blocks-count c =
     index_short _ _ _ _ c.in_ok-opened.ensures.0 (opens (goal.at.returns-then-blocks-count c).In_ok-opened) _ c.block_count-count.ensures c.if-blocks-count.true
 
-pub invariant_of-open : goal.invariant_of-open
-invariant_of-open c = record { opens = opens (goal.at.invariant_of-open c).In_ok-opened }
-
 pub returns : goal.returns
 returns c =
-    index-fits _ c.args.blocks.now _ _ c.in_ok-opened.ensures.0 (opens (goal.at.returns c).In_ok-opened) _ c.block_count-count.ensures _ c.if-blocks-count.false c.write.ensures
+    let written = rw c.in_ok-opened.ensures.1 at c.write.ensures in
+    index-fits _ c.args.blocks.now _ _ c.in_ok-opened.ensures.0 (opens (goal.at.returns c).In_ok-opened) _ c.block_count-count.ensures _ c.if-blocks-count.false written

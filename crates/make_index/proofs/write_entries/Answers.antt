@@ -6,13 +6,6 @@ use Rattle.make_index.proofs.write_entries.Goals as goal
 pub loop-v-init : goal.loop-v-init
 loop-v-init c = record { within = omega arith; end_is = c.entry_count-v-end.ensures; writing = writing-starts _ _ }
 
-pub next_entry-entry-requires : goal.next_entry-entry-requires
-next_entry-entry-requires c = c.loop-v.invariant.writing.least
-
-pub put-requires : goal.put-requires
-put-requires c =
-    entry-room (index_entries c.args.set.now.k) c.loop-v.v _ _ (omega (arith, c.loop-v.invariant.end_is, c.loop-v-test.true)) c.requires c.loop-v.invariant.writing.written.same_length
-
 pub loop-v-preserved : goal.loop-v-preserved
 loop-v-preserved c = record {
   within = omega arith;

@@ -26,10 +26,10 @@ returns-in_err-check_batch-clause-exact c =
 right : (c : In_ok-check_batch) → batch_right c.args.batch.now ≡ true
 right c = unless-passed (batch_right c.args.batch.now) 6 (sym c.in_ok-check_batch.ensures)
 
-pub returns-in_err-head-clause-exact : goal.returns-in_err-head-clause-exact
-returns-in_err-head-clause-exact c =
-    let p = err_from_is_err_and c.from_residual-in_err-head.result c.from_residual-in_err-head.ensures.1 in
-    rw (p.1, p.2) (not_opened (call (goal.at.returns-in_err-head-clause-exact c).Start) (sym c.in_ok-check_needs.ensures) (right (goal.at.returns-in_err-head-clause-exact c).In_ok-check_batch) _ c.in_err-head.ensures)
+pub returns-in_err-opened-clause-exact : goal.returns-in_err-opened-clause-exact
+returns-in_err-opened-clause-exact c =
+    let p = err_from_is_err_and c.from_residual-in_err-opened.result c.from_residual-in_err-opened.ensures.1 in
+    rw (p.1, p.2) (not_opened (call (goal.at.returns-in_err-opened-clause-exact c).Start) (sym c.in_ok-check_needs.ensures) (right (goal.at.returns-in_err-opened-clause-exact c).In_ok-check_batch) _ c.in_err-opened.ensures)
 
 pub count_lines-requires : goal.count_lines-requires
 count_lines-requires c =
@@ -37,6 +37,7 @@ count_lines-requires c =
 
 pub returns : goal.returns
 returns c =
-    let ready = c.in_ok-head.ensures in
-    let exact = counted-exact (call (goal.at.returns c).Start) (sym c.in_ok-check_needs.ensures) (right (goal.at.returns c).In_ok-check_batch) ready.0 ready.1 _ c.count_lines.ensures in
+    let ready = c.in_ok-opened.ensures in
+    let counted = rw (ready.bytes_are, ready.counts_are) at c.count_lines.ensures in
+    let exact = counted-exact (call (goal.at.returns c).Start) (sym c.in_ok-check_needs.ensures) (right (goal.at.returns c).In_ok-check_batch) ready.opens ready.passes _ counted in
     record { exact = exact; ceiling = ceiling (call (goal.at.returns c).Start) _ exact }

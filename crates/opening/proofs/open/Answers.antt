@@ -1,5 +1,5 @@
 use Prim.Native.Nat.{◌≤◌}
-use mathlib.Core.Path.{◌≡◌, sym, ap, ◌∙◌}
+use mathlib.Core.Path.{◌≡◌, refl, sym, ap, ◌∙◌}
 use mathlib.Core.Bool.{true}
 use lib.ListN.{length}
 use borrow.Author.Rules.{rules}
@@ -71,6 +71,11 @@ returns-in_err-check_keys c =
     let p = err_from_is_err_and c.from_residual-in_err-check_keys.result c.from_residual-in_err-check_keys.ensures.1 in
     rw (p.1, p.2) (refused-by _ _ (sym c.in_err-check_keys.ensures))
 
-pub returns : goal.returns
+pub invariant_of-result : goal.invariant_of-result
 unfolding Rules.header_k Rules.header_n
-returns c = (accepted-by _ (sym c.in_ok-check_keys.ensures), c.block_word-k.ensures, c.block_word-n.ensures)
+invariant_of-result c = record {
+  opens = record { right = sym c.in_ok-check_keys.ensures; k_is = c.block_word-k.ensures; n_is = c.block_word-n.ensures };
+}
+
+pub returns : goal.returns
+returns c = (accepted-by _ (sym c.in_ok-check_keys.ensures), refl)

@@ -15,9 +15,6 @@ count : (c : After-letters-bits) → let a = c.args in
     1 * 2 ^ (2 * c.letters-bits.result) % 2 ^ 64 + 1 ≡ index_entries a.set.now.k
 count c = shifted _ c.letters-bits.result c.letters-bits.ensures
 
-pub overflow_add-bits : goal.overflow_add-bits
-overflow_add-bits c = let a = c.args in omega (arith, count c, count-few a.set.now.k)
-
 pub copy_entries-requires : goal.copy_entries-requires
 copy_entries-requires c =
     let e = count (goal.at.copy_entries-requires c).After-letters-bits ∙ ap index_entries c.args.set.now.opens.k_is in

@@ -4,12 +4,13 @@ use borrow.Author.Tests.{eq-eqb}
 use native.Mathlib.Omega.{arith}
 use Rattle.set.proofs.Opened.{opened-k-high, opened-n-le}
 use Rattle.prepare.proofs.Indexed.{offered-is}
-use Rattle.prepare.proofs.prepare.Goals as goal
+use Rattle.prepare.proofs.by_offer.Goals as goal
 
 pub prefix_bits-bits-requires : goal.prefix_bits-bits-requires
-prefix_bits-bits-requires c = let p = c.requires in omega (arith, opened-k-high _ p.0, opened-n-le _ p.0)
+prefix_bits-bits-requires c =
+    let o = c.args.set.now.opens in
+    omega (arith, o.k_is, o.n_is, opened-k-high _ o.right, opened-n-le _ o.right)
 
 pub by_index-requires : goal.by_index-requires
 by_index-requires c =
-    let p = c.requires in
-    (p.3, offered-is _ _ p.4 (λ e. false≢true (sym c.if-is_empty.false ∙ c.is_empty.ensures ∙ eq-eqb _ _ e)))
+    (c.requires.0, offered-is _ _ c.requires.1 (λ e. false≢true (sym c.if-is_empty.false ∙ c.is_empty.ensures ∙ eq-eqb _ _ e)))
