@@ -104,9 +104,8 @@ module _ (k : ℕ) (sol : ℕ → Bool) (y : Kmer) where
   unfolding alternative
   alternative-is = refl
 
-  pub alternative-cost : (alternative k sol y).lookups ≡ four_cost k sol (drop_last y)
-  unfolding alternative
-  alternative-cost = sole-lookups k sol (drop_last y)
+  pub sole-refused : {l : ℕ} → (sole k sol y).answer ≡ none → l ≡ four_cost k sol y → sole k sol y ≡ record { answer = none; lookups = l }
+  sole-refused e f = λ i. record { answer = e i; lookups = (sole-lookups k sol y ∙ sym f) i }
 
   pub alternative-at-most : (alternative k sol y).lookups ≤ 4
   unfolding alternative
@@ -169,14 +168,13 @@ module _ (k : ℕ) (y : Kmer) (low : 1 ≤ k) where
         go zero n = absurd (omega arith)
         go (suc j) n = sole-lookups (suc j) sol y ∙ four-cost j sol y (rw h (zero-mod _))
 
-    -- and so do the alternatives where there is a sole one
-    pub alternative-four : (z : Kmer) → (alternative k sol y).answer ≡ some z → (alternative k sol y).lookups ≡ 4
-    unfolding alternative
-    alternative-four z e = go k low e
+    -- and so do those of any with a sole one
+    pub sole-found : (z : Kmer) → (sole k sol y).answer ≡ some z → sole k sol y ≡ record { answer = some z; lookups = 4 }
+    sole-found z e = λ i. record { answer = e i; lookups = go k low e i }
       where
-        go : (n : ℕ) → 1 ≤ n → (sole n sol (drop_last y)).answer ≡ some z → (sole n sol (drop_last y)).lookups ≡ 4
+        go : (n : ℕ) → 1 ≤ n → (sole n sol y).answer ≡ some z → (sole n sol y).lookups ≡ 4
         go zero n e = absurd (omega arith)
-        go (suc j) n e = sole-four j sol (drop_last y) z e
+        go (suc j) n e = sole-four j sol y z e
 
     pub four-made : Known (add k y 0) → four_cost k sol y ≡ 4
     four-made h = go k low h
@@ -284,12 +282,12 @@ module _ (set : KmerSet) (k : ℕ) (y z : Kmer) (a : ℕ) (e : (sole k (solid se
 
 -- the code's choice r among the answers f, and its key's index
 module _ (set : KmerSet) (k : ℕ) (y : Kmer) {f : List Bool} (r : Maybe ℕ) (found : f ≡ successors k (solid set) y) (choice-is : nuc_of r ≡ only (yes_from 0 f)) where
-  pub alt-kmer : (a : ℕ) {x : KmerOf} {ps : List ℕ} → r ≡ Some a → HasLetters k (add k y a) x → ps ≡ places_of set k y
-      → ((sole k (solid set) y).answer ≡ some (kmer_of x)) × IsKmer k x × (lookup set x.code ≡ some (get_or ps a 0))
+  pub alt-kmer : (a : ℕ) {x : KmerOf} {ps : List ℕ} → 1 ≤ k → r ≡ Some a → HasLetters k (add k y a) x → ps ≡ places_of set k y
+      → (sole k (solid set) y ≡ record { answer = some (kmer_of x); lookups = 4 }) × IsKmer k x × (lookup set x.code ≡ some (get_or ps a 0))
   unfolding kmer_of
-  alt-kmer a {x} {ps} e h ps-is =
+  alt-kmer a {x} {ps} low e h ps-is =
       let s : (sole k (solid set) y).answer ≡ some (kmer_of x) = next-is k (solid set) y r found choice-is a e ∙ ap {B = Option Kmer} some (sym h.is) in (
-        s,
+        sole-found k y low (solid set) (kmer_of x) s,
         h.kmer,
         sole-place set k y (kmer_of x) a s h.is (nuc-lt k (solid set) y r found choice-is a e) ∙ ap (λ (l : List ℕ). some (get_or l a 0)) (sym ps-is),
       )

@@ -1,8 +1,9 @@
 -- What the answers of the successors mean by the rules.
-use Rattle.std.specs.Prelude.{ℕ, ◌≡◌, List, [], ◌∷◌, length, Option, Some, None}
+use Rattle.std.specs.Prelude.{ℕ, ◌≡◌, List, [], ◌∷◌, length, Option, Some, None, Result, Ok, Err}
 use Rattle.std.proofs.Math.Option.{Option as MaybeOf, none, some}
 use Rattle.rules.specs.Set.{KmerSet, lookup}
 use Rattle.rules.specs.Letters as letters
+use Rattle.rules.specs.Counted.{Try}
 use Rattle.kmer.specs.declared.Kmer.{Kmer}
 use Rattle.kmer.specs.Kmer.{kmer_of, IsKmer}
 use Rattle.set.specs.Found.{place_in}
@@ -13,15 +14,15 @@ abbrev pub nuc_of : Option ℕ → MaybeOf ℕ
 nuc_of (Some a) = some a
 nuc_of None = none
 
--- The answer o, or a refusal.
-abbrev pub NextIs : ℕ → MaybeOf letters.Kmer → Option Kmer → Type 0
-NextIs k o (Some y) = (o ≡ some (kmer_of y)) × IsKmer k y
-NextIs k o None = o ≡ none
+-- A sole successor by the rules' t, after its 4 lookups; or a refusal, after the lookups made.
+abbrev pub NextIs : ℕ → Try letters.Kmer → Result Kmer ℕ → Type 0
+NextIs k t (Ok y) = (t ≡ record { answer = some (kmer_of y); lookups = 4 }) × IsKmer k y
+NextIs k t (Err made) = t ≡ record { answer = none; lookups = made }
 
--- The answer o with the index of its key, or a refusal.
-abbrev pub AltIs : ℕ → KmerSet → MaybeOf letters.Kmer → Option Alt → Type 0
-AltIs k set o (Some x) = (o ≡ some (kmer_of x.kmer)) × IsKmer k x.kmer × (lookup set x.kmer.code ≡ some x.place)
-AltIs k set o None = o ≡ none
+-- The same with the index of its key.
+abbrev pub AltIs : ℕ → KmerSet → Try letters.Kmer → Result Alt ℕ → Type 0
+AltIs k set t (Ok x) = (t ≡ record { answer = some (kmer_of x.kmer); lookups = 4 }) × IsKmer k x.kmer × (lookup set x.kmer.code ≡ some x.place)
+AltIs k set t (Err made) = t ≡ record { answer = none; lookups = made }
 
 -- The indices of the keys of y's four successors; the number of keys where there is none.
 abbrev pub place_at : KmerSet → ℕ → letters.Kmer → ℕ → ℕ

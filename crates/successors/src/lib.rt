@@ -36,7 +36,7 @@ pub fn next_nucs(set: &KmerSet, kmer: Kmer, places: &mut [usize; 4]) -> [bool; 4
 }
 
 // What the four successors of a k-mer cost: 4 lookups if its last k − 1 letters are known, else none.
-pub fn next_cost(kmer: Kmer, head: Header) -> u64
+fn next_cost(kmer: Kmer, head: Header) -> u64
     requires { IsKmer head.k kmer }
     ensures { (sol : ℕ → Bool) → result ≡ rules.four_cost head.k sol (kmer_of kmer) }
 {
@@ -60,44 +60,38 @@ pub fn sole_nuc(nucs: [bool; 4]) -> Option<u64>
     }
 }
 
-// No lookup is made for k-mers that hold an unknown letter.
-fn sole(set: &KmerSet, kmer: Kmer) -> Option<Alt>
+// No lookup is made for k-mers that hold an unknown letter. A refusal tells the lookups made.
+fn sole(set: &KmerSet, kmer: Kmer) -> Result<Alt, u64>
     requires { IsKmer set.now.head.k kmer }
-    ensures { AltIs set.now.head.k (set_of set.now.bytes.now) (rules.sole set.now.head.k (solid (set_of set.now.bytes.now)) (kmer_of kmer)).answer result }
+    ensures { AltIs set.now.head.k (set_of set.now.bytes.now) (rules.sole set.now.head.k (solid (set_of set.now.bytes.now)) (kmer_of kmer)) result }
 {
-    if next_cost(kmer, set.head) == 0 {
-        return None;
+    let lookups = next_cost(kmer, set.head);
+    if lookups == 0 {
+        return Err(0);
     }
     let mut places = [0usize; 4];
-    let nuc = sole_nuc(next_nucs(set, kmer, &mut places))?;
-    Some(Alt {
+    let Some(nuc) = sole_nuc(next_nucs(set, kmer, &mut places)) else {
+        return Err(lookups);
+    };
+    Ok(Alt {
         kmer: kmer::add_nuc_to_end(kmer, nuc, set.head),
         place: places[nuc as usize],
     })
 }
 
-// y+u(y).
-pub fn sole_next(set: &KmerSet, kmer: Kmer) -> Option<Kmer>
+// y+u(y), found by 4 lookups; or the lookups of a refusal.
+pub fn sole_next(set: &KmerSet, kmer: Kmer) -> Result<Kmer, u64>
     requires { IsKmer set.now.head.k kmer }
-    ensures { NextIs set.now.head.k (rules.sole set.now.head.k (solid (set_of set.now.bytes.now)) (kmer_of kmer)).answer result }
+    ensures { NextIs set.now.head.k (rules.sole set.now.head.k (solid (set_of set.now.bytes.now)) (kmer_of kmer)) result }
 {
     let next = sole(set, kmer)?;
-    Some(next.kmer)
+    Ok(next.kmer)
 }
 
-// What the alternatives of the bad k-mer cost.
-pub fn alt_cost(kmer: Kmer, head: Header) -> u64
-    requires { IsKmer head.k kmer }
-    ensures { (sol : ℕ → Bool) → result ≡ (rules.alternative head.k sol (kmer_of kmer)).lookups }
-{
-    let shifted = kmer::drop_last(kmer, head);
-    next_cost(shifted, head)
-}
-
-// The bad k-mer with its last letter replaced by the sole solid alternative.
-pub fn sole_alt(set: &KmerSet, kmer: Kmer) -> Option<Alt>
+// The bad k-mer with its last letter replaced by the sole solid alternative, found by 4 lookups; or the lookups of a refusal.
+pub fn sole_alt(set: &KmerSet, kmer: Kmer) -> Result<Alt, u64>
     requires { IsKmer set.now.head.k kmer }
-    ensures { AltIs set.now.head.k (set_of set.now.bytes.now) (rules.alternative set.now.head.k (solid (set_of set.now.bytes.now)) (kmer_of kmer)).answer result }
+    ensures { AltIs set.now.head.k (set_of set.now.bytes.now) (rules.alternative set.now.head.k (solid (set_of set.now.bytes.now)) (kmer_of kmer)) result }
 {
     let shifted = kmer::drop_last(kmer, set.head);
     sole(set, shifted)
