@@ -4,24 +4,23 @@ use native.Mathlib.Omega.{arith}
 use mathlib.Core.Path.{◌≡◌, refl, sym, ap, ◌∙◌, subst}
 use mathlib.Core.Bool.{Bool, true, false}
 use mathlib.Core.Option.{none, some}
-use Rattle.std.specs.Prelude.{Option, Some, None}
+use Rattle.std.specs.Prelude.{Some, None}
 use mathlib.Core.List.{List}
 use lib.ListN.{length}
 use borrow.Author.Tests.{lt-ltb, le-ltb}
 use Rattle.rules.specs.Letters as letters
 use Rattle.rules.specs.Counted.{Try, refuse, give, after, next, ◌>>=◌, ◌>>◌}
-use Rattle.rules.specs.Scan.{ask, is_solid, not_solid, four_cost, sole}
+use Rattle.rules.specs.Scan.{ask, is_solid, not_solid, sole}
 use Rattle.rules.specs.Exist.{Scenario, row, one}
 use Rattle.scenario.specs.declared.one.ScenarioOne.{ScenarioOne}
 use Rattle.scenario.specs.declared.one.ScenarioOne.TheVariants as ones
-use Rattle.rules_laws.proofs.Scan.{ask-known, ask-one, ask-cost, sole-lookups, sole-cost}
+use Rattle.rules_laws.proofs.Scan.{ask-known, ask-one, ask-cost}
 use Rattle.kmer.specs.declared.Kmer.{Kmer as KmerOf}
 use Rattle.kmer.specs.Kmer.{kmer_of, IsKmer}
 use Rattle.set.specs.declared.Asked.{Asked}
 use Rattle.set.specs.Asked.{AskedIs}
-use Rattle.successors.specs.Successors.{NextIs}
 use Rattle.scenario.specs.declared.Trial.{Trial}
-use Rattle.scenario.specs.Scenario.{nth, one_of, trial_of, plus, instead_of, instead_after, TrialIs}
+use Rattle.scenario.specs.Scenario.{nth, one_of, trial_of, plus, instead_of, instead_after, TriedIs, TrialIs}
 
 pub trial-short : (s : List ℕ) (sc : Scenario) → length s < sc.least → trial_of s sc ≡ refuse
 unfolding trial_of
@@ -47,21 +46,13 @@ trial-after l e r q h = record { tried = rw e q.tried; lookups = rw e (ap (λ (i
 
 -- what a trial's result says of it
 pub trial-refused : (k : ℕ) (t : Try letters.Kmer) (r : Trial) → TrialIs k t r → r.tried ≡ None → t ≡ record { answer = none; lookups = r.lookups }
-trial-refused k t r q e = let a = subst (NextIs k t.answer) e q.tried in λ i. record { answer = a i; lookups = q.lookups i }
+trial-refused k t r q e = let a = subst (TriedIs k t.answer) e q.tried in λ i. record { answer = a i; lookups = q.lookups i }
 
 pub trial-given : (k : ℕ) (t : Try letters.Kmer) (r : Trial) (y : KmerOf) → TrialIs k t r → r.tried ≡ Some y
     → (t ≡ record { answer = some (kmer_of y); lookups = r.lookups }) × IsKmer k y
 trial-given k t r y q e =
-    let a = subst (NextIs k t.answer) e q.tried in
+    let a = subst (TriedIs k t.answer) e q.tried in
     (λ i. record { answer = a.0 i; lookups = q.lookups i }, a.1)
-
--- what a group of four costs
-pub four-le : (k : ℕ) (sol : ℕ → Bool) (y : letters.Kmer) {l : ℕ} → l ≡ four_cost k sol y → l ≤ 4
-four-le k sol y e = omega (arith, sole-lookups k sol y, sole-cost k sol y)
-
-pub sole-is : (k : ℕ) (sol : ℕ → Bool) (y : letters.Kmer) (n : Option KmerOf) {l : ℕ} → NextIs k (sole k sol y).answer n → l ≡ four_cost k sol y
-    → TrialIs k (sole k sol y) (record { tried = n; lookups = l })
-sole-is k sol y n q e = record { tried = q; lookups = sole-lookups k sol y ∙ sym e; few = omega (arith, four-le k sol y e) }
 
 -- One's trials all give x
 pub one-trial : (sc : ScenarioOne) (k : ℕ) (sol : ℕ → Bool) (x : letters.Kmer) (s : List ℕ) → trial_of s (one_of sc k sol x s) ≡ give x

@@ -1,11 +1,13 @@
 -- The scenarios of One and Two, and what their functions give by the rules.
-use Rattle.std.specs.Prelude.{ℕ, zero, suc, ◌≤◌, ◌≡◌, Bool, true, false, List, [], ◌∷◌, length, get_or, ltb}
+use Rattle.std.specs.Prelude.{ℕ, zero, suc, ◌≤◌, ◌≡◌, Bool, true, false, List, [], ◌∷◌, length, get_or, ltb, Option, Some, None}
+use Rattle.std.proofs.Math.Option.{Option as Maybe, none, some}
 use Rattle.rules.specs.Letters.{Kmer, add_base, last}
 use Rattle.rules.specs.Counted.{Try, refuse, give, ◌>>◌}
 use Rattle.rules.specs.Scan.{is_solid, not_solid, sole}
 use Rattle.rules.specs.Exist.{Scenario, one, two}
 use Rattle.rules.specs.Exist as rules
-use Rattle.successors.specs.Successors.{NextIs}
+use Rattle.kmer.specs.declared.Kmer.{Kmer as KmerOf}
+use Rattle.kmer.specs.Kmer.{kmer_of, IsKmer}
 use Rattle.scenario.specs.declared.one.ScenarioOne.{ScenarioOne}
 use Rattle.scenario.specs.declared.one.ScenarioOne.TheVariants as ones
 use Rattle.scenario.specs.declared.two.ScenarioTwo.{ScenarioTwo}
@@ -86,9 +88,14 @@ module _ (k : ℕ) (sol : ℕ → Bool) (x : Kmer) (s : List ℕ) where
   unfoldable pub instead_after : Try Kmer
   instead_after = is_solid k sol (plus k x s 1) >> not_solid k sol (plus k (plus k x s 1) s 2) >> sole k sol (plus k x s 1)
 
+-- The tried k-mer of the answer o, or a refusal.
+abbrev pub TriedIs : ℕ → Maybe Kmer → Option KmerOf → Type 0
+TriedIs k o (Some y) = (o ≡ some (kmer_of y)) × IsKmer k y
+TriedIs k o None = o ≡ none
+
 -- The tried k-mer or a refusal, after the lookups made.
 pub record TrialIs (k : ℕ) (t : Try Kmer) (r : Trial) : Type 0 where
-  pub tried : NextIs k t.answer r.tried
+  pub tried : TriedIs k t.answer r.tried
   pub lookups : t.lookups ≡ r.lookups
   pub few : r.lookups ≤ 7
 

@@ -1,11 +1,12 @@
 // Document 01, Two: II, IS, SS, SD, DD, ICI, ICS, ICD, SCI, SCS, SCD, DCI, DCD. Ports src/correct/exist/two.rs. A trial counts the lookups
 // that were made: none for a k-mer that holds an unknown letter (document 02, W5).
-ghost use Rattle.std.specs.Prelude.{◌≡◌, ◌<◌, ◌≤◌, length, Some, None};
+ghost use Rattle.std.specs.Prelude.{Bool, List, ◌≡◌, ℕ, ◌<◌, ◌≤◌, length, Some, None};
+ghost use Rattle.rules.specs.Letters as letters;
 ghost use Rattle.rules.specs.Set.{solid, set_of};
 ghost use Rattle.rules.specs.Scan as scans;
 ghost use Rattle.rules.specs.Exist as rules;
 ghost use Rattle.kmer.specs.Kmer.{kmer_of, IsKmer, HasLetters};
-ghost use Rattle.scenario.specs.Scenario.{two_of, plus, sole_after, solid_after, passing_of, instead_of, instead_after, TrialIs};
+ghost use Rattle.scenario.specs.Scenario.{two_of, letters_of, plus, sole_after, solid_after, passing_of, instead_of, instead_after, TrialIs};
 
 use super::{Row, Scenario, Trial};
 use kmer::{Header, Kmer};
@@ -44,6 +45,23 @@ impl ScenarioTwo {
         ScenarioTwo::DCI,
         ScenarioTwo::DCD,
     ];
+
+    // How many letters are given. Document 01 has it decided on the scenario's number: the names stand in the source's order.
+    fn letters(self) -> usize
+        ensures given { (k : ℕ) (sol : ℕ → Bool) (x : letters.Kmer) (s : List ℕ) (t : letters.Kmer) →
+            letters_of result x t ≡ (two_of self k sol x s).letters t }
+        ensures few { result ≤ 3 }
+    {
+        match self as usize {
+            0..=1 => 1,
+            2..=4 => 2,
+            5 => 1,
+            6..=7 => 2,
+            8..=10 => 3,
+            11 => 0,
+            _ => 3,
+        }
+    }
 }
 
 impl Scenario for ScenarioTwo {
@@ -56,25 +74,25 @@ impl Scenario for ScenarioTwo {
     }
 
     fn row(self) -> Row {
-        let (least, start, letters, resume) = match self {
-            ScenarioTwo::II => (0, 3, 1, 2),
-            ScenarioTwo::IS => (0, 2, 1, 2),
-            ScenarioTwo::SS => (2, 2, 2, 2),
-            ScenarioTwo::SD => (1, 1, 2, 1),
-            ScenarioTwo::DD => (0, 0, 2, 0),
-            ScenarioTwo::ICI => (4, 4, 1, 3),
-            ScenarioTwo::ICS => (4, 3, 2, 4),
-            ScenarioTwo::ICD => (4, 3, 2, 2),
-            ScenarioTwo::SCI => (4, 4, 3, 4),
-            ScenarioTwo::SCS => (3, 3, 3, 3),
-            ScenarioTwo::SCD => (2, 2, 3, 2),
-            ScenarioTwo::DCI => (4, 4, 0, 1),
-            ScenarioTwo::DCD => (2, 1, 3, 1),
+        let (least, start, resume) = match self {
+            ScenarioTwo::II => (0, 3, 2),
+            ScenarioTwo::IS => (0, 2, 2),
+            ScenarioTwo::SS => (2, 2, 2),
+            ScenarioTwo::SD => (1, 1, 1),
+            ScenarioTwo::DD => (0, 0, 0),
+            ScenarioTwo::ICI => (4, 4, 3),
+            ScenarioTwo::ICS => (4, 3, 4),
+            ScenarioTwo::ICD => (4, 3, 2),
+            ScenarioTwo::SCI => (4, 4, 4),
+            ScenarioTwo::SCS => (3, 3, 3),
+            ScenarioTwo::SCD => (2, 2, 2),
+            ScenarioTwo::DCI => (4, 4, 1),
+            ScenarioTwo::DCD => (2, 1, 1),
         };
         Row {
             least,
             start,
-            letters,
+            letters: self.letters(),
             resume,
         }
     }
@@ -128,9 +146,9 @@ fn sole(set: &KmerSet, x: Kmer) -> Trial
     requires { IsKmer set.now.head.k x }
     ensures { TrialIs set.now.head.k (scans.sole set.now.head.k (solid (set_of set.now.bytes.now)) (kmer_of x)) result × (result.lookups ≤ 4) }
 {
-    Trial {
-        tried: successors::sole_next(set, x),
-        lookups: successors::next_cost(x, set.head),
+    match successors::sole_next(set, x) {
+        Ok(next) => given(next, 4),
+        Err(lookups) => refused(lookups),
     }
 }
 
