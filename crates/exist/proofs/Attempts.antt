@@ -1,7 +1,7 @@
 -- An attempt from its parts: the alternative, the scenarios kept, the choice.
 use Prim.Native.Nat.{ℕ, ◌+◌, ◌≤◌}
 use native.Mathlib.Omega.{arith}
-use mathlib.Core.Path.{◌≡◌, refl, sym, ap, ◌∙◌}
+use mathlib.Core.Path.{◌≡◌, refl, ap, ◌∙◌}
 use mathlib.Core.Bool.{Bool}
 use mathlib.Core.Option.{Option, none, some}
 use mathlib.Core.List.{List, [], ◌∷◌, map}
@@ -16,7 +16,6 @@ use Rattle.rules.specs.Driver.{weaker, weakest}
 use Rattle.kmer.specs.declared.Kmer.{Kmer as KmerOf}
 use Rattle.kmer.specs.Kmer.{HasLetters}
 use Rattle.scan.specs.Attempt.{Attempted}
-use Rattle.successors.proofs.Laws.{alternative-four}
 use Rattle.scan.specs.declared.Attempt.TheVariants.{Mend as Mended, Refused}
 use Rattle.scenario.specs.declared.mend.Mend.{Mend}
 use Rattle.scenario.specs.Scenario.{of_code, spelled_out}
@@ -31,16 +30,15 @@ module _ (k : ℕ) (sol : ℕ → Bool) (c : ℕ) (s : List ℕ) (scs : Kmer →
   attempt = after made (exist k sol c s scs y)
 
   -- no alternative, after l lookups
-  pub exist-none : {l : ℕ} → (alternative k sol y).answer ≡ none → l ≡ (alternative k sol y).lookups → attempt ≡ record { answer = none; lookups = made + l }
+  pub exist-none : {l : ℕ} → alternative k sol y ≡ record { answer = none; lookups = l } → attempt ≡ record { answer = none; lookups = made + l }
   unfolding exist after
-  exist-none e f = ap (after made) (refused-bind _ (λ i. record { answer = e i; lookups = sym f i }))
+  exist-none e = ap (after made) (refused-bind _ e)
 
-  module _ (low : 1 ≤ k) {x : Kmer} (a : (alternative k sol y).answer ≡ some x) {set : KmerSet} (r : Scenarii) (q : KeptIs set (kept k sol c s (scs x s)) r) where
+  module _ {x : Kmer} (a : alternative k sol y ≡ record { answer = some x; lookups = 4 }) {set : KmerSet} (r : Scenarii) (q : KeptIs set (kept k sol c s (scs x s)) r) where
     chosen : attempt ≡ after made (after 4 (after r.lookups (choose k sol c s y (map spelled_out r.kept))))
     unfolding exist
     chosen =
-        let four = alternative-four k y low sol x a in
-        ap (after made) (given-bind _ (λ i. record { answer = a i; lookups = four i }) ∙ rw (q.answer, q.lookups))
+        ap (after made) (given-bind _ a ∙ rw (q.answer, q.lookups))
 
     pub exist-answer : attempt.answer ≡ (choose k sol c s y (map spelled_out r.kept)).answer
     unfolding after

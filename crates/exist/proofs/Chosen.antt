@@ -20,9 +20,9 @@ use Rattle.set.specs.Asked.{AskedIs}
 use Rattle.scenario.proofs.Trials.{solid-yes, solid-no, refused-then, given-then}
 use Rattle.scenario.specs.declared.mend.Mend.{Mend as Kept}
 use Rattle.scenario.specs.Scenario.{spelled_out}
-use Rattle.trials.specs.Trials.{Placed, MendIs}
+use Rattle.trials.specs.Trials.{Placed}
 use Rattle.trials.proofs.Scores.{next-is}
-use Rattle.exist.specs.Exist.{more_of}
+use Rattle.exist.specs.Exist.{more_of, MendIs}
 
 -- ---- one base more
 

@@ -12,15 +12,21 @@ ghost use Rattle.kmer.specs.Kmer.{kmer_of, IsKmer, HasLetters};
 ghost use Rattle.set.specs.Counted.{set_with};
 ghost use Rattle.scan.specs.Attempt.{Attempted};
 ghost use Rattle.scenario.specs.Scenario.{spelled_out};
-ghost use Rattle.trials.specs.Trials.{Placed, PickIs};
-ghost use Rattle.exist.specs.Exist.{LetterIs, MoreIs};
+ghost use Rattle.trials.specs.Trials.{Placed};
+ghost use Rattle.exist.specs.Exist.{LetterIs, MoreIs, ChoiceIs};
 
 use kmer::{Header, Kmer};
 use scan::Attempt;
 use scenario::{Mend, Scenario};
 pub use scenario::{ScenarioOne, ScenarioTwo};
 use set::{Asked, KmerSet};
-use trials::Pick;
+
+// A mend, if it is one to use, and the lookups that tell: a refusal has its lookups too.
+#[derive(Clone, Copy)]
+struct Choice {
+    mend: Option<Mend>,
+    lookups: u64,
+}
 
 // The code of letter i.
 fn letter_at(mend: Mend, i: usize) -> u64
@@ -70,13 +76,13 @@ fn one_more(set: &KmerSet, c: usize, kmer: Kmer, s: &[u8], mend: Mend) -> Asked
 }
 
 // The only one kept, or the only one kept with one base more: all that are long enough are asked.
-fn choose(set: &KmerSet, c: usize, kmer: Kmer, s: &[u8], kept: &[Mend]) -> Pick
+fn choose(set: &KmerSet, c: usize, kmer: Kmer, s: &[u8], kept: &[Mend]) -> Choice
     requires { IsKmer set.now.head.k kmer × (c < 256) × (length kept.now ≤ 13) × All (Placed (set_of set.now.bytes.now)) kept.now }
-    ensures { PickIs (set_of set.now.bytes.now) 13
+    ensures { ChoiceIs (set_of set.now.bytes.now)
         (rules.choose set.now.head.k (solid (set_of set.now.bytes.now)) c s.now (kmer_of kmer) (map spelled_out kept.now)) result }
 {
     if kept.len() == 1 {
-        return Pick {
+        return Choice {
             mend: Some(kept[0]),
             lookups: 0,
         };
@@ -92,7 +98,7 @@ fn choose(set: &KmerSet, c: usize, kmer: Kmer, s: &[u8], kept: &[Mend]) -> Pick
             remaining += 1;
         }
     }
-    Pick {
+    Choice {
         mend: if remaining == 1 { chosen } else { None },
         lookups,
     }
@@ -114,9 +120,9 @@ pub fn correct_error<S: Scenario>(
         (after made (rules.exist set.now.head.k (solid (set_of set.now.bytes.now)) c s.now
         (S.scenarios set.now.head.k (solid (set_of set.now.bytes.now))) (kmer_of kmer))) result }
 {
-    let Some(alt) = successors::sole_alt(set, kmer) else {
-        let lookups = made + successors::alt_cost(kmer, set.head);
-        return Attempt::Refused(lookups);
+    let alt = match successors::sole_alt(set, kmer) {
+        Ok(alt) => alt,
+        Err(lookups) => return Attempt::Refused(made + lookups),
     };
     let confirm = c as usize;
     let scenarii = trials::get_scenarii::<S>(set, confirm, alt.kmer, s);

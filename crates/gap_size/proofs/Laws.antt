@@ -14,7 +14,6 @@ use Rattle.rules.specs.GapSize.{gap, gap_from}
 use Rattle.rules_laws.proofs.Counted.{bind-some as given_by}
 use Rattle.rules_laws.proofs.Growth.{length-spell}
 use Rattle.rules_laws.proofs.Correctors.{gap-any}
-use Rattle.successors.proofs.Laws.{alternative-four}
 use Rattle.graph.proofs.Laws.{bind-none, bind-some}
 use Rattle.gap.specs.Gap.{gap_mend}
 
@@ -41,10 +40,10 @@ module _ (k : ℕ) (sol : ℕ → Bool) (m : ℕ) (y : Kmer) (l : ℕ) where
   unfolding after
   gap-full room index h g = (λ d e. omega (arith, gap-letters d e), omega arith)
 
-  pub no-alternative : (alternative k sol y).answer ≡ none → (attempt.answer ≡ none) × (attempt.lookups ≡ l + (alternative k sol y).lookups)
+  pub no-alternative : {made : ℕ} → alternative k sol y ≡ record { answer = none; lookups = made } → (attempt.answer ≡ none) × (attempt.lookups ≡ l + made)
   unfolding gap_from
   no-alternative e = bind-none (alternative k sol y) _ l e
 
-  pub from-alternative : (x : Kmer) → 1 ≤ k → (alternative k sol y).answer ≡ some x → attempt ≡ after (l + 4) (gap_mend k sol m x)
+  pub from-alternative : {x : Kmer} → alternative k sol y ≡ record { answer = some x; lookups = 4 } → attempt ≡ after (l + 4) (gap_mend k sol m x)
   unfolding gap_from gap_mend
-  from-alternative x low e = bind-some (alternative k sol y) _ l x e ∙ rw (alternative-four k y low sol x e)
+  from-alternative e = bind-some (alternative k sol y) _ l e

@@ -49,9 +49,9 @@ fn ins_sub_correction(set: &KmerSet, scan: Scan, kmer: Kmer, out: &mut [u8]) -> 
     if out.len() <= scan.index - set.head.k {
         return Attempt::Full;
     }
-    let Some(alt) = successors::sole_alt(set, kmer) else {
-        let lookups = scan.lookups + successors::alt_cost(kmer, set.head);
-        return Attempt::Refused(lookups);
+    let alt = match successors::sole_alt(set, kmer) {
+        Ok(alt) => alt,
+        Err(lookups) => return Attempt::Refused(scan.lookups + lookups),
     };
     let count = support::count_at(set.counts, alt.place);
     fill_by_length(set, scan, alt.kmer, count, out)

@@ -1,7 +1,7 @@
 -- An attempt from its scan and its bad k-mer to the walk.
 use Prim.Native.Nat.{ℕ, ◌+◌, ◌^◌, ◌≤◌, ◌<◌}
 use native.Mathlib.Omega.{arith}
-use mathlib.Core.Path.{◌≡◌, ap, ◌∙◌, subst}
+use mathlib.Core.Path.{◌≡◌, ap, subst}
 use mathlib.Core.Bool.{Bool}
 use mathlib.Core.Option.{none, some}
 use mathlib.Core.List.{List}
@@ -10,40 +10,37 @@ use Rattle.rules.specs.Letters.{Kmer}
 use Rattle.rules.specs.Counted.{Try, after, refuse, next, ◌>>=◌}
 use Rattle.rules.specs.Scan as rules
 use Rattle.rules.specs.Scan.{alternative, error_len}
+use Rattle.rules.specs.Exist.{Mend}
 use Rattle.rules.specs.Graph.{graph_from, graph}
 use Rattle.rules_laws.proofs.Scan.{scan-is}
 use Rattle.scan.specs.declared.Attempt.{Attempt}
 use Rattle.scan.specs.declared.Scan.{Scan}
 use Rattle.scan.specs.Scan.{scan_of}
 use Rattle.scan.specs.Attempt.{Attempted}
-use Rattle.successors.proofs.Laws.{alternative-four}
 use Rattle.walk.specs.Walk.{walk_mend}
 
 -- ---- from the bad k-mer to x
 
-module _ {A B : Type 0} (t : Try A) (f : A → Try B) (s : ℕ) where
-  pub bind-none : t.answer ≡ none → ((after s (t >>= f)).answer ≡ none) × ((after s (t >>= f)).lookups ≡ s + t.lookups)
+module _ {A B : Type 0} (t : Try A) (f : A → Try B) (s : ℕ) {l : ℕ} where
+  pub bind-none : t ≡ record { answer = none; lookups = l } → ((after s (t >>= f)).answer ≡ none) × ((after s (t >>= f)).lookups ≡ s + l)
   unfolding after ◌>>=◌ next refuse
   bind-none e = (rw e, rw e (omega arith))
 
-  pub bind-some : (a : A) → t.answer ≡ some a → after s (t >>= f) ≡ after (s + t.lookups) (f a)
+  pub bind-some : {a : A} → t ≡ record { answer = some a; lookups = l } → after s (t >>= f) ≡ after (s + l) (f a)
   unfolding after ◌>>=◌ next
-  bind-some a e =
-      rw e
-      (let l : s + (t.lookups + (f a).lookups) ≡ s + t.lookups + (f a).lookups = omega arith in
-      λ i. record { answer = (f a).answer; lookups = l i })
+  bind-some {a} e = rw e (let z : s + (l + (f a).lookups) ≡ s + l + (f a).lookups = omega arith in λ i. record { answer = (f a).answer; lookups = z i })
 
 module _ (k n : ℕ) (sol : ℕ → Bool) (sc : rules.Scan) (y : Kmer) where
-  pub no-alternative : (alternative k sol y).answer ≡ none
-      → ((after sc.lookups (graph_from k n sol sc y)).answer ≡ none)
-      × ((after sc.lookups (graph_from k n sol sc y)).lookups ≡ sc.lookups + (alternative k sol y).lookups)
+  abbrev attempt : Try Mend
+  attempt = after sc.lookups (graph_from k n sol sc y)
+
+  pub no-alternative : {l : ℕ} → alternative k sol y ≡ record { answer = none; lookups = l } → (attempt.answer ≡ none) × (attempt.lookups ≡ sc.lookups + l)
   unfolding graph_from
   no-alternative e = bind-none (alternative k sol y) _ sc.lookups e
 
-  pub from-alternative : (x : Kmer) → 1 ≤ k → (alternative k sol y).answer ≡ some x
-      → after sc.lookups (graph_from k n sol sc y) ≡ after (sc.lookups + 4) (walk_mend k n sol sc x)
+  pub from-alternative : {x : Kmer} → alternative k sol y ≡ record { answer = some x; lookups = 4 } → attempt ≡ after (sc.lookups + 4) (walk_mend k n sol sc x)
   unfolding graph_from walk_mend
-  from-alternative x low e = bind-some (alternative k sol y) _ sc.lookups x e ∙ rw (alternative-four k y low sol x e)
+  from-alternative e = bind-some (alternative k sol y) _ sc.lookups e
 
 -- ---- the scan
 

@@ -23,9 +23,9 @@ pub fn from_scan(set: &KmerSet, scan: Scan, kmer: Kmer, out: &mut [u8]) -> Attem
         (after scan.lookups (graph_from set.now.head.k set.now.head.n (solid (set_of set.now.bytes.now)) (scan_of scan) (kmer_of kmer)))
         result }
 {
-    let Some(alt) = successors::sole_alt(set, kmer) else {
-        let lookups = scan.lookups + successors::alt_cost(kmer, set.head);
-        return Attempt::Refused(lookups);
+    let alt = match successors::sole_alt(set, kmer) {
+        Ok(alt) => alt,
+        Err(lookups) => return Attempt::Refused(scan.lookups + lookups),
     };
     let count = support::count_at(set.counts, alt.place);
     walk::walk(set, scan, alt.kmer, count, out)

@@ -107,17 +107,17 @@ module _ (k : ℕ) (sol : ℕ → Bool) (y : Kmer) where
   pub sole-refused : {l : ℕ} → (sole k sol y).answer ≡ none → l ≡ four_cost k sol y → sole k sol y ≡ record { answer = none; lookups = l }
   sole-refused e f = λ i. record { answer = e i; lookups = (sole-lookups k sol y ∙ sym f) i }
 
-  pub alternative-at-most : (alternative k sol y).lookups ≤ 4
+  pub alternative-few : {o : Option Kmer} {l : ℕ} → alternative k sol y ≡ record { answer = o; lookups = l } → l ≤ 4
   unfolding alternative
-  alternative-at-most = sole-cost k sol (drop_last y)
+  alternative-few e = omega (arith, sole-cost k sol (drop_last y), ap (λ (t : Try Kmer). t.lookups) e)
 
   -- a k-mer found solid has no unknown letter
   pub sole-known : (z : Kmer) → (sole k sol y).answer ≡ some z → Known z
   sole-known z e = ask-known sol z (only-is k sol y z e).solid_found
 
-  pub alternative-known : (z : Kmer) → (alternative k sol y).answer ≡ some z → Known z
+  pub alternative-known : {z : Kmer} {l : ℕ} → alternative k sol y ≡ record { answer = some z; lookups = l } → Known z
   unfolding alternative
-  alternative-known z e = ask-known sol z (only-is k sol (drop_last y) z e).solid_found
+  alternative-known {z} e = ask-known sol z (only-is k sol (drop_last y) z (ap (λ (t : Try Kmer). t.answer) e)).solid_found
 
   -- the code's choice r among the answers f
   module _ {f : List Bool} (r : Maybe ℕ) (found : f ≡ successors k sol y) (choice-is : nuc_of r ≡ only (yes_from 0 f)) where
@@ -219,9 +219,10 @@ letter-back zero sol y z l e = absurd (omega arith)
 letter-back (suc j) sol y z l e = let o = only-is (suc j) sol y z e in rw o.is (last_one j y o.by o.by_lt)
 
 -- the sole alternative stands in the place of the bad k-mer y
-pub alternative-back : (k : ℕ) (sol : ℕ → Bool) (y x : Kmer) → 1 ≤ k → (alternative k sol y).answer ≡ some x → in_place k y (last_letter x ∷ []) ≡ x
+pub alternative-back : (k : ℕ) (sol : ℕ → Bool) (y : Kmer) {x : Kmer} {l : ℕ} → 1 ≤ k → alternative k sol y ≡ record { answer = some x; lookups = l }
+    → in_place k y (last_letter x ∷ []) ≡ x
 unfolding alternative in_place add_all
-alternative-back k sol y x l e = letter-back k sol (drop_last y) x l e
+alternative-back k sol y {x} low e = letter-back k sol (drop_last y) x low (ap (λ (t : Try Kmer). t.answer) e)
 
 -- and letters that follow its own lead on from it
 pub leads-on : (k : ℕ) (y x : Kmer) (ls : List ℕ) → in_place k y (last_letter x ∷ []) ≡ x → in_place k y (last_letter x ∷ ls) ≡ add_all k x ls

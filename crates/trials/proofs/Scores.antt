@@ -14,7 +14,7 @@ use borrow.Author.Tests.{lt-ltb, le-ltb, eq-eqb, ne_eqb}
 use Rattle.std.specs.Prelude.{Option as Found}
 use Rattle.rules.specs.Letters.{Kmer, add_base}
 use Rattle.rules.specs.Set.{KmerSet, lookup, solid}
-use Rattle.rules.specs.Counted.{Counted, Try, after, refuse, ◌>>=◌}
+use Rattle.rules.specs.Counted.{Counted, after, refuse, ◌>>=◌}
 use Rattle.rules.specs.Scan.{ask}
 use Rattle.rules.specs.Exist.{Scenario, Mend, cons, solid_run, score, keep, tried, kept}
 use Rattle.rules_laws.proofs.Kmer.{Known, ne-known}
@@ -24,17 +24,13 @@ use Rattle.set.specs.Asked.{AskedIs}
 use Rattle.set.specs.Found.{index_of, is_key}
 use Rattle.set.proofs.Among.{found-solid}
 use Rattle.scenario.specs.Scenario.{trial_of}
-use Rattle.scenario.proofs.Trials.{asked_is, asked-le, solid-one, refused-bind, given-bind}
-use Rattle.trials.specs.Trials.{Confirmed}
+use Rattle.scenario.proofs.Trials.{asked_is, solid-one, refused-bind, given-bind}
+use Rattle.trials.specs.Trials.{confirm}
 
--- What is left of a scenario's score where its tried k-mer t is solid and s long enough: the c bases from o.
-unfoldable pub confirm : ℕ → (ℕ → Bool) → ℕ → List ℕ → Scenario → Kmer → Try Mend
-confirm k sol c s sc t =
-    let m : Counted ℕ = solid_run k sol t (take c (drop sc.o s)) in
-    record {
-      answer = elim (eqb m.answer c) [ true ↦ some (record { letters = sc.letters t; resume = sc.r; on = t ∷ [] }) | false ↦ none ];
-      lookups = m.lookups;
-    }
+-- Whether a run of solid k-mers went over all of c bases, and its lookups.
+pub record Confirmed (m : Counted ℕ) (c : ℕ) (all : Bool) (l : ℕ) : Type 0 where
+  pub answer : eqb m.answer c ≡ all
+  pub lookups : m.lookups ≡ l
 
 module _ (k : ℕ) (sol : ℕ → Bool) (c : ℕ) (s : List ℕ) (pos : 1 ≤ c) (sc : Scenario) where
   -- ---- before any base is added
@@ -131,46 +127,52 @@ module _ (k : ℕ) (sol : ℕ → Bool) (bases : List ℕ) (t : Kmer) where
           lookups = omega (arith, r.lookups, ap (λ (m : Counted ℕ). m.lookups) n);
         }
 
-    pub run-bad : p.solid ≡ false → {l : ℕ} → l ≡ j → Confirmed whole (length bases) (record { solid = false; lookups = l + p.lookups })
+    pub run-bad : p.solid ≡ false → Confirmed whole (length bases) false (j + p.lookups)
     unfolding solid_run
-    run-bad f e =
+    run-bad f =
         let n : from j z ≡ record { answer = 0; lookups = p.lookups } = rw (drop-cons bases j 0 h, solid_run, asked_is sol after-base here f, here.lookups) in
         record {
-          solid = ne_eqb whole.answer (length bases) (λ g. omega (arith, r.answer, ap (λ (m : Counted ℕ). m.answer) n));
+          answer = ne_eqb whole.answer (length bases) (λ g. omega (arith, r.answer, ap (λ (m : Counted ℕ). m.answer) n));
           lookups = omega (arith, r.lookups, ap (λ (m : Counted ℕ). m.lookups) n);
-          few = omega (arith, asked-le sol z' asked);
         }
 
-  pub run-all : {j l : ℕ} {z : Kmer} → Run j z → l ≡ j → j ≡ length bases → Confirmed whole (length bases) (record { solid = true; lookups = l })
+  pub run-all : {j : ℕ} {z : Kmer} → Run j z → j ≡ length bases → Confirmed whole (length bases) true j
   unfolding solid_run
-  run-all {j} {l} {z} r e g =
+  run-all {j} {z} r g =
       let n : from j z ≡ record { answer = 0; lookups = 0 } = rw (drop_of_length-le bases {i = j} (omega arith)) in
       record {
-        solid = eq-eqb whole.answer (length bases) (omega (arith, r.answer, ap (λ (m : Counted ℕ). m.answer) n));
+        answer = eq-eqb whole.answer (length bases) (omega (arith, r.answer, ap (λ (m : Counted ℕ). m.answer) n));
         lookups = omega (arith, r.lookups, ap (λ (m : Counted ℕ). m.lookups) n);
-        few = omega arith;
       }
 
 -- ---- the c bases of a scenario
 
-module _ (k : ℕ) (sol : ℕ → Bool) (c : ℕ) (s : List ℕ) (sc : Scenario) (t : Kmer) where
+module _ (c : ℕ) (s : List ℕ) where
   -- the bases from o, as they are lent
-  pub confirmed-at : (o : ℕ) → o ≡ sc.o → sc.o + c ≤ length s → {r : Asked}
-      → Confirmed (solid_run k sol t (take (o + c - o) (drop o s))) (length (take (o + c - o) (drop o s))) r
-      → Confirmed (solid_run k sol t (take c (drop sc.o s))) c r
-  confirmed-at o e long {r} q =
-      let n : o + c - o ≡ c = omega arith in
+  abbrev pub lent : ℕ → List ℕ
+  lent o = take (o + c - o) (drop o s)
+
+  pub lent-length : (sc : Scenario) (o : ℕ) → o ≡ sc.o → sc.o + c ≤ length s → length (lent o) ≡ c
+  lent-length sc o e long = length-take-le (o + c - o) (drop o s) (omega (arith, length-drop o s)) ∙ omega arith
+
+module _ (k : ℕ) (sol : ℕ → Bool) (c : ℕ) (s : List ℕ) (sc : Scenario) (t : Kmer) where
+  confirmed-at : (o : ℕ) → o ≡ sc.o → sc.o + c ≤ length s → {all : Bool} {n : ℕ} → Confirmed (solid_run k sol t (lent c s o)) (length (lent c s o)) all n
+      → Confirmed (solid_run k sol t (take c (drop sc.o s))) c all n
+  confirmed-at o e long {all} {n} q =
+      let m : o + c - o ≡ c = omega arith in
       let l : length (take c (drop sc.o s)) ≡ c = length-take-le c (drop sc.o s) (omega (arith, length-drop sc.o s)) in
-      subst (λ (m : ℕ). Confirmed (solid_run k sol t (take c (drop sc.o s))) m r) l (rw (n, e) at q)
+      subst (λ (m : ℕ). Confirmed (solid_run k sol t (take c (drop sc.o s))) m all n) l (rw (m, e) at q)
 
-  module _ (l : ℕ) {r : Asked} (left : tried k sol c s sc ≡ after l (confirm k sol c s sc t)) (q : Confirmed (solid_run k sol t (take c (drop sc.o s))) c r) where
-    pub tried-bad : r.solid ≡ false → tried k sol c s sc ≡ record { answer = none; lookups = l + r.lookups }
+  -- after l lookups they were left to confirm
+  module _ (o : ℕ) (o-is : o ≡ sc.o) (long : sc.o + c ≤ length s) (l : ℕ) {n : ℕ} (left : tried k sol c s sc ≡ after l (confirm k sol c s sc t)) where
+    pub tried-bad : Confirmed (solid_run k sol t (lent c s o)) (length (lent c s o)) false n → tried k sol c s sc ≡ record { answer = none; lookups = l + n }
     unfolding confirm after
-    tried-bad f = left ∙ rw (q.solid, confirm, f, q.lookups)
+    tried-bad q = let p = confirmed-at o o-is long q in left ∙ rw (p.answer, confirm, p.lookups)
 
-    pub tried-all : r.solid ≡ true → tried k sol c s sc ≡ record { answer = some (record { letters = sc.letters t; resume = sc.r; on = t ∷ [] }); lookups = l + r.lookups }
+    pub tried-all : Confirmed (solid_run k sol t (lent c s o)) (length (lent c s o)) true n
+        → tried k sol c s sc ≡ record { answer = some (record { letters = sc.letters t; resume = sc.r; on = t ∷ [] }); lookups = l + n }
     unfolding confirm after
-    tried-all f = left ∙ rw (q.solid, confirm, f, q.lookups)
+    tried-all q = let p = confirmed-at o o-is long q in left ∙ rw (p.answer, confirm, p.lookups)
 
 -- ---- the scenarios in their order
 

@@ -1,36 +1,43 @@
 -- What the trials of One and Two give by the rules.
-use Rattle.std.specs.Prelude.{ℕ, ◌≤◌, ◌≡◌, List, map, length, eqb, Option, Some, None}
+use Rattle.std.specs.Prelude.{ℕ, ◌+◌, ◌≤◌, ◌≡◌, Bool, true, false, List, [], ◌∷◌, map, length, take, drop, eqb, Option, Some, None}
 use Rattle.std.specs.List.{All}
-use Rattle.std.proofs.Math.Option.{Option as MaybeOf, none, some}
-use Rattle.rules.specs.Set.{KmerSet, lookup}
-use Rattle.rules.specs.Counted.{Counted, Try}
+use Rattle.std.proofs.Math.Option.{none, some}
+use Rattle.rules.specs.Letters as letters
+use Rattle.rules.specs.Set.{KmerSet, lookup, solid}
+use Rattle.rules.specs.Counted.{Counted, Try, after}
+use Rattle.rules.specs.Exist.{Scenario}
 use Rattle.rules.specs.Exist as rules
-use Rattle.set.specs.declared.Asked.{Asked}
+use Rattle.kmer.specs.declared.Kmer.{Kmer}
+use Rattle.kmer.specs.Kmer.{kmer_of, IsKmer}
 use Rattle.scenario.specs.declared.mend.Mend.{Mend}
 use Rattle.scenario.specs.Scenario.{spelled_out}
-use Rattle.trials.specs.declared.Pick.{Pick}
+use Rattle.trials.specs.declared.Candidate.{Candidate}
 use Rattle.trials.specs.declared.Scenarii.{Scenarii}
 
--- Whether a run of solid k-mers went over all of c bases, after its lookups.
-pub record Confirmed (m : Counted ℕ) (c : ℕ) (r : Asked) : Type 0 where
-  pub solid : eqb m.answer c ≡ r.solid
-  pub lookups : m.lookups ≡ r.lookups
-  pub few : r.lookups ≤ c
+-- What is left of a scenario's score where its tried k-mer t is solid and s long enough: the c bases from o.
+unfoldable pub confirm : ℕ → (ℕ → Bool) → ℕ → List ℕ → Scenario → letters.Kmer → Try rules.Mend
+confirm k sol c s sc t =
+    let m : Counted ℕ = rules.solid_run k sol t (take c (drop sc.o s)) in
+    record {
+      answer = elim (eqb m.answer c) [ true ↦ some (record { letters = sc.letters t; resume = sc.r; on = t ∷ [] }) | false ↦ none ];
+      lookups = m.lookups;
+    }
+
+-- After l lookups a scenario is refused, or a k-mer is left to confirm, for which s is long enough, and place is its key's index.
+abbrev pub EligibleIs : ℕ → KmerSet → ℕ → List ℕ → Scenario → ℕ → Option (Kmer × ℕ) → Type 0
+EligibleIs k set c s sc l (Some (y, place)) =
+    (rules.tried k (solid set) c s sc ≡ after l (confirm k (solid set) c s sc (kmer_of y)))
+    × IsKmer k y × (sc.o + c ≤ length s) × (y.unknown ≡ 0) × (lookup set y.code ≡ some place)
+EligibleIs k set c s sc l None = rules.tried k (solid set) c s sc ≡ record { answer = none; lookups = l }
+
+-- A trial as far as its first confirm base; at most 8 lookups, so that the counts fit.
+pub record Eligible (k : ℕ) (set : KmerSet) (c : ℕ) (s : List ℕ) (sc : Scenario) (r : Candidate) : Type 0 where
+  pub is : EligibleIs k set c s sc r.lookups r.tried
+  pub few : r.lookups ≤ 8
 
 -- The index of the key of a mend's tried k-mer is the mend's place.
 abbrev pub Placed : KmerSet → Mend → Type 0
 Placed set m = lookup set m.tried ≡ some m.place
-
--- The mend of the answer o, with its key's place, or a refusal.
-abbrev pub MendIs : KmerSet → MaybeOf rules.Mend → Option Mend → Type 0
-MendIs set o (Some m) = (o ≡ some (spelled_out m)) × Placed set m
-MendIs set o None = o ≡ none
-
--- A mend or a refusal, after at most `most` lookups.
-pub record PickIs (set : KmerSet) (most : ℕ) (t : Try rules.Mend) (r : Pick) : Type 0 where
-  pub mend : MendIs set t.answer r.mend
-  pub lookups : t.lookups ≡ r.lookups
-  pub few : r.lookups ≤ most
 
 -- The scenarios kept by the rules, with all lookups; each has its key's place.
 pub record KeptIs (set : KmerSet) (k : Counted (List rules.Mend)) (r : Scenarii) : Type 0 where
