@@ -1,8 +1,20 @@
 // The entries of a job, each a method and its own confirm: document 02, W1.
 #![tactic(auto)]
 
-ghost use Rattle.std.specs.Prelude.{◌≡◌, ◌<◌};
+mod job;
+
+ghost use Rattle.std.specs.Prelude.{◌≡◌, ◌≤◌, ◌<◌};
 ghost use Rattle.rules.specs.Job.{method_byte, confirm_byte, entry_count};
+
+pub use job::Job;
+
+// A method byte, of which every value has a meaning in the rules, and a confirm.
+#[derive(Clone, Copy)]
+pub struct Entry {
+    pub method: u8,
+    pub confirm: u8,
+    ghost confirmed: { 1 ≤ confirm },
+}
 
 #[tactic(auto, unfolding(rules::specs::Job::entry_count))]
 pub fn count(job: &[u8]) -> usize
@@ -26,4 +38,22 @@ pub fn confirm_of(job: &[u8], i: usize) -> u8
     ensures { result ≡ confirm_byte job.now i }
 {
     job.get(2 * i + 1).copied().unwrap_or(0)
+}
+
+impl Job<'_> {
+    pub fn count(&self) -> usize
+        ensures { result ≡ entry_count self.now.bytes.now }
+    {
+        count(self.bytes)
+    }
+
+    pub fn entry(&self, i: usize) -> Entry
+        requires { i < entry_count self.now.bytes.now }
+        ensures { (result.method ≡ method_byte self.now.bytes.now i) × (result.confirm ≡ confirm_byte self.now.bytes.now i) }
+    {
+        Entry {
+            method: method_of(self.bytes, i),
+            confirm: confirm_of(self.bytes, i),
+        }
+    }
 }

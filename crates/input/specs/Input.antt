@@ -1,8 +1,15 @@
 -- What the answers mean in the rules' terms.
-use Rattle.std.specs.Prelude.{ℕ, ◌+◌, ◌*◌, ◌-◌, ◌≤◌, ◌<◌, ◌≡◌, List, ◌∷◌, length, take, drop}
+use Rattle.std.specs.Prelude.{ℕ, ◌+◌, ◌*◌, ◌-◌, ◌≤◌, ◌<◌, ◌≡◌, List, ◌∷◌, length, take, drop, Result}
+use Rattle.std.specs.Result.{ForOk}
 use Rattle.rules.specs.Job.{entry_count, entries_of, Confirmed, lines}
 use Rattle.rules.specs.Calls.{max_read, max_methods, max_output}
+use Rattle.entries.specs.declared.job.Job.{Job}
+use Rattle.refusal.specs.declared.Refusal.{Refusal}
 pub use Rattle.refusal.specs.Refusal.{check_of}
+
+-- A job that passed its checks is given with the same bytes.
+abbrev pub GivesJob : List ℕ → Result Job Refusal → Type 0
+GivesJob job r = ForOk r (λ checked. checked.bytes.now ≡ job)
 
 -- The line from `from` on ends before `end`; the other lines follow.
 pub record LineAt (batch : List ℕ) (from end : ℕ) : Type 0 where

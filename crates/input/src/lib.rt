@@ -6,8 +6,9 @@ ghost use Rattle.rules.specs.Refusal.{unless, ◌or_else◌, at_place, first_fai
 ghost use Rattle.rules.specs.Job.{known, method_byte, confirm_byte, entry_count, lines};
 ghost use Rattle.rules.specs.Calls.{max_read, buffers_right, job_check, input_check, batch_right};
 ghost use Rattle.rules_needs.specs.Needs.{needs_check};
-ghost use Rattle.input.specs.Input.{check_of, LineAt};
+ghost use Rattle.input.specs.Input.{check_of, GivesJob, LineAt};
 
+use entries::Job;
 use refusal::Refusal;
 
 const MAX_READ: usize = 1048576;
@@ -71,45 +72,46 @@ fn buffers_right(input: usize, output: usize, work: usize) -> bool
 }
 
 // Checks 2 to 4, upward. All methods are looked at before any confirm.
-fn check_job(job: &[u8]) -> Result<(), Refusal>
-    ensures { check_of result ≡ job_check job.now }
+fn check_job(job: &[u8]) -> Result<Job<'_>, Refusal>
+    ensures { (check_of result ≡ job_check job.now) × GivesJob job.now result }
 {
     if MAX_METHODS < entries::count(job) {
         return Err(Refusal::Methods);
     }
     check_methods(job)?;
-    check_confirms(job)
+    check_confirms(job)?;
+    Ok(Job { bytes: job })
 }
 
 // Checks 1 to 4, upward.
-fn check_start(input: usize, job: &[u8]) -> Result<(), Refusal>
-    ensures { check_of result ≡ unless (leb input max_read) 1 or_else job_check job.now }
+fn check_start(input: usize, job: &[u8]) -> Result<Job<'_>, Refusal>
+    ensures { (check_of result ≡ (unless (leb input max_read) 1 or_else job_check job.now)) × GivesJob job.now result }
 {
     check_length(input)?;
     check_job(job)
 }
 
-// Checks 1 to 5, upward, by the job and the lengths of input, output and work.
-pub fn check_input(input: usize, job: &[u8], output: usize, work: usize) -> Result<(), Refusal>
-    ensures { check_of result ≡ input_check input job.now output work }
+// Checks 1 to 5, upward, by the job and the lengths of input, output and work: the job, checked.
+pub fn check_input(input: usize, job: &[u8], output: usize, work: usize) -> Result<Job<'_>, Refusal>
+    ensures { (check_of result ≡ input_check input job.now output work) × GivesJob job.now result }
 {
-    check_start(input, job)?;
+    let checked = check_start(input, job)?;
     if !buffers_right(input, output, work) {
         return Err(Refusal::Buffers);
     }
-    Ok(())
+    Ok(checked)
 }
 
 // The same for a call without output, which takes a job of one method: 17 after 4, and 5 by the work buffer alone.
-pub fn check_needs(batch: usize, job: &[u8], work: usize) -> Result<(), Refusal>
-    ensures { check_of result ≡ needs_check batch job.now work }
+pub fn check_needs(batch: usize, job: &[u8], work: usize) -> Result<Job<'_>, Refusal>
+    ensures { (check_of result ≡ needs_check batch job.now work) × GivesJob job.now result }
 {
-    check_start(batch, job)?;
+    let checked = check_start(batch, job)?;
     if entries::count(job) != 1 {
         return Err(Refusal::NotOne);
     }
     if batch <= work {
-        Ok(())
+        Ok(checked)
     } else {
         Err(Refusal::Buffers)
     }
