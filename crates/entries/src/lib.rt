@@ -1,20 +1,15 @@
 // The entries of a job, each a method and its own confirm: document 02, W1.
 #![tactic(auto)]
 
+mod entry;
 mod job;
 
-ghost use Rattle.std.specs.Prelude.{◌≡◌, ◌≤◌, ◌<◌};
-ghost use Rattle.rules.specs.Job.{method_byte, confirm_byte, entry_count};
+ghost use Rattle.std.specs.Prelude.{◌≡◌, ◌<◌};
+ghost use Rattle.rules.specs.Job.{method_byte, confirm_byte, entry_count, entry_at};
+ghost use Rattle.entries.specs.Entries.{entry_of};
 
+pub use entry::Entry;
 pub use job::Job;
-
-// A method byte, of which every value has a meaning in the rules, and a confirm.
-#[derive(Clone, Copy)]
-pub struct Entry {
-    pub method: u8,
-    pub confirm: u8,
-    ghost confirmed: { 1 ≤ confirm },
-}
 
 #[tactic(auto, unfolding(rules::specs::Job::entry_count))]
 pub fn count(job: &[u8]) -> usize
@@ -49,7 +44,7 @@ impl Job<'_> {
 
     pub fn entry(&self, i: usize) -> Entry
         requires { i < entry_count self.now.bytes.now }
-        ensures { (result.method ≡ method_byte self.now.bytes.now i) × (result.confirm ≡ confirm_byte self.now.bytes.now i) }
+        ensures { entry_of result ≡ entry_at self.now.bytes.now i }
     {
         Entry {
             method: method_of(self.bytes, i),

@@ -10,6 +10,7 @@ ghost use Rattle.turn.specs.Turn.{offered};
 ghost use Rattle.report.specs.Answer.{Exact, Ceiling, given};
 
 use correct::Counts;
+use entries::Job;
 use refusal::Refusal;
 use report::Report;
 use set::{KmerSet, STARTS};
@@ -18,15 +19,15 @@ use set::{KmerSet, STARTS};
 // that of lines::correct_lines: one over a trait that gives the next record would have to state both steps' contracts, and is no plainer.
 fn correct_records(
     set: &KmerSet,
-    job: &[u8],
+    job: &Job,
     file: &[u8],
     output: &mut [u8],
     work: &mut [u8],
 ) -> Result<Report, Refusal>
-    requires { Within job.now (length file.now) (length output.old) (length work.old)
+    requires { Within job.now.bytes.now (length file.now) (length output.old) (length work.old)
         × (file_right file.now ≡ true) }
-    ensures { Exact (corrected_records (offered set.now) (entries_of job.now)
-        (given set.now.bytes.now [] set.now.counts.now job.now file.now output.old work.old)
+    ensures { Exact (corrected_records (offered set.now) (entries_of job.now.bytes.now)
+        (given set.now.bytes.now [] set.now.counts.now job.now.bytes.now file.now output.old work.old)
         (records file.now))
         result output.new work.new }
 {
@@ -54,8 +55,8 @@ fn correct_records(
         place += 1;
         from = joined.next;
     }
-    let offered = !set.counts.is_empty();
-    Ok(report::accept(done, offered, output, work))
+    let has_counts = !set.counts.is_empty();
+    Ok(report::accept(done, has_counts, output, work))
 }
 
 // The FASTA call: corrects the reads of a file's records by the entries of the job, and puts the records into the output.
@@ -73,9 +74,9 @@ pub fn correct_fasta(
     ensures ceiling { Ceiling (offering index.now counts.now (set_of set.now)) (entries_of job.now)
         (reads_of (records file.now)) result }
 {
-    input::check_input(file.len(), job, output.len(), work.len())?;
+    let job = input::check_input(file.len(), job, output.len(), work.len())?;
     records::check_file(file)?;
     let mut starts = [0u32; STARTS];
     let opened = offered::open(set, index, counts, file.len(), &mut starts)?;
-    correct_records(&opened, job, file, output, work)
+    correct_records(&opened, &job, file, output, work)
 }

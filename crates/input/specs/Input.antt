@@ -1,7 +1,7 @@
 -- What the answers mean in the rules' terms.
 use Rattle.std.specs.Prelude.{ℕ, ◌+◌, ◌*◌, ◌-◌, ◌≤◌, ◌<◌, ◌≡◌, List, ◌∷◌, length, take, drop, Result}
 use Rattle.std.specs.Result.{ForOk}
-use Rattle.rules.specs.Job.{entry_count, entries_of, Confirmed, lines}
+use Rattle.rules.specs.Job.{entry_count, lines}
 use Rattle.rules.specs.Calls.{max_read, max_methods, max_output}
 use Rattle.entries.specs.declared.job.Job.{Job}
 use Rattle.refusal.specs.declared.Refusal.{Refusal}
@@ -21,7 +21,6 @@ pub record LineAt (batch : List ℕ) (from end : ℕ) : Type 0 where
 pub record Within (job : List ℕ) (i o w : ℕ) : Type 0 where
   pub input : i ≤ max_read
   pub entries : entry_count job ≤ max_methods
-  pub confirms : Confirmed (entries_of job)
   pub output : o ≤ max_output
   pub work : 2 * o ≤ w
   pub work_input : 2 * i ≤ w

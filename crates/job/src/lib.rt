@@ -9,6 +9,7 @@ ghost use Rattle.input.specs.Input.{Within};
 ghost use Rattle.turn.specs.Turn.{offered};
 ghost use Rattle.report.specs.Answer.{Exact, Ceiling, given};
 
+use entries::Job;
 use refusal::Refusal;
 use report::Report;
 use set::{KmerSet, STARTS};
@@ -16,14 +17,14 @@ use set::{KmerSet, STARTS};
 // The single read of an opened set.
 fn correct_one(
     set: &KmerSet,
-    job: &[u8],
+    job: &Job,
     read: &[u8],
     output: &mut [u8],
     work: &mut [u8],
 ) -> Result<Report, Refusal>
-    requires { Within job.now (length read.now) (length output.old) (length work.old) }
-    ensures { Exact (corrected (offered set.now) (entries_of job.now) []
-        (given set.now.bytes.now [] set.now.counts.now job.now read.now output.old work.old)
+    requires { Within job.now.bytes.now (length read.now) (length output.old) (length work.old) }
+    ensures { Exact (corrected (offered set.now) (entries_of job.now.bytes.now) []
+        (given set.now.bytes.now [] set.now.counts.now job.now.bytes.now read.now output.old work.old)
         (read.now ∷ []))
         result output.new work.new }
 {
@@ -32,8 +33,8 @@ fn correct_one(
     let Ok(done) = corrected else {
         return Err(report::no_room(0, output, work));
     };
-    let offered = !set.counts.is_empty();
-    Ok(report::accept(done, offered, output, work))
+    let has_counts = !set.counts.is_empty();
+    Ok(report::accept(done, has_counts, output, work))
 }
 
 // The single-read call: corrects a read by the entries of the job, into the output. It and the batch call share no opening function: the
@@ -51,10 +52,10 @@ pub fn correct_read(
         result output.new work.new }
     ensures ceiling { Ceiling (offering index.now counts.now (set_of set.now)) (entries_of job.now) (read.now ∷ []) result }
 {
-    input::check_input(read.len(), job, output.len(), work.len())?;
+    let job = input::check_input(read.len(), job, output.len(), work.len())?;
     let mut starts = [0u32; STARTS];
     let opened = offered::open(set, index, counts, read.len(), &mut starts)?;
-    correct_one(&opened, job, read, output, work)
+    correct_one(&opened, &job, read, output, work)
 }
 
 // The batch call: corrects the lines of a batch by the entries of the job, into the output.
@@ -71,9 +72,9 @@ pub fn correct_batch(
         result output.new work.new }
     ensures ceiling { Ceiling (offering index.now counts.now (set_of set.now)) (entries_of job.now) (lines batch.now) result }
 {
-    input::check_input(batch.len(), job, output.len(), work.len())?;
+    let job = input::check_input(batch.len(), job, output.len(), work.len())?;
     input::check_batch(batch)?;
     let mut starts = [0u32; STARTS];
     let opened = offered::open(set, index, counts, batch.len(), &mut starts)?;
-    lines::correct_lines(&opened, job, batch, output, work)
+    lines::correct_lines(&opened, &job, batch, output, work)
 }

@@ -10,6 +10,7 @@ ghost use Rattle.report.specs.Answer.{Exact, given};
 ghost use Rattle.lines.specs.Lines.{LineIs};
 
 use correct::{Counts, Full};
+use entries::Job;
 use refusal::Refusal;
 use report::Report;
 use set::KmerSet;
@@ -17,14 +18,14 @@ use set::KmerSet;
 // A line is corrected where it lies, into what is left of the output less 1, and byte 10 put behind it.
 fn correct_line(
     set: &KmerSet,
-    job: &[u8],
+    job: &Job,
     line: &[u8],
     at: usize,
     output: &mut [u8],
     work: &mut [u8],
 ) -> Result<Counts, Full>
-    requires { Within job.now (length line.now) (length output.old) (length work.old) × (at ≤ length output.old) }
-    ensures { LineIs (offered set.now) (entries_of job.now) line.now
+    requires { Within job.now.bytes.now (length line.now) (length output.old) (length work.old) × (at ≤ length output.old) }
+    ensures { LineIs (offered set.now) (entries_of job.now.bytes.now) line.now
         at output.old output.new result }
 {
     if output.len() <= at {
@@ -42,15 +43,15 @@ fn correct_line(
 // The lines of a batch in turn. By line_end, not split_inclusive: each of its pieces has the byte 10 that a line is without.
 pub fn correct_lines(
     set: &KmerSet,
-    job: &[u8],
+    job: &Job,
     batch: &[u8],
     output: &mut [u8],
     work: &mut [u8],
 ) -> Result<Report, Refusal>
-    requires { Within job.now (length batch.now) (length output.old) (length work.old)
+    requires { Within job.now.bytes.now (length batch.now) (length output.old) (length work.old)
         × (batch_right batch.now ≡ true) }
-    ensures { Exact (corrected (offered set.now) (entries_of job.now) (10 ∷ [])
-        (given set.now.bytes.now [] set.now.counts.now job.now batch.now output.old work.old)
+    ensures { Exact (corrected (offered set.now) (entries_of job.now.bytes.now) (10 ∷ [])
+        (given set.now.bytes.now [] set.now.counts.now job.now.bytes.now batch.now output.old work.old)
         (lines batch.now))
         result output.new work.new }
 {
@@ -67,6 +68,6 @@ pub fn correct_lines(
         line += 1;
         from = end + 1;
     }
-    let offered = !set.counts.is_empty();
-    Ok(report::accept(done, offered, output, work))
+    let has_counts = !set.counts.is_empty();
+    Ok(report::accept(done, has_counts, output, work))
 }

@@ -41,7 +41,6 @@ Ceiling set es reads (Err r) = Unit
 pub record Bookable (job : List ℕ) (batch work : ℕ) : Type 0 where
   pub input : batch ≤ max_read
   pub one : entry_count job ≡ 1
-  pub confirms : Confirmed (entries_of job)
   pub room : batch ≤ work
 
 -- A line more, with its byte 10.

@@ -10,6 +10,7 @@ ghost use Rattle.turn.specs.Turn.{offered};
 ghost use Rattle.needs.specs.Needs.{plus_line, counted, asked, Bookable, Exact, Ceiling};
 
 use correct::Counts;
+use entries::Job;
 use refusal::Refusal;
 use set::{KmerSet, STARTS};
 
@@ -36,18 +37,17 @@ impl Need {
 }
 
 // The lines of a batch in turn.
-fn count_lines(set: &KmerSet, job: &[u8], batch: &[u8], work: &mut [u8]) -> Need
-    requires { Bookable job.now (length batch.now) (length work.old) × (batch_right batch.now ≡ true) }
-    ensures { Exact (counted (offered set.now) job.now batch.now work.old)
+fn count_lines(set: &KmerSet, job: &Job, batch: &[u8], work: &mut [u8]) -> Need
+    requires { Bookable job.now.bytes.now (length batch.now) (length work.old) × (batch_right batch.now ≡ true) }
+    ensures { Exact (counted (offered set.now) job.now.bytes.now batch.now work.old)
         (Ok result) work.new }
 {
-    let method = entries::method_of(job, 0);
-    let c = entries::confirm_of(job, 0);
+    let entry = job.entry(0);
     let mut done = Need::default();
     let mut from = 0;
     while from < batch.len() {
         let end = input::line_end(batch, from);
-        let counted = count::count(set, method, c, &batch[from..end], work);
+        let counted = count::count(set, entry, &batch[from..end], work);
         // Work is as long as the batch (check 5), so Full never comes.
         let Ok(line) = counted else { unreachable!() };
         done = done.plus_line(line);
@@ -70,9 +70,9 @@ pub fn needs(
         result work.new }
     ensures ceiling { Ceiling (offering index.now counts.now (set_of set.now)) (entries_of job.now) (lines batch.now) result }
 {
-    input::check_needs(batch.len(), job, work.len())?;
+    let job = input::check_needs(batch.len(), job, work.len())?;
     input::check_batch(batch)?;
     let mut starts = [0u32; STARTS];
     let opened = offered::open(set, index, counts, batch.len(), &mut starts)?;
-    Ok(count_lines(&opened, job, batch, work))
+    Ok(count_lines(&opened, &job, batch, work))
 }

@@ -3,48 +3,47 @@
 #![tactic(auto)]
 
 ghost use Rattle.std.specs.Prelude.{◌≡◌, ◌+◌, ◌-◌, ◌≤◌, ◌<◌, ◌^◌, length, take};
-ghost use Rattle.rules.specs.Job.{entry_at, entry_count, entries_of, Confirmed};
+ghost use Rattle.rules.specs.Job.{entry_at, entry_count};
 ghost use Rattle.rules.specs.Calls.{max_read, max_output, max_methods};
 ghost use Rattle.turn.specs.Turn.{offered};
 ghost use Rattle.correct.specs.Pass.{one_pass, tally_of, Passed, Small};
 ghost use Rattle.through.specs.Through.{held, PassInto, GoneOn, Through};
 
 use correct::{Counts, Full};
+use entries::Job;
 use set::KmerSet;
 
 // The pass of an entry.
 pub fn entry_pass(
     set: &KmerSet,
-    job: &[u8],
+    job: &Job,
     i: usize,
     read: &[u8],
     out: &mut [u8],
 ) -> Result<Counts, Full>
-    requires { (i < entry_count job.now) × Confirmed (entries_of job.now) × (length read.now ≤ max_read) }
+    requires { (i < entry_count job.now.bytes.now) × (length read.now ≤ max_read) }
     ensures { Passed out.old out.new
-        (one_pass (offered set.now) (entry_at job.now i) read.now)
+        (one_pass (offered set.now) (entry_at job.now.bytes.now i) read.now)
         result }
 {
-    let method = entries::method_of(job, i);
-    let c = entries::confirm_of(job, i);
-    correct::correct(set, method, c, read, out)
+    correct::correct(set, job.entry(i), read, out)
 }
 
 // The first pass, entry 0, from the read.
 fn first_pass(
     set: &KmerSet,
-    job: &[u8],
+    job: &Job,
     read: &[u8],
     output: &mut [u8],
     work: &mut [u8],
 ) -> Result<Counts, Full>
-    requires { (0 < entry_count job.now) × Confirmed (entries_of job.now) × (length read.now ≤ max_read)
+    requires { (0 < entry_count job.now.bytes.now) × (length read.now ≤ max_read)
         × (length work.old ≡ length output.old) }
-    ensures { PassInto (length output.old) (held (entry_count job.now - 1) output.new work.new)
-        (one_pass (offered set.now) (entry_at job.now 0) read.now)
+    ensures { PassInto (length output.old) (held (entry_count job.now.bytes.now - 1) output.new work.new)
+        (one_pass (offered set.now) (entry_at job.now.bytes.now 0) read.now)
         result }
 {
-    if entries::count(job) % 2 == 1 {
+    if job.count() % 2 == 1 {
         entry_pass(set, job, 0, read, output)
     } else {
         entry_pass(set, job, 0, read, work)
@@ -54,20 +53,20 @@ fn first_pass(
 // The pass of a later entry, from the buffer that the one before wrote to the other.
 fn next_pass(
     set: &KmerSet,
-    job: &[u8],
+    job: &Job,
     i: usize,
     written: usize,
     output: &mut [u8],
     work: &mut [u8],
 ) -> Result<Counts, Full>
-    requires { (i < entry_count job.now) × Confirmed (entries_of job.now) × (written ≤ length output.old)
+    requires { (i < entry_count job.now.bytes.now) × (written ≤ length output.old)
         × (length output.old ≤ max_output) × (length work.old ≡ length output.old) }
-    ensures { PassInto (length output.old) (held (entry_count job.now - i - 1) output.new work.new)
-        (one_pass (offered set.now) (entry_at job.now i)
-        (take written (held (entry_count job.now - i) output.old work.old)))
+    ensures { PassInto (length output.old) (held (entry_count job.now.bytes.now - i - 1) output.new work.new)
+        (one_pass (offered set.now) (entry_at job.now.bytes.now i)
+        (take written (held (entry_count job.now.bytes.now - i) output.old work.old)))
         result }
 {
-    let left = entries::count(job) - i;
+    let left = job.count() - i;
     if left % 2 == 0 {
         entry_pass(set, job, i, &output[..written], work)
     } else {
@@ -80,20 +79,21 @@ fn next_pass(
 // accordingly.
 pub fn go_on(
     set: &KmerSet,
-    job: &[u8],
+    job: &Job,
     first: Counts,
     output: &mut [u8],
     work: &mut [u8],
 ) -> Result<Counts, Full>
-    requires ready { (0 < entry_count job.now) × (entry_count job.now ≤ max_methods) × Confirmed (entries_of job.now)
+    requires ready { (0 < entry_count job.now.bytes.now) × (entry_count job.now.bytes.now ≤ max_methods)
         × (first.written ≤ length output.old) × Small 1 (tally_of first output.old) }
     requires output_len_bound { (length output.old ≤ max_output) × (length work.old ≡ length output.old) }
-    ensures { GoneOn (offered set.now) job.now
-        (tally_of first (held (entry_count job.now - 1) output.old work.old))
+    ensures { GoneOn (offered set.now) job.now.bytes.now
+        (tally_of first (held (entry_count job.now.bytes.now - 1) output.old work.old))
         (length output.old) output.new result }
 {
     let mut done = first;
-    for i in 1..entries::count(job) {
+    // By their numbers: an entry is two bytes of the job, and its number says which buffer its pass writes.
+    for i in 1..job.count() {
         let next = next_pass(set, job, i, done.written, output, work)?;
         done = Counts {
             written: next.written,
@@ -106,18 +106,18 @@ pub fn go_on(
 // A read through the entries of a job, and its result in the output. Without entries the read is copied.
 pub fn through(
     set: &KmerSet,
-    job: &[u8],
+    job: &Job,
     read: &[u8],
     output: &mut [u8],
     work: &mut [u8],
 ) -> Result<Counts, Full>
-    requires ready { (entry_count job.now ≤ max_methods) × Confirmed (entries_of job.now) × (length read.now ≤ max_read) }
+    requires ready { (entry_count job.now.bytes.now ≤ max_methods) × (length read.now ≤ max_read) }
     requires output_len_bound { (length output.old ≤ max_output) × (length work.old ≡ length output.old) }
-    ensures { Through (offered set.now) job.now read.now
+    ensures { Through (offered set.now) job.now.bytes.now read.now
         output.old output.new work.old work.new
         result }
 {
-    if entries::count(job) == 0 {
+    if job.count() == 0 {
         return correct::copied(read, output);
     }
     let first = first_pass(set, job, read, output, work)?;
