@@ -18,6 +18,8 @@ use Rattle.rules_laws.proofs.Growth.{pass-within}
 use Rattle.set.specs.declared.ready.KmerSet as Opened
 use Rattle.set.proofs.Opened.{opened-k-low, opened-k-high, opened-n-le, set-count}
 use Rattle.rules.specs.Calls.{max_read}
+use Rattle.entries.specs.declared.Entry.{Entry}
+use Rattle.entries.specs.Entries.{entry_of}
 use Rattle.turn.specs.Turn.{offered}
 use Rattle.correct.specs.Pass.{max_f, with_bases, Small}
 use Rattle.correct.proofs.Drives.{drive-fewer}
@@ -30,7 +32,7 @@ pub record Limited (w : ℕ) (p : Pass) : Type 0 where
   pub attempts : p.attempts ≤ 2 * w
   pub accepted : p.accepted ≤ 2 * w
 
-module _ (opened : Opened.KmerSet) (c : ℕ) (c-low : 1 ≤ c) (c-high : c < 256) where
+module _ (opened : Opened.KmerSet) (e : Entry) (c-high : e.confirm < 256) where
   abbrev set : KmerSet
   set = offered opened
 
@@ -39,6 +41,9 @@ module _ (opened : Opened.KmerSet) (c : ℕ) (c-low : 1 ≤ c) (c-high : c < 256
 
   opens : set_check bytes ≡ none
   opens = opened.ready.table.opens
+
+  abbrev c : ℕ
+  c = e.confirm
 
   F-le : (m : Method) → F set c m ≤ max_f
   unfolding F offering set_of
@@ -51,23 +56,23 @@ module _ (opened : Opened.KmerSet) (c : ℕ) (c-low : 1 ≤ c) (c-high : c < 256
   unfolding offering set_of
   k_low = opened-k-low bytes opens
 
-  pub pass-limited : (method : ℕ) (fed : List ℕ) → Limited (length fed) (pass set (entry method c) fed)
+  pub pass-limited : (fed : List ℕ) → Limited (length fed) (pass set (entry_of e) fed)
   unfolding pass entry
-  pass-limited method fed =
+  pass-limited fed =
       let ce = correct_error set c m in
       let t : (drive set.k (solid set) (count_of set) ce fed).turns ≤ 2 * length fed =
-      omega (arith, drive-turns set.k (solid set) (count_of set) ce (steady set k_low c c-low m) fed) in
+      omega (arith, drive-turns set.k (solid set) (count_of set) ce (steady set k_low c e.confirmed m) fed) in
       let f = drive-fewer set.k (solid set) (count_of set) ce fed in
-      record { bytes = pass-within set k_low (entry method c) fed; turns = t; lookups = looked; attempts = omega (arith, f.attempts); accepted = omega (arith, f.accepted) }
+      record { bytes = pass-within set k_low (entry_of e) fed; turns = t; lookups = looked; attempts = omega (arith, f.attempts); accepted = omega (arith, f.accepted) }
     where
       m : Method
-      m = method_of method
+      m = method_of e.method
 
       looked : (drive set.k (solid set) (count_of set) (correct_error set c m) fed).lookups ≤ 1 + length fed * max_f
       looked = elim (dec_le set.k (length fed)) [
         | yes le ↦ omega (
           arith,
-          drive-lookups set.k (solid set) (count_of set) (correct_error set c m) (F set c m) (fair set k_low c c-low m) fed le,
+          drive-lookups set.k (solid set) (count_of set) (correct_error set c m) (F set c m) (fair set k_low c e.confirmed m) fed le,
           mul-le-mul_left (length fed - set.k) (F-le m),
         )
         | no gt ↦ omega (arith, drive-short set.k (solid set) (count_of set) (correct_error set c m) 0 fed (omega arith))

@@ -7,6 +7,7 @@ use Rattle.rules.specs.Set.{solid, count_of}
 use Rattle.rules.specs.Driver.{Pass, State}
 use Rattle.rules_laws.proofs.Driver.{finish-end}
 use Rattle.set.specs.declared.ready.KmerSet.{KmerSet}
+use Rattle.entries.specs.declared.Entry.{Entry}
 use Rattle.turn.specs.declared.Counts.{Counts}
 use Rattle.turn.specs.declared.Place.{Place}
 use Rattle.turn.specs.Turn.{state_of, offered, attempt_of, end_of, Turning, Went}
@@ -28,18 +29,18 @@ ended n w =
     }
 
 -- put are the bytes put out by now, which stand in out where they are no more than the limit: the end from here is `end`.
-pub record Reached (set : KmerSet) (method c : ℕ) (p : Place) (read : List ℕ) (limit : ℕ) (out : List ℕ) (end : Pass) : Type 0 where
+pub record Reached (set : KmerSet) (e : Entry) (p : Place) (read : List ℕ) (limit : ℕ) (out : List ℕ) (end : Pass) : Type 0 where
   pub put : List ℕ
   pub many : length put ≡ p.done.written
   pub here : p.done.written ≤ limit → take p.done.written out ≡ put
-  pub same : end_of set method c (state_of p read put) ≡ end
+  pub same : end_of set e (state_of p read put) ≡ end
 
-module _ {set : KmerSet} {method c : ℕ} {p : Place} {read : List ℕ} {limit : ℕ} {out : List ℕ} {end : Pass}
-    (r : Reached set method c p read limit out end) where
+module _ {set : KmerSet} {e : Entry} {p : Place} {read : List ℕ} {limit : ℕ} {out : List ℕ} {end : Pass}
+    (r : Reached set e p read limit out end) where
   -- a turn further, to an output out' in which what it put out stands behind the rest
-  pub reached-next : Turning set method c p read → {part out' : List ℕ} {p' : Place}
-      → (went : (put : List ℕ) → Went set method c p read put part p')
-      → (p'.done.written ≤ limit → take p'.done.written out' ≡ r.put ++ (went r.put).more) → Reached set method c p' read limit out' end
+  pub reached-next : Turning set e p read → {part out' : List ℕ} {p' : Place}
+      → (went : (put : List ℕ) → Went set e p read put part p')
+      → (p'.done.written ≤ limit → take p'.done.written out' ≡ r.put ++ (went r.put).more) → Reached set e p' read limit out' end
   reached-next t went here =
       let w = went r.put in
       record {
@@ -54,7 +55,7 @@ module _ {set : KmerSet} {method c : ℕ} {p : Place} {read : List ℕ} {limit :
   unfolding state_of
   at-end over =
       let left = drop_of_length-le read {i = p.at} over in
-      sym r.same ∙ ap (λ (q : State). q.done) (finish-end set.head.k (solid (offered set)) (count_of (offered set)) (attempt_of set method c) (state_of p read r.put) left)
+      sym r.same ∙ ap (λ (q : State). q.done) (finish-end set.head.k (solid (offered set)) (count_of (offered set)) (attempt_of set e) (state_of p read r.put) left)
 
   pub reached-end : (w : ℕ) → length read ≤ p.at → CountsAre (with_bases end w) (ended p.done w)
   unfolding state_of
@@ -62,7 +63,7 @@ module _ {set : KmerSet} {method c : ℕ} {p : Place} {read : List ℕ} {limit :
 
   pub reached-bytes : length read ≤ p.at → p.done.written ≤ limit → take p.done.written out ≡ end.bytes
   unfolding state_of
-  reached-bytes over e = r.here e ∙ ap (λ (n : Pass). n.bytes) (sym (at-end over))
+  reached-bytes over fits = r.here fits ∙ ap (λ (n : Pass). n.bytes) (sym (at-end over))
 
 -- counts of bytes that stand in the buffer
 pub kept-pass : (out' : List ℕ) (n : Tally) (r : Counts) → CountsAre n r → take r.written out' ≡ n.bytes → tally_of r out' ≡ n

@@ -1,5 +1,5 @@
 -- A pass: what its answer means by the rules.
-use Rattle.std.specs.Prelude.{ℕ, ◌+◌, ◌*◌, ◌≤◌, ◌<◌, ◌≡◌, List, length, take, Result, Ok, Err}
+use Rattle.std.specs.Prelude.{ℕ, ◌+◌, ◌*◌, ◌≤◌, ◌<◌, ◌≡◌, List, length, take, None, Result, Ok, Err}
 use Rattle.std.proofs.Math.Option.{Option, none}
 use Rattle.rules.specs.Letters as letters
 use Rattle.rules.specs.Set.{KmerSet, set_of, solid}
@@ -28,12 +28,12 @@ pub record Begun (set : opened.KmerSet) (read : List ℕ) (r : Place) : Type 0 w
     kmer = kmer;
     previous = asked.solid;
     at = set.head.k;
-    done = record { written = set.head.k; turns = 0; lookups = asked.lookups; attempts = 0; accepted = 0; support = 0; bases = 0 };
+    done = record { written = set.head.k; turns = 0; lookups = asked.lookups; attempts = 0; accepted = 0; support = None; bases = 0 };
   }
 
 -- Nothing done to a read of that length.
 abbrev pub unchanged_by : ℕ → Counts
-unchanged_by n = record { written = n; turns = 0; lookups = 0; attempts = 0; accepted = 0; support = 0; bases = 0 }
+unchanged_by n = record { written = n; turns = 0; lookups = 0; attempts = 0; accepted = 0; support = None; bases = 0 }
 
 -- What passes come to: the bytes of the last one, the sums of what they count, their support, and the sum of their w_of.
 pub record Tally : Type 0 where
@@ -72,7 +72,7 @@ tally_of n out =
       lookups = n.lookups;
       attempts = n.attempts;
       accepted = n.accepted;
-      support = support_of n.accepted n.support;
+      support = support_of n.support;
       bases = n.bases;
     }
 

@@ -3,12 +3,13 @@
 #![tactic(auto)]
 
 ghost use Rattle.std.specs.Prelude.{◌≡◌, ◌≤◌, length};
-ghost use Rattle.rules.specs.Job.{entry};
 ghost use Rattle.rules.specs.Calls.{max_read};
+ghost use Rattle.entries.specs.Entries.{entry_of};
 ghost use Rattle.turn.specs.Turn.{offered};
 ghost use Rattle.correct.specs.Pass.{Begun, unchanged_by, with_bases, one_pass, returned, PassIs, Passed};
 ghost use Rattle.correct.specs.Drive.{Driving, Driven};
 
+use entries::Entry;
 use kmer::Kmer;
 use set::KmerSet;
 use turn::Place;
@@ -50,15 +51,14 @@ pub fn unchanged(len: usize) -> Counts
 // to lay out anew for every base.
 pub fn turns_of(
     set: &KmerSet,
-    method: u8,
-    c: u8,
+    entry: Entry,
     first: Place,
     read: &[u8],
     limit: usize,
     out: &mut [u8],
 ) -> Result<Counts, Full>
-    requires { Driving set.now method c first read.now limit out.old }
-    ensures { Driven set.now method c first read.now limit out.old out.new result }
+    requires { Driving set.now entry first read.now limit out.old }
+    ensures { Driven set.now entry first read.now limit out.old out.new result }
 {
     let mut p = first;
     let mut ahead = scan::first_ahead(set.head.n, read.len());
@@ -73,7 +73,7 @@ pub fn turns_of(
             ahead = scan::read_ahead(set, kmer, read, p.at);
         }
         let from = p.done.written.min(limit);
-        p = turn::turn(set, method, c, p, read, &mut out[from..])?;
+        p = turn::turn(set, entry, p, read, &mut out[from..])?;
     }
     let bases = (read.len() - set.head.k) as u64;
     Ok(Counts { bases, ..p.done })
@@ -93,13 +93,12 @@ pub fn copied(read: &[u8], out: &mut [u8]) -> Result<Counts, Full>
 // One pass. Shorter than k: unchanged. Else the first k-mer is asked, and copied, and the turns come.
 pub fn correct(
     set: &KmerSet,
-    method: u8,
-    c: u8,
+    entry: Entry,
     read: &[u8],
     out: &mut [u8],
 ) -> Result<Counts, Full>
-    requires { (1 ≤ c) × (length read.now ≤ max_read) }
-    ensures { Passed out.old out.new (one_pass (offered set.now) (entry method c) read.now) result }
+    requires { length read.now ≤ max_read }
+    ensures { Passed out.old out.new (one_pass (offered set.now) (entry_of entry) read.now) result }
 {
     let k = set.head.k;
     if read.len() < k {
@@ -111,7 +110,7 @@ pub fn correct(
     }
     out[..k].copy_from_slice(&read[..k]);
     let first = begin(set, read);
-    let done = turns_of(set, method, c, first, read, room, out)?;
+    let done = turns_of(set, entry, first, read, room, out)?;
     if room < done.written {
         return Err(Full);
     }

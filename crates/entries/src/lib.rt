@@ -1,8 +1,16 @@
 // The entries of a job, each a method and its own confirm: document 02, W1.
 #![tactic(auto)]
 
-ghost use Rattle.std.specs.Prelude.{◌≡◌, ◌<◌};
+ghost use Rattle.std.specs.Prelude.{◌≡◌, ◌≤◌, ◌<◌};
 ghost use Rattle.rules.specs.Job.{method_byte, confirm_byte, entry_count};
+
+// A method byte, of which every value has a meaning in the rules, and a confirm.
+#[derive(Clone, Copy)]
+pub struct Entry {
+    pub method: u8,
+    pub confirm: u8,
+    ghost confirmed: { 1 ≤ confirm },
+}
 
 #[tactic(auto, unfolding(rules::specs::Job::entry_count))]
 pub fn count(job: &[u8]) -> usize
@@ -26,4 +34,15 @@ pub fn confirm_of(job: &[u8], i: usize) -> u8
     ensures { result ≡ confirm_byte job.now i }
 {
     job.get(2 * i + 1).copied().unwrap_or(0)
+}
+
+// Entry i of a job that passed check 4.
+pub fn entry_at(job: &[u8], i: usize) -> Entry
+    requires { (i < entry_count job.now) × (1 ≤ confirm_byte job.now i) }
+    ensures { (result.method ≡ method_byte job.now i) × (result.confirm ≡ confirm_byte job.now i) }
+{
+    Entry {
+        method: method_of(job, i),
+        confirm: confirm_of(job, i),
+    }
 }

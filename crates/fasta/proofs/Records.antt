@@ -29,7 +29,7 @@ use Rattle.set.specs.Counted.{set_with}
 use Rattle.support.specs.Support.{support_of}
 use Rattle.turn.specs.declared.Counts.{Counts}
 use Rattle.turn.specs.declared.Full.{Full}
-use Rattle.std.specs.Prelude.{Ok, Err, Result}
+use Rattle.std.specs.Prelude.{Option as Told, Ok, Err, Result}
 use Rattle.refusal.specs.declared.Refusal.{Refusal}
 use Rattle.report.specs.declared.Report.{Report}
 use Rattle.correct.specs.Pass.{Tally, tally_of, Small}
@@ -96,7 +96,7 @@ module _ (set : KmerSet) (es : List Entry) where
     pub small : Small (max_methods * n) (tally_of done o)
 
   pub begin : (rs : List Record) (o : List ℕ) → Going (length o) rs rs 0 nothing o
-  unfolding support_of weaker
+  unfolding weaker
   begin rs o =
       record {
         many = zero-add (length rs);
@@ -127,7 +127,7 @@ module _ (set : KmerSet) (es : List Entry) where
         (λ l. no-room-text set es n (room - done.written) r rest (omega (arith, l, g.length_is))) h
 
     -- A record more.
-    record-bytes : (m : Counts) (s : ℕ) → Weaker done m s → RecordIs set es name read done.written o o' (Ok m)
+    record-bytes : (m : Counts) (s : Told ℕ) → Weaker done m s → RecordIs set es name read done.written o o' (Ok m)
         → tally_of (summed done m s) o' ≡ behind (tally_of done o) (record_through set es r)
     record-bytes m s v h =
         let e = h.is in
@@ -137,11 +137,11 @@ module _ (set : KmerSet) (es : List Entry) where
           lookups = done.lookups + (e i).lookups;
           attempts = done.attempts + (e i).attempts;
           accepted = done.accepted + (e i).accepted;
-          support = (v ∙ ap (λ (p : Tally). weaker (support_of done.accepted done.support) p.support) e) i;
+          support = (v ∙ ap (λ (p : Tally). weaker (support_of done.support) p.support) e) i;
           bases = done.bases + (e i).bases;
         }
 
-    record-done : (m : Counts) (s : ℕ) → Weaker done m s → length es ≤ max_methods → RecordIs set es name read done.written o o' (Ok m)
+    record-done : (m : Counts) (s : Told ℕ) → Weaker done m s → length es ≤ max_methods → RecordIs set es name read done.written o o' (Ok m)
         → length o' ≡ length o → Going room rs rest (n + 1) (summed done m s) o'
     record-done m s v few h same =
         let left_is : room - done.written - length (text set es r) ≡ room - (done.written + m.written) = omega (arith, h.long) in
@@ -306,7 +306,7 @@ module _ (g : Given) where
           (record-full set es (length g.output) (records g.input) _ _ _ n done o o' here full h)
           o' (same ∙ i.length_is) (ap (λ (r : Refusal). Err r) c.0) (rw same-work at c.1)
 
-      pub fasta-next : (m : Counts) → RecordIs set es name-is (take j.read w) done.written o o' (Ok m) → (s : ℕ) → Weaker done m s → checked
+      pub fasta-next : (m : Counts) → RecordIs set es name-is (take j.read w) done.written o o' (Ok m) → (s : Told ℕ) → Weaker done m s → checked
           → going j.next (n + 1) (summed done m s) o'
       fasta-next m h s v k =
           record-done set es (length g.output) (records g.input) _ _ _ n done o o' here
@@ -319,7 +319,7 @@ module _ (g : Given) where
     pub fasta-small : (done.written ≤ length o) × (done.accepted < 2 ^ 54)
     fasta-small = (i.written, omega (arith, i.small.accepted, fasta-few))
 
-  pub fasta-fits : (from n : ℕ) (x y : Counts) (s : ℕ) (o : List ℕ) → going from n (summed x y s) o → checked → file_right g.input ≡ true → Fits x y
+  pub fasta-fits : (from n : ℕ) (x y : Counts) (s : Told ℕ) (o : List ℕ) → going from n (summed x y s) o → checked → file_right g.input ≡ true → Fits x y
   fasta-fits from n x y s o i k b =
       let few = fasta-few from n (summed x y s) o i k b in
       let l = i.small in

@@ -54,8 +54,8 @@ fn correct_records(
         place += 1;
         from = joined.next;
     }
-    let offered = !set.counts.is_empty();
-    Ok(report::accept(done, offered, output, work))
+    let has_counts = !set.counts.is_empty();
+    Ok(report::accept(done, has_counts, output, work))
 }
 
 // The FASTA call: corrects the reads of a file's records by the entries of the job, and puts the records into the output.

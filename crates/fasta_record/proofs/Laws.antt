@@ -29,7 +29,7 @@ same-pass n a b e = λ i. record {
   lookups = n.lookups;
   attempts = n.attempts;
   accepted = n.accepted;
-  support = support_of n.accepted n.support;
+  support = support_of n.support;
   bases = n.bases;
 }
 
@@ -66,7 +66,7 @@ module _ (set : KmerSet) (job work : List ℕ) (len room : ℕ) (none : entry_co
   none-full h l = rw no-entries (omega (arith, length-take-le len work l))
 
   pub none_done : len ≤ room → len ≤ length work → ThroughIs set (entries_of job) (take len work) room work (Ok (unchanged_by len))
-  unfolding through passes_of sum support_over result longest support_of
+  unfolding through passes_of sum support_over result longest
   none_done h l =
       rw no-entries (
         refl,

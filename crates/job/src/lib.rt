@@ -32,8 +32,8 @@ fn correct_one(
     let Ok(done) = corrected else {
         return Err(report::no_room(0, output, work));
     };
-    let offered = !set.counts.is_empty();
-    Ok(report::accept(done, offered, output, work))
+    let has_counts = !set.counts.is_empty();
+    Ok(report::accept(done, has_counts, output, work))
 }
 
 // The single-read call: corrects a read by the entries of the job, into the output. It and the batch call share no opening function: the

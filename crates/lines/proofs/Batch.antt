@@ -18,7 +18,7 @@ use Rattle.rules.specs.Calls.{Given, max_methods, max_lines, batch_right, too_lo
 use Rattle.input.specs.Input.{LineAt}
 use Rattle.turn.specs.declared.Counts.{Counts}
 use Rattle.turn.specs.declared.Full.{Full}
-use Rattle.std.specs.Prelude.{Result, Ok, Err}
+use Rattle.std.specs.Prelude.{Option as Told, None, Result, Ok, Err}
 use Rattle.refusal.specs.declared.Refusal.TheVariants.{NoRoom}
 use Rattle.refusal.specs.declared.Refusal.{Refusal}
 use Rattle.report.specs.declared.Report.{Report}
@@ -62,16 +62,15 @@ behind-assoc p q r = λ i. record {
 }
 
 -- s is the support of a and b together.
-abbrev pub Weaker : Counts → Counts → ℕ → Type 0
-Weaker a b s =
-    support_of (a.accepted + b.accepted) s ≡ weaker (support_of a.accepted a.support) (support_of b.accepted b.support)
+abbrev pub Weaker : Counts → Counts → Told ℕ → Type 0
+Weaker a b s = support_of s ≡ weaker (support_of a.support) (support_of b.support)
 
 abbrev pub nothing : Counts
-nothing = record { written = 0; turns = 0; lookups = 0; attempts = 0; accepted = 0; support = 0; bases = 0 }
+nothing = record { written = 0; turns = 0; lookups = 0; attempts = 0; accepted = 0; support = None; bases = 0 }
 
 -- What `Counts::default()` says.
 pub default-is : (n : Counts)
-    → (n.written ≡ 0) × ((n.turns ≡ 0) × ((n.lookups ≡ 0) × ((n.attempts ≡ 0) × ((n.accepted ≡ 0) × ((n.support ≡ 0) × (n.bases ≡ 0))))))
+    → (n.written ≡ 0) × ((n.turns ≡ 0) × ((n.lookups ≡ 0) × ((n.attempts ≡ 0) × ((n.accepted ≡ 0) × ((n.support ≡ None) × (n.bases ≡ 0))))))
     → n ≡ nothing
 default-is n z = λ i. record {
   written = z.0 i;
@@ -124,7 +123,7 @@ module _ (set : KmerSet) (es : List Entry) where
     pub small : Small (max_methods * line) (tally_of done o)
 
   pub begin : (reads : List (List ℕ)) (o : List ℕ) → Going (length o) reads reads 0 nothing o
-  unfolding support_of weaker
+  unfolding weaker
   begin reads o =
       record {
         lines = zero-add (length reads);
@@ -149,7 +148,7 @@ module _ (set : KmerSet) (es : List Entry) where
     line-full full h = g.left ∙ too-long-here set es ending line (room - done.written) read rest (omega (arith, g.length_is))
 
     -- A line more.
-    line-bytes : (r : Counts) (s : ℕ) → Weaker done r s → LineIs set es read done.written o o' (Ok r) → length o' ≡ length o
+    line-bytes : (r : Counts) (s : Told ℕ) → Weaker done r s → LineIs set es read done.written o o' (Ok r) → length o' ≡ length o
         → tally_of (summed done r s) o' ≡ behind (tally_of done o) (line_through set es read)
     line-bytes r s v h same =
         let e = h.0 in
@@ -159,11 +158,11 @@ module _ (set : KmerSet) (es : List Entry) where
           lookups = done.lookups + (e i).lookups;
           attempts = done.attempts + (e i).attempts;
           accepted = done.accepted + (e i).accepted;
-          support = (v ∙ ap (λ (p : Tally). weaker (support_of done.accepted done.support) p.support) e) i;
+          support = (v ∙ ap (λ (p : Tally). weaker (support_of done.support) p.support) e) i;
           bases = done.bases + (e i).bases;
         }
 
-    line-done : (r : Counts) (s : ℕ) → Weaker done r s → length es ≤ max_methods
+    line-done : (r : Counts) (s : Told ℕ) → Weaker done r s → length es ≤ max_methods
         → LineIs set es read done.written o o' (Ok r) → length o' ≡ length o
         → Going room reads rest (line + 1) (summed done r s) o'
     unfolding through
@@ -250,7 +249,7 @@ module _ (g : Given) where
           (line-full set es (length g.output) (lines g.input) _ _ line done o o' here full h)
           o' (same ∙ i.length_is) (ap (λ (r : Refusal). Err r) n.0) (rw same-work at n.1)
 
-      pub batch-next : (r : Counts) → LineIs set es line-is done.written o o' (Ok r) → (s : ℕ) → Weaker done r s → checked
+      pub batch-next : (r : Counts) → LineIs set es line-is done.written o o' (Ok r) → (s : Told ℕ) → Weaker done r s → checked
           → going (end + 1) (line + 1) (summed done r s) o'
       batch-next r h s v k =
           line-done set es (length g.output) (lines g.input) _ _ line done o o' here
@@ -263,7 +262,7 @@ module _ (g : Given) where
     pub batch-small : (done.written ≤ length o) × (done.accepted < 2 ^ 54)
     batch-small = (i.written, omega (arith, i.small.accepted, batch-few))
 
-  pub batch-fits : (from line : ℕ) (x y : Counts) (s : ℕ) (o : List ℕ) → going from line (summed x y s) o → checked → batch_right g.input ≡ true → Fits x y
+  pub batch-fits : (from line : ℕ) (x y : Counts) (s : Told ℕ) (o : List ℕ) → going from line (summed x y s) o → checked → batch_right g.input ≡ true → Fits x y
   batch-fits from line x y s o i k b =
       let few = batch-few from line (summed x y s) o i k b in
       let l = i.small in

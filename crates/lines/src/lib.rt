@@ -67,6 +67,6 @@ pub fn correct_lines(
         line += 1;
         from = end + 1;
     }
-    let offered = !set.counts.is_empty();
-    Ok(report::accept(done, offered, output, work))
+    let has_counts = !set.counts.is_empty();
+    Ok(report::accept(done, has_counts, output, work))
 }

@@ -41,13 +41,12 @@ fn count_lines(set: &KmerSet, job: &[u8], batch: &[u8], work: &mut [u8]) -> Need
     ensures { Exact (counted (offered set.now) job.now batch.now work.old)
         (Ok result) work.new }
 {
-    let method = entries::method_of(job, 0);
-    let c = entries::confirm_of(job, 0);
+    let entry = entries::entry_at(job, 0);
     let mut done = Need::default();
     let mut from = 0;
     while from < batch.len() {
         let end = input::line_end(batch, from);
-        let counted = count::count(set, method, c, &batch[from..end], work);
+        let counted = count::count(set, entry, &batch[from..end], work);
         // Work is as long as the batch (check 5), so Full never comes.
         let Ok(line) = counted else { unreachable!() };
         done = done.plus_line(line);

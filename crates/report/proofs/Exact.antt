@@ -1,8 +1,7 @@
 -- A call's answer and buffers are the rules'.
 use Prim.Native.Nat.{ℕ, ◌-◌, ◌≤◌}
 use native.Mathlib.Omega.{arith}
-use native.Mathlib.Decide.{ℕ_discrete}
-use borrow.Author.Tests.{lt-ltb, le-ltb, eq-eqb, ne_eqb}
+use borrow.Author.Tests.{lt-ltb}
 use native.Mathlib.Nat.{sub-zero}
 use mathlib.Core.Path.{◌≡◌, refl, sym, ap, ap₂, ◌∙◌}
 use mathlib.Core.Option.{Option, none, some}
@@ -27,11 +26,10 @@ use Rattle.refusal.specs.declared.Refusal.{Refusal}
 use Rattle.refusal.specs.declared.Refusal.TheVariants.{NoRoom}
 use Rattle.std.specs.Prelude.{Result, Ok, Err}
 use Rattle.refusal.specs.Refusal.{refusal_of}
-use Rattle.std.specs.Bool.{then_some}
 use Rattle.support.specs.Support.{support_of}
 use Rattle.correct.specs.Pass.{Tally, tally_of}
-use Rattle.report.specs.Answer.{support_told, report_of, answer_of, Exact, Ceiling}
-use Rattle.report.specs.Ending.{Cleared, supported_by, report_on}
+use Rattle.report.specs.Answer.{report_of, answer_of, Exact, Ceiling}
+use Rattle.report.specs.Ending.{Cleared, support_with, report_on}
 use Rattle.rules_laws.proofs.Calls.{corrected-full, corrected-fits}
 
 -- All of a call's reads: the bytes written, and what all passes count.
@@ -60,17 +58,12 @@ refused-exact g after r e =
     }
 
 -- The support that is told is the rules': none where no counts are offered.
-support-is : (offered : Bool) (counts : List ℕ) (done : Counts) (o : Option ℕ) → offered ≡ ltb 0 (length counts) → support_of done.accepted done.support ≡ o
-    → support_told (then_some (supported_by offered done) done.support) ≡ elim counts [ [] ↦ none | c ∷ cs ↦ o ]
-unfolding support_of
-support-is offered [] done o e h = rw e
-support-is offered (c ∷ cs) done o e h =
-    let some-offered : ltb 0 (length (c ∷ cs)) ≡ true = lt-ltb 0 (length (c ∷ cs)) (omega arith) in
-    rw (e ∙ some-offered) (go (ℕ_discrete done.accepted 0) ∙ h)
-  where
-    go : Dec (done.accepted ≡ 0) → support_told (then_some (ltb 0 done.accepted) done.support) ≡ support_of done.accepted done.support
-    go (yes z) = rw (le-ltb 0 done.accepted (omega arith), eq-eqb done.accepted 0 z, support_of)
-    go (no z) = rw (lt-ltb 0 done.accepted (omega arith), ne_eqb done.accepted 0 z, support_of)
+support-is : (has_counts : Bool) (counts : List ℕ) (done : Counts) (o : Option ℕ) → has_counts ≡ ltb 0 (length counts) → support_of done.support ≡ o
+    → support_of (support_with has_counts done.support) ≡ elim counts [ [] ↦ none | c ∷ cs ↦ o ]
+support-is has_counts [] done o e h = rw e
+support-is has_counts (c ∷ cs) done o e h =
+    let has-some : ltb 0 (length (c ∷ cs)) ≡ true = lt-ltb 0 (length (c ∷ cs)) (omega arith) in
+    rw (e ∙ has-some) h
 
 module _ (set : KmerSet) (es : List Entry) (ending : List ℕ) (g : Given) (reads : List (List ℕ)) where
   abbrev after : After
@@ -88,34 +81,34 @@ module _ (set : KmerSet) (es : List Entry) (ending : List ℕ) (g : Given) (read
         work = h.work ∙ ap (λ (a : After). a.work) (sym is);
       }
 
-  pub report-is : (done : Counts) (offered : Bool) (out : List ℕ) → offered ≡ ltb 0 (length set.counts) → done.written ≤ length out
-      → tally_of done out ≡ through_all set es ending reads → report_of (report_on offered done) ≡ report set es ending reads
+  pub report-is : (done : Counts) (has_counts : Bool) (out : List ℕ) → has_counts ≡ ltb 0 (length set.counts) → done.written ≤ length out
+      → tally_of done out ≡ through_all set es ending reads → report_of (report_on has_counts done) ≡ report set es ending reads
   unfolding report through_all
-  report-is done offered out f l e = λ i. record {
+  report-is done has_counts out f l e = λ i. record {
     written = (sym (length-take-le done.written out l) ∙ ap (λ (p : Tally). length p.bytes) e) i;
     turns = (e i).turns;
     lookups = (e i).lookups;
     attempts = (e i).attempts;
     accepted = (e i).accepted;
     yield = yield_of (e i).accepted (e i).attempts;
-    support = support-is offered set.counts done (support_over set (all_passes set es reads)) f (ap (λ (p : Tally). p.support) e) i;
+    support = support-is has_counts set.counts done (support_over set (all_passes set es reads)) f (ap (λ (p : Tally). p.support) e) i;
     quotient = quotient_of (e i).lookups (e i).bases;
     remainder = remainder_of (e i).lookups (e i).bases;
     bases = (e i).bases;
   }
 
   -- Accepted: out holds the results when the rest is cleared.
-  pub fits-exact : (done : Counts) (offered : Bool) (out : List ℕ) {r : Result Report Refusal} {o w : List ℕ} → offered ≡ ltb 0 (length set.counts) → too_long set es ending 0 (length g.output) reads ≡ none
+  pub fits-exact : (done : Counts) (has_counts : Bool) (out : List ℕ) {r : Result Report Refusal} {o w : List ℕ} → has_counts ≡ ltb 0 (length set.counts) → too_long set es ending 0 (length g.output) reads ≡ none
       → tally_of done out ≡ through_all set es ending reads → done.written ≤ length out
-      → length out ≡ length g.output → r ≡ Ok (report_on offered done) → Cleared done.written out (length g.work) o w → Exact after r o w
+      → length out ≡ length g.output → r ≡ Ok (report_on has_counts done) → Cleared done.written out (length g.work) o w → Exact after r o w
   unfolding through_all
-  fits-exact done offered out f e s l same a h =
+  fits-exact done has_counts out f e s l same a h =
       let is = corrected-fits set es ending g reads e in
       let t : take done.written out ≡ results set es ending reads = ap (λ (p : Tally). p.bytes) s in
       let left : length out - done.written ≡ length g.output - length (results set es ending reads) =
       omega (arith, length-take-le done.written out l, ap length t) in
       record {
-        answer = ap answer_of a ∙ ap accepted (report-is done offered out f l s) ∙ ap (λ (x : After). x.answer) (sym is);
+        answer = ap answer_of a ∙ ap accepted (report-is done has_counts out f l s) ∙ ap (λ (x : After). x.answer) (sym is);
         output = h.output ∙ ap₂ (λ (l : List ℕ) (n : ℕ). l ++ replicate n 0) t left ∙ ap (λ (a : After). a.output) (sym is);
         work = h.work ∙ ap (λ (a : After). a.work) (sym is);
       }

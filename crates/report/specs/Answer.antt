@@ -1,6 +1,5 @@
 -- What a call's answer means in the papers' terms, and what the calls promise.
-use Rattle.std.specs.Prelude.{ℕ, ◌≡◌, List, Option as Told, Some, None, Result, Ok, Err}
-use Rattle.std.proofs.Math.Option.{Option, none, some}
+use Rattle.std.specs.Prelude.{ℕ, ◌≡◌, List, Result, Ok, Err}
 use Rattle.rules.specs.Refusal.{Outcome, accepted, refused}
 use Rattle.rules.specs.Report as Reports
 use Rattle.rules.specs.Set.{KmerSet}
@@ -8,13 +7,9 @@ use Rattle.rules.specs.Job.{Entry}
 use Rattle.rules_ceiling.specs.Ceiling.{Demand3}
 use Rattle.rules.specs.Calls.{Given, After}
 use Rattle.refusal.specs.Refusal.{refusal_of}
+use Rattle.support.specs.Support.{support_of}
 use Rattle.report.specs.declared.Report.{Report}
 use Rattle.refusal.specs.declared.Refusal.{Refusal}
-
--- A support as it is told, or none.
-abbrev pub support_told : Told ℕ → Option ℕ
-support_told (Some support) = some support
-support_told None = none
 
 abbrev pub report_of : Report → Reports.Report
 report_of r =
@@ -25,7 +20,7 @@ report_of r =
       attempts = r.attempts;
       accepted = r.accepted;
       yield = r.yield_;
-      support = support_told r.support;
+      support = support_of r.support;
       quotient = r.quotient;
       remainder = r.remainder;
       bases = r.bases;

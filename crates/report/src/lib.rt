@@ -62,12 +62,12 @@ fn yield_of(accepted: u64, attempts: u64) -> u64
     }
 }
 
-// Accepted: the report on what was done. There is a support where counts are offered and something was accepted (document 02, W8). Lookups for
-// each base are a whole quotient and what is left; without bases both are 0 (document 02, W10).
+// Accepted: the report on what was done. A support is told where the set has counts (document 02, W8). Lookups for each base are a whole
+// quotient and what is left; without bases both are 0 (document 02, W10).
 #[tactic(auto, unfolding(rules::specs::Report::quotient_of, rules::specs::Report::remainder_of))]
-pub fn accept(done: Counts, offered: bool, output: &mut [u8], work: &mut [u8]) -> Report
+pub fn accept(done: Counts, has_counts: bool, output: &mut [u8], work: &mut [u8]) -> Report
     requires { (done.written ≤ length output.old) × (done.accepted < 2 ^ 54) }
-    ensures { (result ≡ report_on offered done)
+    ensures { (result ≡ report_on has_counts done)
         × Cleared done.written output.old (length work.old) output.new work.new }
 {
     clear_rest(done.written, output, work);
@@ -78,7 +78,7 @@ pub fn accept(done: Counts, offered: bool, output: &mut [u8], work: &mut [u8]) -
         attempts: done.attempts,
         accepted: done.accepted,
         yield_: yield_of(done.accepted, done.attempts),
-        support: (offered && 0 < done.accepted).then_some(done.support),
+        support: if has_counts { done.support } else { None },
         quotient: done.lookups.checked_div(done.bases).unwrap_or(0),
         remainder: done.lookups.checked_rem(done.bases).unwrap_or(0),
         bases: done.bases,

@@ -1,8 +1,8 @@
-// Document 02, W8: the counts behind corrections. A support is the smallest count behind the accepted corrections; there is none where
-// nothing was accepted, and the number beside it then says nothing.
+// Document 02, W8: the counts behind corrections. A support is the smallest count behind the accepted corrections, None where nothing was
+// accepted.
 #![tactic(auto)]
 
-ghost use Rattle.std.specs.Prelude.{◌≡◌, ◌+◌, length, get_or};
+ghost use Rattle.std.specs.Prelude.{◌≡◌, length, get_or};
 ghost use Rattle.rules.specs.Refusal.{unless};
 ghost use Rattle.rules.specs.Set.{KmerSet};
 ghost use Rattle.rules.specs.Calls.{counts_check};
@@ -23,13 +23,13 @@ pub fn check_counts(counts: &[u32], n: usize) -> bool
     counts.is_empty() || counts.len() == n
 }
 
-// The support of so many accepted corrections and so many more.
-pub fn weaker(accepted: u64, support: u32, more: u64, other: u32) -> u32
-    ensures { support_of (accepted + more) result ≡ rules.weaker (support_of accepted support) (support_of more other) }
+// The support of two groups of corrections together.
+#[tactic(auto, unfolding(rules::specs::Driver::weaker))]
+pub fn weaker(a: Option<u32>, b: Option<u32>) -> Option<u32>
+    ensures { support_of result ≡ rules.weaker (support_of a) (support_of b) }
 {
-    match (accepted, more) {
-        (0, _) => other,
-        (_, 0) => support,
-        _ => support.min(other),
+    match (a, b) {
+        (support, None) | (None, support) => support,
+        (Some(a), Some(b)) => Some(a.min(b)),
     }
 }

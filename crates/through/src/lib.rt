@@ -25,9 +25,8 @@ pub fn entry_pass(
         (one_pass (offered set.now) (entry_at job.now i) read.now)
         result }
 {
-    let method = entries::method_of(job, i);
-    let c = entries::confirm_of(job, i);
-    correct::correct(set, method, c, read, out)
+    let entry = entries::entry_at(job, i);
+    correct::correct(set, entry, read, out)
 }
 
 // The first pass, entry 0, from the read.
@@ -93,6 +92,7 @@ pub fn go_on(
         (length output.old) output.new result }
 {
     let mut done = first;
+    // By their numbers: an entry is two bytes of the job, and its number says which buffer its pass writes.
     for i in 1..entries::count(job) {
         let next = next_pass(set, job, i, done.written, output, work)?;
         done = Counts {

@@ -7,14 +7,16 @@ ghost use Rattle.rules.specs.Set.{set_of, solid, count_of};
 ghost use Rattle.rules.specs.Scan.{error_len};
 ghost use Rattle.kmer.specs.Kmer.{kmer_of, IsKmer};
 ghost use Rattle.scan.specs.Attempt.{Attempted};
-ghost use Rattle.turn.specs.Turn.{Fits, Summed, offered, attempt_of, kept_by, mended_by, kept, Mended, Turning, BadAt, TurnIs};
+ghost use Rattle.turn.specs.Turn.{Fits, Summed, offered, attempt_of, kept_by, mended_by, Kept, Mended, Turning, BadAt, TurnIs};
 
+use entries::Entry;
 use kmer::Kmer;
 use scan::Attempt;
 use scenario::{ScenarioOne, ScenarioTwo};
 use set::KmerSet;
 
-// What was written and counted, the smallest count behind the accepted corrections, if there are any, and the bases beyond the first k (W).
+// What was written and counted, the smallest count behind the accepted corrections (None where nothing was accepted), and the bases beyond the
+// first k (W), which a pass tells at its end.
 #[derive(Clone, Copy, Default)]
 pub struct Counts {
     pub written: usize,
@@ -22,12 +24,12 @@ pub struct Counts {
     pub lookups: u64,
     pub attempts: u64,
     pub accepted: u64,
-    pub support: u32,
+    pub support: Option<u32>,
     pub bases: u64,
 }
 
 impl Counts {
-    // The sums of these and more, and the smaller support.
+    // The sums of these and more, and their support.
     pub fn plus(self, more: Counts) -> Counts
         requires { Fits self more }
         ensures { Summed self more result }
@@ -38,14 +40,14 @@ impl Counts {
             lookups: self.lookups + more.lookups,
             attempts: self.attempts + more.attempts,
             accepted: self.accepted + more.accepted,
-            support: support::weaker(self.accepted, self.support, more.accepted, more.support),
+            support: support::weaker(self.support, more.support),
             bases: self.bases + more.bases,
         }
     }
 }
 
-// Where a pass stands: the k-mer, whether the previous one counts as solid, the index of the next base, and what is done: the bytes put out
-// are counted there, and written where there is room; its bases are told at the end.
+// Where a pass stands: its k-mer, whether that counts as solid (the turn that comes has it as the previous one), the index of the next base,
+// and what is done. `written` counts the bytes put out, which stand in the output where there is room; `bases` is 0 until the pass ends.
 #[derive(Clone, Copy)]
 pub struct Place {
     pub kmer: Kmer,
@@ -54,19 +56,21 @@ pub struct Place {
     pub done: Counts,
 }
 
-// The buffer is too short: for the result, or for GapSize to look back at its letters.
+// The buffer is too short: for what is put out, or for GapSize to look back at its letters.
 #[derive(Clone, Copy)]
 pub struct Full;
 
-// An attempt under a method, kmer being the bad k-mer and s the rest of the read at its bad base.
-fn correct_error(set: &KmerSet, method: u8, c: u8, kmer: Kmer, s: &[u8], out: &mut [u8]) -> Attempt
-    requires { IsKmer set.now.head.k kmer × (1 ≤ length s.now) × (1 ≤ c) }
+// An attempt under an entry, kmer being the bad k-mer and s the rest of the read at its bad base. The method stays a byte, since every byte
+// has a meaning in the rules: all but 1 to 3 are GapSize.
+fn correct_error(set: &KmerSet, entry: Entry, kmer: Kmer, s: &[u8], out: &mut [u8]) -> Attempt
+    requires { IsKmer set.now.head.k kmer × (1 ≤ length s.now) }
     ensures { Attempted set.now.head.k (kmer_of kmer) (count_of (offered set.now))
         (error_len set.now.head.k (solid (set_of set.now.bytes.now)) (kmer_of kmer) s.now).index out.old out.new
-        (attempt_of set.now method c s.now (kmer_of kmer))
+        (attempt_of set.now entry s.now (kmer_of kmer))
         result }
 {
-    match method {
+    let c = entry.confirm;
+    match entry.method {
         1 => exist::correct_error::<ScenarioOne>(set, c, 0, kmer, s, out),
         2 => exist::correct_error::<ScenarioTwo>(set, c, 0, kmer, s, out),
         3 => graph::correct_error(set, kmer, s, out),
@@ -85,7 +89,7 @@ fn keep(
     out: &mut [u8],
 ) -> Place
     requires { (p.at < 2 ^ 63) × Fits p.done (kept_by attempts lookups) }
-    ensures { (result ≡ kept p kmer solid attempts lookups) × (out.new ≡ put out.old 0 base) }
+    ensures { Kept p kmer solid attempts lookups result × (out.new ≡ put out.old 0 base) }
 {
     if 0 < out.len() {
         out[0] = base;
@@ -94,13 +98,13 @@ fn keep(
         kmer,
         previous: solid,
         at: p.at + 1,
-        done: Counts {
-            written: p.done.written + 1,
-            turns: p.done.turns + 1,
-            lookups: p.done.lookups + lookups,
-            attempts: p.done.attempts + attempts,
-            ..p.done
-        },
+        done: p.done.plus(Counts {
+            written: 1,
+            turns: 1,
+            lookups,
+            attempts,
+            ..Counts::default()
+        }),
     }
 }
 
@@ -124,7 +128,7 @@ fn mend(
         lookups,
         attempts: 1,
         accepted: 1,
-        support,
+        support: Some(support),
         bases: 0,
     };
     Place {
@@ -138,20 +142,19 @@ fn mend(
 // A turn at a base whose k-mer, asked by that many lookups, is not solid while the previous was.
 fn bad_base(
     set: &KmerSet,
-    method: u8,
-    c: u8,
+    entry: Entry,
     p: Place,
     bad: Kmer,
     asked: u64,
     read: &[u8],
     out: &mut [u8],
 ) -> Result<Place, Full>
-    requires turning { Turning set.now method c p read.now }
+    requires turning { Turning set.now entry p read.now }
     requires bad_at { BadAt set.now p bad asked read.now }
-    ensures { TurnIs set.now method c p read.now out.old out.new result }
+    ensures { TurnIs set.now entry p read.now out.old out.new result }
 {
     let at = p.at;
-    match correct_error(set, method, c, bad, &read[at..], out) {
+    match correct_error(set, entry, bad, &read[at..], out) {
         Attempt::Mend(letters, resume, lookups, support, kmer) => Ok(mend(
             p,
             kmer,
@@ -169,14 +172,13 @@ fn bad_base(
 // One turn. What it puts out stands at the start of `out` if there is room for it, and is counted.
 pub fn turn(
     set: &KmerSet,
-    method: u8,
-    c: u8,
+    entry: Entry,
     p: Place,
     read: &[u8],
     out: &mut [u8],
 ) -> Result<Place, Full>
-    requires { Turning set.now method c p read.now }
-    ensures { TurnIs set.now method c p read.now out.old out.new result }
+    requires { Turning set.now entry p read.now }
+    ensures { TurnIs set.now entry p read.now out.old out.new result }
 {
     let base = read[p.at];
     let next = scan::add_base(p.kmer, base, set.head);
@@ -187,5 +189,5 @@ pub fn turn(
     if !p.previous {
         return Ok(keep(p, base, next, false, 0, asked.lookups, out));
     }
-    bad_base(set, method, c, p, next, asked.lookups, read, out)
+    bad_base(set, entry, p, next, asked.lookups, read, out)
 }

@@ -6,11 +6,9 @@ use mathlib.Core.List.{List, ◌++◌}
 use lib.ListN.{length, take, drop}
 use lib.Seq.{take-append_seam}
 use Prim.Native.Nat.{ℕ}
-use Rattle.support.specs.Support.{support_of}
 use Rattle.correct.proofs.copied.Goals as goal
 
 pub returns : goal.returns
-unfolding support_of
 returns c =
     let read = c.args.read.now in
     let rest = drop (length read) c.args.out.now in

@@ -6,7 +6,8 @@ use mathlib.Core.List.{List, ◌++◌}
 use lib.ListN.{length, take, drop, length-append, length-drop}
 use lib.Seq.{length-take-le, take-append_seam}
 use Rattle.std.specs.Prelude.{Result, Ok, Err, IsErr}
-use Rattle.rules.specs.Job.{entry, pass}
+use Rattle.rules.specs.Job.{pass}
+use Rattle.entries.specs.Entries.{entry_of}
 use Rattle.turn.specs.declared.Counts.{Counts}
 use Rattle.turn.specs.declared.Place.{Place}
 use Rattle.turn.specs.declared.Full.{Full}
@@ -21,19 +22,19 @@ use Rattle.correct.proofs.correct.Goals as goal
 
 -- The pass.
 abbrev passed : Start → Tally
-passed c = (let a = c.args in one_pass (offered a.set.now) (entry a.method a.c) a.read.now)
+passed c = (let a = c.args in one_pass (offered a.set.now) (entry_of a.entry) a.read.now)
 
 -- Its counts are those of one pass.
 one-pass : (c : Start) → Small 1 (passed c)
 one-pass c =
     let a = c.args in
-    one-pass-small a.set.now a.method a.c a.read.now c.requires.1 (pass-limited a.set.now a.c c.requires.0 c.ranges.c.fits a.method a.read.now)
+    one-pass-small a.set.now a.entry a.read.now c.requires (pass-limited a.set.now a.entry (omega (arith, c.well_formed)) a.read.now)
 
 pub returns-then-read-k : goal.returns-then-read-k
 returns-then-read-k c =
     let a = c.args in
     record {
-      is = rw (pass-short a.set.now a.method a.c a.read.now c.if-read-k.true) c.copied.ensures;
+      is = rw (pass-short a.set.now a.entry a.read.now c.if-read-k.true) c.copied.ensures;
       room = c.copied.auto.out;
       small = one-pass (goal.at.returns-then-read-k c).Start;
     }
@@ -43,7 +44,7 @@ unfolding one_pass
 returns-then-room-k c =
     let a = c.args in
     record {
-      is = omega (arith, pass-long a.set.now a.method a.c a.read.now c.if-read-k.false, c.if-room-k.true);
+      is = omega (arith, pass-long a.set.now a.entry a.read.now c.if-read-k.false, c.if-room-k.true);
       room = refl;
       small = one-pass (goal.at.returns-then-room-k c).Start;
     }
@@ -84,11 +85,11 @@ first-put c =
 -- The pass from its first place.
 begun : (c : After-begin-first)
     → let a = c.args in
-    end_of a.set.now a.method a.c (state_of c.begin-first.result a.read.now (take a.set.now.head.k a.read.now))
-    ≡ pass (offered a.set.now) (entry a.method a.c) a.read.now
+    end_of a.set.now a.entry (state_of c.begin-first.result a.read.now (take a.set.now.head.k a.read.now))
+    ≡ pass (offered a.set.now) (entry_of a.entry) a.read.now
 begun c =
     let a = c.args in
-    pass-begun a.set.now a.method a.c a.read.now c.begin-first.ensures c.if-read-k.false
+    pass-begun a.set.now a.entry a.read.now c.begin-first.ensures c.if-read-k.false
 
 pub turns_of-requires : goal.turns_of-requires
 turns_of-requires c =
@@ -97,14 +98,13 @@ turns_of-requires c =
     let at = (goal.at.turns_of-requires c).After-begin-first in
     let put = first-put at in
     record {
-      confirm = c.requires.0;
       long = c.if-read-k.false;
-      stands = begun-stands a.set.now a.method a.c a.read.now b c.if-read-k.false;
+      stands = begun-stands a.set.now a.entry a.read.now b c.if-read-k.false;
       put = take a.set.now.head.k a.read.now;
       many = put.0;
       here = put.1;
       countable = subst Countable (sym (begun at))
-          (countable _ _ c.requires.1 (pass-limited a.set.now a.c c.requires.0 c.ranges.c.fits a.method a.read.now));
+          (countable _ _ c.requires (pass-limited a.set.now a.entry (omega (arith, c.well_formed)) a.read.now));
       room = omega (arith, buffer-length (goal.at.After-begin-first at).After-copy_from_slice);
     }
 
@@ -124,7 +124,7 @@ Gave c = let a = c.args in DriveIs (length a.out.now) a.read.now (started c) (af
 gave : (c : After-turns_of) → Gave c c.turns_of.result
 gave c =
     let a = c.args in
-    let tally = tally-begun a.set.now a.method a.c a.read.now c.begin-first.ensures c.if-read-k.false in
+    let tally = tally-begun a.set.now a.entry a.read.now c.begin-first.ensures c.if-read-k.false in
     let put = first-put (goal.at.After-turns_of c).After-begin-first in
     subst (λ (n : Tally). DriveIs (length a.out.now) a.read.now (started c) (after c) n c.turns_of.result) tally
     (c.turns_of.ensures (take a.set.now.head.k a.read.now) put.0 put.1)

@@ -23,19 +23,18 @@ loop-p-init c =
 -- The bytes put out so far.
 reached : (c : At-loop-p)
     → let a = c.args in
-    Reached a.set.now a.method a.c c.loop-p.p a.read.now a.limit c.loop-p.out
-    (end_of a.set.now a.method a.c (state_of a.first a.read.now c.requires.put))
+    Reached a.set.now a.entry c.loop-p.p a.read.now a.limit c.loop-p.out
+    (end_of a.set.now a.entry (state_of a.first a.read.now c.requires.put))
 reached c = let q = c.requires in c.loop-p.invariant.2 q.put q.many q.here
 
 -- What a turn asks.
 turning : (c : In-loop-p)
     → let a = c.args in
-    Turning a.set.now a.method a.c c.loop-p.p a.read.now
+    Turning a.set.now a.entry c.loop-p.p a.read.now
 turning c =
     let q = c.requires in
     let r = reached (goal.at.In-loop-p c).At-loop-p in
     record {
-      confirm = q.confirm;
       stands = c.loop-p.invariant.0;
       more = c.loop-p-test.true;
       put = r.put;
@@ -69,7 +68,7 @@ after c = (let out = c.loop-p.out in take (from c) out ++ (part c ++ drop (lengt
 abbrev Did : After-turn → Result Place Full → Type 0
 Did c =
     let a = c.args in
-    TurnIs a.set.now a.method a.c c.loop-p.p a.read.now (lent c) (part c)
+    TurnIs a.set.now a.entry c.loop-p.p a.read.now (lent c) (part c)
 
 inside : (c : After-turn) → from c ≤ length c.loop-p.out
 inside c = below_out (goal.at.After-turn c).At-loop-p (from_is c)
@@ -92,7 +91,7 @@ room c =
 -- what was put out, whatever before
 went : (c : In_ok-p) (put : List ℕ)
     → let a = c.args in
-    Went a.set.now a.method a.c c.loop-p.p a.read.now put (part (goal.at.In_ok-p c).After-turn) c.in_ok-p.p
+    Went a.set.now a.entry c.loop-p.p a.read.now put (part (goal.at.In_ok-p c).After-turn) c.in_ok-p.p
 went c = ((subst (Did (goal.at.In_ok-p c).After-turn) c.in_ok-p.was c.turn.ensures).0)
 
 pub loop-p-smaller : goal.loop-p-smaller

@@ -17,7 +17,7 @@ invariant-loop-p l =
     Stands l.set.head.k l.p l.read
     × (length l.out ≡ length l.initial.out)
     × ((put : List ℕ) → length put ≡ first.done.written → (first.done.written ≤ l.limit → take first.done.written l.initial.out ≡ put)
-    → Reached l.set l.method l.c l.p l.read l.limit l.out (end_of l.set l.method l.c (state_of first l.read put)))
+    → Reached l.set l.entry l.p l.read l.limit l.out (end_of l.set l.entry (state_of first l.read put)))
 
 abbrev pub decreases-loop-p : goal.decreases-loop-p
-decreases-loop-p l = left l.set.head.k (solid (offered l.set)) (attempt_of l.set l.method l.c) (kmer_of l.p.kmer) (drop l.p.at l.read)
+decreases-loop-p l = left l.set.head.k (solid (offered l.set)) (attempt_of l.set l.entry) (kmer_of l.p.kmer) (drop l.p.at l.read)

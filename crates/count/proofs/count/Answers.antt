@@ -4,9 +4,9 @@ use mathlib.Core.List.{List}
 use native.Mathlib.Omega.{arith}
 use lib.ListN.{length, take}
 use lib.Seq.{length-take-le}
-use Rattle.rules.specs.Job.{entry, pass}
+use Rattle.rules.specs.Job.{pass}
+use Rattle.entries.specs.Entries.{entry_of}
 use Rattle.set.proofs.Opened.{opened-k-low}
-use Rattle.support.specs.Support.{support_of}
 use Rattle.turn.specs.declared.Place.{Place}
 use Rattle.turn.specs.Turn.{Countable, offered}
 use Rattle.std.specs.Prelude.{Result, Ok, Err}
@@ -22,12 +22,12 @@ use Rattle.count.proofs.count.Goals as goal
 
 -- The pass, and what it can count.
 abbrev passed : Start → Tally
-passed c = (let a = c.args in one_pass (offered a.set.now) (entry a.method a.c) a.read.now)
+passed c = (let a = c.args in one_pass (offered a.set.now) (entry_of a.entry) a.read.now)
 
-limited : (c : Start) → (let a = c.args in Limited (length a.read.now) (pass (offered a.set.now) (entry a.method a.c) a.read.now))
+limited : (c : Start) → (let a = c.args in Limited (length a.read.now) (pass (offered a.set.now) (entry_of a.entry) a.read.now))
 limited c =
     let a = c.args in
-    pass-limited a.set.now a.c c.requires.0 c.ranges.c.fits a.method a.read.now
+    pass-limited a.set.now a.entry (omega (arith, c.well_formed)) a.read.now
 
 counted : (c : Start) (r : Result Counts Full) → CountIs (length c.args.read.now) (length c.args.spare.now) (passed c) r
     → Counted (length c.args.read.now) (length c.args.spare.now) (passed c) r
@@ -37,15 +37,14 @@ counted c r h =
     record {
       is = h;
       bytes = (limited c).bytes;
-      small = one-pass-small a.set.now a.method a.c a.read.now c.requires.1 (limited c);
+      small = one-pass-small a.set.now a.entry a.read.now c.requires (limited c);
     }
 
 pub returns-then-read-set : goal.returns-then-read-set
-unfolding support_of
 returns-then-read-set c =
     let a = c.args in
     counted (goal.at.returns-then-read-set c).Start _
-    (rw (c.unchanged.ensures, pass-short a.set.now a.method a.c a.read.now c.if-read-set.true)
+    (rw (c.unchanged.ensures, pass-short a.set.now a.entry a.read.now c.if-read-set.true)
     (record { bytes = refl; turns = refl; lookups = refl; attempts = refl; accepted = refl; support = refl; bases = refl }))
 
 -- The first k-mer counts as put out.
@@ -64,14 +63,13 @@ turns_of-requires c =
     let a = c.args in
     let le = c.if-read-set.false in
     record {
-      confirm = c.requires.0;
       long = le;
-      stands = begun-stands a.set.now a.method a.c a.read.now c.begin-first.ensures le;
+      stands = begun-stands a.set.now a.entry a.read.now c.begin-first.ensures le;
       put = take a.set.now.head.k a.read.now;
       many = first-many (goal.at.turns_of-requires c).After-begin-first;
       here = none_kept (goal.at.turns_of-requires c).After-begin-first;
-      countable = subst Countable (sym (pass-begun a.set.now a.method a.c a.read.now c.begin-first.ensures le))
-          (countable _ _ c.requires.1 (limited (goal.at.turns_of-requires c).Start));
+      countable = subst Countable (sym (pass-begun a.set.now a.entry a.read.now c.begin-first.ensures le))
+          (countable _ _ c.requires (limited (goal.at.turns_of-requires c).Start));
       room = omega arith;
     }
 
@@ -83,7 +81,7 @@ counted-pass read out out' n (Err full) h = omega (arith, h.1)
 pub returns : goal.returns
 returns c =
     let a = c.args in
-    let begun = tally-begun a.set.now a.method a.c a.read.now c.begin-first.ensures c.if-read-set.false in
+    let begun = tally-begun a.set.now a.entry a.read.now c.begin-first.ensures c.if-read-set.false in
     counted (goal.at.returns c).Start _
     (subst (λ (n : Tally). CountIs (length a.read.now) (length a.spare.now) n c.turns_of.result) begun
     (counted-pass a.read.now a.spare.now _ _ c.turns_of.result (c.turns_of.ensures (take a.set.now.head.k a.read.now) (first-many (goal.at.returns c).After-begin-first) (none_kept (goal.at.returns c).After-begin-first))))

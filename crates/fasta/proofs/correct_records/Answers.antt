@@ -6,8 +6,10 @@ use lib.ListN.{length, drop, length-take, length-drop}
 use Rattle.rules.specs.Calls.{Given}
 use Rattle.rules_fasta.specs.Fasta.{max_records}
 use Rattle.report.specs.Answer.{given}
-use Rattle.support.specs.Support.{weaker_of}
-use Rattle.support.proofs.Laws.{weaker-of}
+use Rattle.std.specs.Prelude.{Option as Told}
+use Rattle.rules.specs.Driver.{weaker}
+use Rattle.support.specs.Support.{support_of}
+use Rattle.support.proofs.Laws.{told, told-is}
 use Rattle.std.proofs.lemmas.Grind.{common_steps}
 use Rattle.turn.specs.Turn.{Fits, summed}
 use Rattle.lines.proofs.Batch.{Weaker, default-is}
@@ -65,7 +67,7 @@ returns-in_default c =
     c.no_room.ensures
 
 -- The record is done, and the next one is due; s is the support with it.
-next : (c : In-Ok) (s : ℕ) →
+next : (c : In-Ok) (s : Told ℕ) →
     Weaker c.loop-from.done c.in-Ok.more s
     → going (call (goal.at.In-Ok c).After-join-before) c.join-joined.result.next (c.loop-from.place + 1) (summed c.loop-from.done c.in-Ok.more s)
     c.correct_record-corrected.new.output
@@ -79,8 +81,8 @@ fits : (c : In-Ok) → Fits c.loop-from.done c.in-Ok.more × (c.loop-from.place 
 fits c =
     let d = c.loop-from.done in
     let r = c.in-Ok.more in
-    let s = weaker_of d.accepted d.support r.accepted r.support in
-    let n = next c s (weaker-of d.accepted d.support r.accepted r.support) in
+    let s = told (weaker (support_of d.support) (support_of r.support)) in
+    let n = next c s (told-is _) in
     let g = call (goal.at.In-Ok c).After-join-before in
     (fasta-fits g c.join-joined.result.next _ _ _ s _ n c.requires.0 c.requires.1, fasta-few g c.join-joined.result.next _ _ _ n c.requires.0 c.requires.1)
 

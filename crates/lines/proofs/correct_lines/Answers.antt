@@ -5,8 +5,10 @@ use mathlib.Core.List.{[]}
 use borrow.Author.Rules.{rules}
 use Rattle.std.proofs.lemmas.Grind.{common_steps}
 use Rattle.rules.specs.Calls.{Given, max_lines}
-use Rattle.support.specs.Support.{weaker_of}
-use Rattle.support.proofs.Laws.{weaker-of}
+use Rattle.std.specs.Prelude.{Option as Told}
+use Rattle.rules.specs.Driver.{weaker}
+use Rattle.support.specs.Support.{support_of}
+use Rattle.support.proofs.Laws.{told, told-is}
 use Rattle.turn.specs.Turn.{Fits, summed}
 use Rattle.report.specs.Answer.{given}
 use Rattle.report.proofs.Within.{ends-in-10}
@@ -34,7 +36,7 @@ returns-in_default c =
     batch-no-room (call (goal.at.returns-in_default c).Start) _ _ _ _ _ _ i.2 c.line_end-end.ensures kept.output _ c.in_default.ensures c.correct_line-corrected.new.work (kept.work ∙ i.1) c.no_room.ensures
 
 -- The line is done, and the next one is due; s is the support with it.
-next : (c : In-Ok) (s : ℕ) →
+next : (c : In-Ok) (s : Told ℕ) →
     Weaker c.loop-from.done c.in-Ok.more s
     → going (call (goal.at.In-Ok c).Start) (c.line_end-end.result + 1) (c.loop-from.line + 1) (summed c.loop-from.done c.in-Ok.more s)
     c.correct_line-corrected.new.output
@@ -46,8 +48,8 @@ fits : (c : In-Ok) → Fits c.loop-from.done c.in-Ok.more × (c.loop-from.line +
 fits c =
     let d = c.loop-from.done in
     let r = c.in-Ok.more in
-    let s = weaker_of d.accepted d.support r.accepted r.support in
-    let n = next c s (weaker-of d.accepted d.support r.accepted r.support) in
+    let s = told (weaker (support_of d.support) (support_of r.support)) in
+    let n = next c s (told-is _) in
     let g = call (goal.at.In-Ok c).Start in
     (batch-fits g (c.line_end-end.result + 1) _ _ _ s _ n c.requires.0 c.requires.1, batch-few g (c.line_end-end.result + 1) _ _ _ n c.requires.0 c.requires.1)
 

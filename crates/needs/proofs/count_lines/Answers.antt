@@ -1,13 +1,14 @@
-use Prim.Native.Nat.{ℕ, ◌-◌}
+use Prim.Native.Nat.{ℕ, ◌-◌, ◌<◌}
 use native.Mathlib.Omega.{arith}
 use mathlib.Core.Path.{◌≡◌, refl, sym, ap, ap₂, ◌∙◌}
 use mathlib.Core.List.{List, [], ◌∷◌}
 use lib.ListN.{drop, length-take, length-drop}
 use Rattle.std.proofs.lemmas.Grind.{common_steps}
 use Rattle.rules.specs.Refusal.{accepted}
-use Rattle.rules.specs.Job.{Entry, entry, entries_of, lines}
+use Rattle.rules.specs.Job.{Entry, entry, entry_count, entries_of, lines}
 use Rattle.rules_needs.specs.Needs.{needed_for}
 use Rattle.rules_laws.proofs.Job.{confirmed-entry}
+use Rattle.entries.specs.Entries.{entry_of}
 use Rattle.turn.specs.Turn.{offered}
 use Rattle.report.proofs.Within.{ends-in-10}
 use Rattle.needs.proofs.Lines.{sole-entry, begin, next, over}
@@ -21,15 +22,18 @@ pub line_end-end-requires : goal.line_end-end-requires
 line_end-end-requires c =
     (c.loop-from-test.true, ends-in-10 c.args.batch.now c.requires.1 (omega (arith, c.loop-from-test.true)))
 
--- The confirm is at least 1, and a line is no longer than the batch.
+pub entry_at-entry-requires : goal.entry_at-entry-requires
+entry_at-entry-requires c =
+    let b = c.requires.0 in
+    let some : 0 < entry_count c.args.job.now = omega (arith, b.one) in
+    (some, confirmed-entry c.args.job.now 0 b.confirms some)
+
+-- A line is no longer than the batch.
 pub count-counted-requires : goal.count-counted-requires
 count-counted-requires c =
-    let b = c.requires.0 in
     let from = c.loop-from.from in
-    let n = c.line_end-end.result - from in (
-      omega (arith, c.confirm_of-c.ensures, confirmed-entry c.args.job.now 0 b.confirms (omega (arith, b.one))),
-      omega (arith, b.input, length-take n (drop from c.args.batch.now), length-drop from c.args.batch.now),
-    )
+    let n = c.line_end-end.result - from in
+    omega (arith, c.requires.0.input, length-take n (drop from c.args.batch.now), length-drop from c.args.batch.now)
 
 -- The line is counted, and the next one is due.
 pub loop-from-preserved : goal.loop-from-preserved
@@ -42,10 +46,10 @@ loop-from-preserved c =
 
 -- The job's one entry.
 sole : (c : At-loop-from)
-    → entries_of c.args.job.now ≡ entry c.method_of-method.result c.confirm_of-c.result ∷ []
+    → entries_of c.args.job.now ≡ entry_of c.entry_at-entry.result ∷ []
 sole c =
-    sole-entry c.args.job.now c.requires.0.one
-    ∙ ap₂ (λ (m c : ℕ). entry m c ∷ []) (sym c.method_of-method.ensures) (sym c.confirm_of-c.ensures)
+    let e = c.entry_at-entry.ensures in
+    sole-entry c.args.job.now c.requires.0.one ∙ ap₂ (λ (m c : ℕ). entry m c ∷ []) (sym e.0) (sym e.1)
 
 pub returns : goal.returns
 returns c =

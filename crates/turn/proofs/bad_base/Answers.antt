@@ -71,7 +71,7 @@ returns-in-Refused c =
     let r = refused (goal.at.returns-in-Refused c).In-Refused in (
       λ put. rw e.1
           (kept-went t put _ false 1 _ c.correct_error.new.out c.keep.result c.requires.bad_at.kmer (refused-keep t put _ _ c.requires.bad_at _ _ _ r) e.0),
-      record { kmer = rw e.0 c.requires.bad_at.kmer.kmer; at = rw e.0 (omega (arith, t.more)) },
+      record { kmer = rw e.0.is c.requires.bad_at.kmer.kmer; at = rw e.0.is (omega (arith, t.more)) },
     )
 
 pub returns-in-Full : goal.returns-in-Full

@@ -31,7 +31,7 @@ solid-kept : (c : Then-asked) (put : List ℕ)
     let st = state_of a.p a.read.now put in
     let b = get_or a.read.now a.p.at 0 in
     let rest = drop (a.p.at + 1) a.read.now in
-    turn_of a.set.now a.method a.c st b rest ≡ keep_base st b rest (add_base a.set.now.head.k (kmer_of a.p.kmer) b) true 0 c.ask-asked.result.lookups
+    turn_of a.set.now a.entry st b rest ≡ keep_base st b rest (add_base a.set.now.head.k (kmer_of a.p.kmer) b) true 0 c.ask-asked.result.lookups
 solid-kept c put = solid-turn c.requires put c.ask-asked.result (answer (goal.at.Then-asked c).After-ask-asked) c.if-asked.true
 
 -- the base of a k-mer that is not solid, after one that did not count as solid
@@ -40,7 +40,7 @@ quiet-kept : (c : Then-not-p) (put : List ℕ)
     let st = state_of a.p a.read.now put in
     let b = get_or a.read.now a.p.at 0 in
     let rest = drop (a.p.at + 1) a.read.now in
-    turn_of a.set.now a.method a.c st b rest ≡ keep_base st b rest (add_base a.set.now.head.k (kmer_of a.p.kmer) b) false 0 c.ask-asked.result.lookups
+    turn_of a.set.now a.entry st b rest ≡ keep_base st b rest (add_base a.set.now.head.k (kmer_of a.p.kmer) b) false 0 c.ask-asked.result.lookups
 quiet-kept c put =
     quiet-turn c.requires put c.ask-asked.result (answer (goal.at.Then-not-p c).After-ask-asked) c.if-asked.false (not-true _ c.if-not-p.true)
 
@@ -56,7 +56,7 @@ returns-then-asked c =
     let e = c.keep.ensures in
     let h = c.add_base-next.ensures in (
       λ put. rw e.1 (kept-went c.requires put _ true 0 _ c.args.out.now c.keep.result h (solid-kept (goal.at.returns-then-asked c).Then-asked put) e.0),
-      record { kmer = rw e.0 h.kmer; at = rw e.0 (omega (arith, c.requires.more)) },
+      record { kmer = rw e.0.is h.kmer; at = rw e.0.is (omega (arith, c.requires.more)) },
     )
 
 pub keep-requires-then-not-p : goal.keep-requires-then-not-p
@@ -71,7 +71,7 @@ returns-then-not-p c =
     let e = c.keep-then-not-p.ensures in
     let h = c.add_base-next.ensures in (
       λ put. rw e.1 (kept-went c.requires put _ false 0 _ c.args.out.now c.keep-then-not-p.result h (quiet-kept (goal.at.returns-then-not-p c).Then-not-p put) e.0),
-      record { kmer = rw e.0 h.kmer; at = rw e.0 (omega (arith, c.requires.more)) },
+      record { kmer = rw e.0.is h.kmer; at = rw e.0.is (omega (arith, c.requires.more)) },
     )
 
 pub bad_base-requires : goal.bad_base-requires
