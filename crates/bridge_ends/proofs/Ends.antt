@@ -36,15 +36,14 @@ module _ (k c : ℕ) (small : c < 4 ^ k) where
       add-known k (known (c / 4 ^ suc r)) (c / 4 ^ r % 4) refl (omega arith)
       ∙ ap known (ap (λ (n : ℕ). n % 4 ^ k) d ∙ mod-eq_of_lt lt)
 
-  -- the same as the code has it, after i letters
-  pub letter-on : (i : ℕ) → i < k → add k (known (c / 4 ^ (k - i))) (c / 2 ^ (2 * (k - 1 - i)) % 4) ≡ known (c / 4 ^ (k - (i + 1)))
-  letter-on i h =
-      let r : k - i ≡ suc (k - 1 - i) = omega arith in
-      let n : k - (i + 1) ≡ k - 1 - i = omega arith in
-      rw (r, n, two-four (k - 1 - i)) (one_more (k - 1 - i))
+  -- the same as the code has it, with n letters to come
+  pub letter-on : (n : ℕ) → 1 ≤ n → n ≤ k → add k (known (c / 4 ^ n)) (c / 2 ^ (2 * (n - 1)) % 4) ≡ known (c / 4 ^ (n - 1))
+  letter-on n h le =
+      let r : n ≡ suc (n - 1) = omega arith in
+      ap (λ (m : ℕ). add k (known (c / 4 ^ m)) (c / 2 ^ (2 * (n - 1)) % 4)) r ∙ rw (two-four (n - 1)) (one_more (n - 1))
 
-  pub none_left : (i : ℕ) → k ≤ i → known (c / 4 ^ (k - i)) ≡ known c
-  none_left i h = let e : k - i ≡ 0 = omega arith in ap (λ (n : ℕ). known (c / 4 ^ n)) e ∙ ap known (div-one c)
+  pub none_left : (n : ℕ) → n ≡ 0 → known (c / 4 ^ n) ≡ known c
+  none_left n e = ap (λ (m : ℕ). known (c / 4 ^ m)) e ∙ ap known (div-one c)
 
 -- what is known of it
 pub known-all : (y : Kmer) {c : ℕ} → kmer_of y ≡ known c → y.unknown ≡ 0

@@ -16,8 +16,7 @@ fn kmer_of(code: u64, head: Header) -> Kmer
     ensures { HasLetters head.k (known code) result }
 {
     let mut kmer = kmer::all_a(head);
-    for i in 0..head.k {
-        let behind = head.k - 1 - i;
+    for behind in (0..head.k).rev() {
         kmer = kmer::add_nuc_to_end(kmer, (code >> (2 * behind)) % 4, head);
     }
     kmer

@@ -38,7 +38,8 @@ fn ended(end: End, lookups: u64) -> Search
     }
 }
 
-// A k-mer looks at its letters.
+// A k-mer looks at its letters. Set, end and budget stay parameters, since methods of a struct of them would be no plainer for two functions that
+// call each other.
 #[cycle(from_kmer_from_letter)]
 pub fn from_kmer(
     set: &KmerSet,
@@ -63,7 +64,7 @@ pub fn from_kmer(
     let mut places = [0; 4];
     let nucs = successors::next_nucs(set, kmer, &mut places);
     let mut spent = lookups + 4;
-    // By code: it is the letter as well as the index.
+    // By code, since it is the letter as well as the index.
     for nuc in 0..4usize {
         if nucs[nuc] {
             let r = from_letter(set, kmer, nuc as u64, to, made, left, budget, spent);

@@ -137,10 +137,9 @@ fn sample_set() -> [u8; 1024] {
     set
 }
 
-// Refusal 1, and refusal 5 by the longest buffers; the last two calls are accepted. For needs there is no work buffer too long.
-fn limit_cases(rt: &impl Print, alloc: Global, set: &[u8]) -> io::Result<()> {
+// Refusal 1.
+fn long_cases(rt: &impl Print, alloc: Global, set: &[u8]) -> io::Result<()> {
     let long = vec![in alloc; b'A'; 1048577]?;
-    let longest = vec![in alloc; b'A'; 1048576]?;
     batch_case(
         rt,
         alloc,
@@ -160,7 +159,11 @@ fn limit_cases(rt: &impl Print, alloc: Global, set: &[u8]) -> io::Result<()> {
         1048576,
         2097152,
     )?;
-    needs_case(rt, alloc, "needs of 1048577 bytes", set, &long, 2097153)?;
+    needs_case(rt, alloc, "needs of 1048577 bytes", set, &long, 2097153)
+}
+
+// Refusal 5 by the longest buffers.
+fn buffer_cases(rt: &impl Print, alloc: Global, set: &[u8]) -> io::Result<()> {
     read_case(
         rt,
         alloc,
@@ -180,7 +183,12 @@ fn limit_cases(rt: &impl Print, alloc: Global, set: &[u8]) -> io::Result<()> {
         b"AAA",
         1048576,
         2097153,
-    )?;
+    )
+}
+
+// Accepted with the longest read and buffers; for needs there is no work buffer too long.
+fn longest_cases(rt: &impl Print, alloc: Global, set: &[u8]) -> io::Result<()> {
+    let longest = vec![in alloc; b'A'; 1048576]?;
     read_case(
         rt,
         alloc,
@@ -264,7 +272,9 @@ fn key_cases(rt: &impl Print, alloc: Global, sample: [u8; 1024]) -> io::Result<(
 fn main(rt: HostRuntime) -> io::Result<()> {
     let alloc = rt.alloc();
     let set = sample_set();
-    limit_cases(&rt, alloc, &set)?;
+    long_cases(&rt, alloc, &set)?;
+    buffer_cases(&rt, alloc, &set)?;
+    longest_cases(&rt, alloc, &set)?;
     work_cases(&rt, alloc, &set)?;
     entry_cases(&rt, alloc, &set)?;
     line_cases(&rt, alloc, &set)?;

@@ -62,6 +62,7 @@ pub fn turns_of(
 {
     let mut p = first;
     let mut ahead = scan::first_ahead(set.head.n, read.len());
+    // A while: a mend goes on several bases, and the place says which comes next.
     while p.at < read.len() {
         if ahead <= p.at {
             // A copy: what is lent to a call lies in memory, and the pass's own k-mer need not.

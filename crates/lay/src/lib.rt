@@ -20,7 +20,7 @@ pub fn put(bytes: &mut [u8], i: usize, x: u64)
     put_word(bytes, i + i / 63, x);
 }
 
-// The check words of the first blocks.
+// The check words of the first blocks, by number, since a block's check word is made of it.
 pub fn seal(bytes: &mut [u8], count: usize)
     requires { 512 * count ≤ length bytes.old }
     ensures { Sealed bytes.old count bytes.new }

@@ -2,8 +2,8 @@
 ghost use Rattle.std.specs.Prelude.{◌≡◌, ◌<◌, ◌+◌, ◌*◌, length, vec_len, IfOk};
 
 use std::alloc::{AllocError, Global};
-use std::io;
 use std::io::Read;
+use std::{array, io};
 
 // Why a case cannot be replayed: the list has not its form, or memory has run out.
 #[derive(Drop)]
@@ -77,10 +77,7 @@ impl Record {
     pub fn read<L: Read>(list: &mut L) -> Result<Self, ListError> {
         let mut bytes = [0u8; 76];
         list.read_exact(&mut bytes)?;
-        let mut numbers = [0u32; 19];
-        for i in 0..19usize {
-            numbers[i] = number_at(&bytes, i);
-        }
+        let numbers = array::from_fn(|i| number_at(&bytes, i));
         Ok(Record { numbers })
     }
 
@@ -184,8 +181,8 @@ pub fn read_bytes<L: Read>(
 // Counts as they are lent.
 pub fn counts_of(alloc: Global, bytes: &[u8]) -> Result<Vec<u32>, AllocError> {
     let mut counts = Vec::new(alloc);
-    for i in 0..bytes.len() / 4 {
-        counts.push(number_at(bytes, i))?;
+    for count in bytes.chunks_exact(4) {
+        counts.push(number_at(count, 0))?;
     }
     Ok(counts)
 }

@@ -8,16 +8,16 @@ use std::io::Read;
 use std::rt::Files;
 use std::{fs, io};
 
-// Reads until the buffer is full, the file ends or a read fails, and answers how many bytes stand at its start.
+// Reads until the buffer is full, the file ends or a read fails, and answers how many bytes stand at its start. It is a `while`, since a read gives
+// any number of bytes.
 fn read_full<F: Read>(file: &mut F, buffer: &mut [u8]) -> usize
     ensures { result ≤ length buffer.new }
 {
     let mut length = 0;
     while length < buffer.len() {
         match file.read(&mut buffer[length..]) {
-            Ok(0) => return length,
+            Ok(0) | Err(_) => return length,
             Ok(count) => length += count,
-            Err(_) => return length,
         }
     }
     length
@@ -38,10 +38,7 @@ fn read_file<F: Read + Drop>(file: io::Result<F>, buffer: &mut [u8]) -> Option<u
 fn part(buffer: &[u8], count: Option<usize>) -> Option<&[u8]>
     requires { IfSome count (λ n. n ≤ length buffer.now) }
 {
-    match count {
-        Some(n) => Some(&buffer[..n]),
-        None => None,
-    }
+    Some(&buffer[..count?])
 }
 
 // The program over the files of these names and an open batch. Each buffer has a byte more than the file may have, so that `program::printed` sees a

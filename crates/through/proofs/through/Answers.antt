@@ -18,22 +18,22 @@ pub returns-then-count-eq0 : goal.returns-then-count-eq0
 returns-then-count-eq0 c =
     let a = c.args in
     record {
-      is = none_done _ a.job.now a.read.now a.output.now c.copied.new.out c.copied.result (sym c.count.ensures ∙ c.if-count-eq0.true)
+      is = none_done _ a.job.now.bytes.now a.read.now a.output.now c.copied.new.out c.copied.result (sym c.count.ensures ∙ c.if-count-eq0.true)
           c.copied.auto.out c.copied.ensures;
       output_room = c.copied.auto.out;
       work_room = refl;
     }
 
 -- There is an entry.
-some : (c : Else-count-eq0) → 0 < entry_count c.args.job.now
+some : (c : Else-count-eq0) → 0 < entry_count c.args.job.now.bytes.now
 some c = omega (arith, c.if-count-eq0.false, c.count.ensures)
 
 -- What the first pass answers.
 abbrev Answered : After-first_pass → Result Counts Full → Type 0
 Answered c =
     let a = c.args in
-    PassIs (length a.output.now) (held (entry_count a.job.now - 1) c.first_pass.new.output c.first_pass.new.work)
-    (one_pass (offered a.set.now) (entry_at a.job.now 0) a.read.now)
+    PassIs (length a.output.now) (held (entry_count a.job.now.bytes.now - 1) c.first_pass.new.output c.first_pass.new.work)
+    (one_pass (offered a.set.now) (entry_at a.job.now.bytes.now 0) a.read.now)
 
 pub returns-in_err-first : goal.returns-in_err-first
 returns-in_err-first c =
@@ -42,7 +42,7 @@ returns-in_err-first c =
     let full = subst (Answered at) c.in_err-first.was c.first_pass.ensures.is in
     record {
       is = through-full _ _ _ _ _ _ c.from_residual.ensures.0
-          (first-full _ a.job.now a.read.now (some (goal.at.After-first_pass at).Else-count-eq0) (length a.output.now) full);
+          (first-full _ a.job.now.bytes.now a.read.now (some (goal.at.After-first_pass at).Else-count-eq0) (length a.output.now) full);
       output_room = c.first_pass.auto.output;
       work_room = c.first_pass.auto.work;
     }
@@ -59,12 +59,11 @@ go_on-requires-clause-ready c =
     let is = did at in
     let output = c.first_pass.new.output in
     let work = c.first_pass.new.work in
-    let n = entry_count c.args.job.now in (
+    let n = entry_count c.args.job.now.bytes.now in (
       some (goal.at.In_ok-first at).Else-count-eq0,
       c.requires.ready.0,
-      c.requires.ready.1,
       omega (arith, is.1, held-length (n - 1) output work (rooms at)),
-      small-there (offered c.args.set.now) c.args.job.now _ c.in_ok-first.first (held (n - 1) output work) output is.0 c.first_pass.ensures.small,
+      small-there (offered c.args.set.now) c.args.job.now.bytes.now _ c.in_ok-first.first (held (n - 1) output work) output is.0 c.first_pass.ensures.small,
     )
 
 pub returns : goal.returns
@@ -75,13 +74,13 @@ returns c =
     let is = did at in
     let output = c.first_pass.new.output in
     let work = c.first_pass.new.work in
-    let n = entry_count a.job.now in
+    let n = entry_count a.job.now.bytes.now in
     let room = held-length (n - 1) output work (rooms at) in
     let result = c.go_on.new.output in
     let set = offered a.set.now in
     record {
-      is = subst (λ (n : ℕ). ThroughIs set (entries_of a.job.now) a.read.now n result c.go_on.result) kept.output
-          (all-through set a.job.now a.read.now (some (goal.at.In_ok-first at).Else-count-eq0) (length output) (held (n - 1) output work) result c.in_ok-first.first c.go_on.result is.0 is.1 room
+      is = subst (λ (n : ℕ). ThroughIs set (entries_of a.job.now.bytes.now) a.read.now n result c.go_on.result) kept.output
+          (all-through set a.job.now.bytes.now a.read.now (some (goal.at.In_ok-first at).Else-count-eq0) (length output) (held (n - 1) output work) result c.in_ok-first.first c.go_on.result is.0 is.1 room
           c.go_on.ensures);
       output_room = c.go_on.auto.output ∙ kept.output;
       work_room = c.go_on.auto.work ∙ kept.work;
