@@ -11,14 +11,6 @@ ghost use Rattle.entries.specs.Entries.{entry_of};
 pub use entry::Entry;
 pub use job::Job;
 
-// A method byte, of which every value has a meaning in the rules, and a confirm.
-#[derive(Clone, Copy)]
-pub struct Entry {
-    pub method: u8,
-    pub confirm: u8,
-    ghost confirmed: { 1 ≤ confirm },
-}
-
 #[tactic(auto, unfolding(rules::specs::Job::entry_count))]
 pub fn count(job: &[u8]) -> usize
     ensures { result ≡ entry_count job.now }

@@ -74,9 +74,9 @@ pub fn correct_fasta(
     ensures ceiling { Ceiling (offering index.now counts.now (set_of set.now)) (entries_of job.now)
         (reads_of (records file.now)) result }
 {
-    let job = input::check_input(file.len(), job, output.len(), work.len())?;
+    let checked = input::check_input(file.len(), job, output.len(), work.len())?;
     records::check_file(file)?;
     let mut starts = [0u32; STARTS];
     let opened = offered::open(set, index, counts, file.len(), &mut starts)?;
-    correct_records(&opened, &job, file, output, work)
+    correct_records(&opened, &checked, file, output, work)
 }

@@ -52,10 +52,10 @@ pub fn correct_read(
         result output.new work.new }
     ensures ceiling { Ceiling (offering index.now counts.now (set_of set.now)) (entries_of job.now) (read.now ∷ []) result }
 {
-    let job = input::check_input(read.len(), job, output.len(), work.len())?;
+    let checked = input::check_input(read.len(), job, output.len(), work.len())?;
     let mut starts = [0u32; STARTS];
     let opened = offered::open(set, index, counts, read.len(), &mut starts)?;
-    correct_one(&opened, &job, read, output, work)
+    correct_one(&opened, &checked, read, output, work)
 }
 
 // The batch call: corrects the lines of a batch by the entries of the job, into the output.
@@ -72,9 +72,9 @@ pub fn correct_batch(
         result output.new work.new }
     ensures ceiling { Ceiling (offering index.now counts.now (set_of set.now)) (entries_of job.now) (lines batch.now) result }
 {
-    let job = input::check_input(batch.len(), job, output.len(), work.len())?;
+    let checked = input::check_input(batch.len(), job, output.len(), work.len())?;
     input::check_batch(batch)?;
     let mut starts = [0u32; STARTS];
     let opened = offered::open(set, index, counts, batch.len(), &mut starts)?;
-    lines::correct_lines(&opened, &job, batch, output, work)
+    lines::correct_lines(&opened, &checked, batch, output, work)
 }

@@ -228,7 +228,6 @@ module _ (g : Given) where
       record {
         input = omega (arith, l, k.input);
         entries = k.entries;
-        confirms = k.confirms;
         output = omega (arith, k.output);
         work = omega (arith, k.work);
         work_input = omega (arith, l, k.work_input);

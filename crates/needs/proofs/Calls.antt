@@ -24,7 +24,7 @@ use Rattle.needs.specs.Needs.{needs_of, Exact, Ceiling, Bookable, counted}
 
 -- What checks 1 to 5 leave.
 pub bookable : (batch : ℕ) (job : List ℕ) (work : ℕ) → needs_check batch job work ≡ none → Bookable job batch work
-bookable batch job work h = let p = needs-right batch job work h in record { input = p.0; one = p.1; confirms = p.2; room = p.3 }
+bookable batch job work h = let p = needs-right batch job work h in record { input = p.0; one = p.1; room = p.3 }
 
 module _ (a : goal.Asked) where
   refused-exact : (r : Refusal) → goal.needs a ≡ declined a (refusal_of r) → Exact (goal.needs a) (Err r) a.work

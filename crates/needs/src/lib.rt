@@ -70,9 +70,9 @@ pub fn needs(
         result work.new }
     ensures ceiling { Ceiling (offering index.now counts.now (set_of set.now)) (entries_of job.now) (lines batch.now) result }
 {
-    let job = input::check_needs(batch.len(), job, work.len())?;
+    let checked = input::check_needs(batch.len(), job, work.len())?;
     input::check_batch(batch)?;
     let mut starts = [0u32; STARTS];
     let opened = offered::open(set, index, counts, batch.len(), &mut starts)?;
-    Ok(count_lines(&opened, &job, batch, work))
+    Ok(count_lines(&opened, &checked, batch, work))
 }

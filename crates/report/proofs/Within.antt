@@ -9,7 +9,7 @@ use mathlib.Core.List.{List}
 use lib.Dec.{eqb, leb}
 use lib.ListN.{length, get_or}
 use Rattle.rules.specs.Refusal.{Check, ◌or_else◌, unless}
-use Rattle.rules.specs.Job.{lines}
+use Rattle.rules.specs.Job.{entries_of, Confirmed, lines}
 use Rattle.rules.specs.Calls.{max_read, max_output, max_work, max_lines, buffers_right, job_check, input_check, batch_right}
 use Rattle.rules_laws.proofs.Opened.{both as and-true, passed, unless-passed}
 use Rattle.rules_laws.proofs.Upward.{job-right}
@@ -35,11 +35,16 @@ module _ (i : ℕ) (job : List ℕ) (o w : ℕ) where
       record {
         input = leb-true i max_read (unless-passed (leb i max_read) 1 a.0);
         entries = right.0;
-        confirms = right.1;
         output = room.0;
         work = omega arith;
         work_input = omega arith;
       }
+
+  pub confirms : input_check i job o w ≡ none → Confirmed (entries_of job)
+  unfolding input_check
+  confirms h =
+      let a = passed (unless (leb i max_read) 1) (job_check job or_else unless (buffers_right i o w) 5) h in
+      (job-right job (passed (job_check job) (unless (buffers_right i o w) 5) a.1).0).1
 
 module _ (batch : List ℕ) (h : batch_right batch ≡ true) where
   abbrev last : ℕ

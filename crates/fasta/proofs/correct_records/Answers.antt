@@ -21,7 +21,7 @@ use Rattle.fasta.proofs.correct_records.Goals as goal
 abbrev call : After-join-before → Given
 call c =
     let a = c.args in
-    given a.set.now.bytes.now [] a.set.now.counts.now a.job.now a.file.now a.output.now a.work.now
+    given a.set.now.bytes.now [] a.set.now.counts.now a.job.now.bytes.now a.file.now a.output.now a.work.now
 
 -- The work buffer keeps its length.
 same-work : (c : At-loop-from) → length c.loop-from.work ≡ length c.args.work.now

@@ -31,7 +31,7 @@ text_length-text-requires c =
 -- The length of the text.
 long : (c : After-text_length-text) →
     let a = c.args in
-    length (text (offered a.set.now) (entries_of a.job.now) (record { name = a.name.now; read = take a.read a.work.now })) ≡ c.text_length-text.result
+    length (text (offered a.set.now) (entries_of a.job.now.bytes.now) (record { name = a.name.now; read = take a.read a.work.now })) ≡ c.text_length-text.result
 long c =
     let a = c.args in
     text-long _ _ a.name.now _ _ _ _ c.in_ok-done.ensures ∙ sym c.text_length-text.ensures

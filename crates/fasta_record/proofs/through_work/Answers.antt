@@ -16,22 +16,22 @@ inside c = omega (arith, c.requires.work_input)
 
 pub returns-then-output-read : goal.returns-then-output-read
 returns-then-output-read c =
-    none-full _ c.args.job.now c.args.work.now c.args.read _ (sym c.count.ensures ∙ c.if-count-eq0.true) c.if-output-read.true (inside (goal.at.returns-then-output-read c).Start)
+    none-full _ c.args.job.now.bytes.now c.args.work.now c.args.read _ (sym c.count.ensures ∙ c.if-count-eq0.true) c.if-output-read.true (inside (goal.at.returns-then-output-read c).Start)
 
 pub returns-then-count-eq0 : goal.returns-then-count-eq0
 returns-then-count-eq0 c =
     rw c.unchanged.ensures
-    (none_done _ c.args.job.now c.args.work.now c.args.read _ (sym c.count.ensures ∙ c.if-count-eq0.true) c.if-output-read.false (inside (goal.at.returns-then-count-eq0 c).Start))
+    (none_done _ c.args.job.now.bytes.now c.args.work.now c.args.read _ (sym c.count.ensures ∙ c.if-count-eq0.true) c.if-output-read.false (inside (goal.at.returns-then-count-eq0 c).Start))
 
 -- There is an entry.
-some : (c : Else-count-eq0) → 0 < entry_count c.args.job.now
+some : (c : Else-count-eq0) → 0 < entry_count c.args.job.now.bytes.now
 some c = omega (arith, c.if-count-eq0.false, c.count.ensures)
 
 pub returns-in_err-first : goal.returns-in_err-first
 returns-in_err-first c =
     let a = c.args in
     let p = err_from_is_err_and c.from_residual.result c.from_residual.ensures.1 in
-    rw p.1 (first-full _ a.job.now (take a.read a.work.now) (some (goal.at.returns-in_err-first c).Else-count-eq0) (length a.output.now) c.in_err-first.ensures.is)
+    rw p.1 (first-full _ a.job.now.bytes.now (take a.read a.work.now) (some (goal.at.returns-in_err-first c).Else-count-eq0) (length a.output.now) c.in_err-first.ensures.is)
 
 pub returns : goal.returns
 returns c =
@@ -42,5 +42,5 @@ returns c =
     let kept = c.entry_pass.auto.out in
     let out = c.entry_pass.new.out in
     let result = c.back_to_work.new.work in
-    subst (λ (n : ℕ). ThroughIs set (entries_of a.job.now) read n result c.back_to_work.result) kept
-    (all-through set a.job.now read (some (goal.at.returns c).Else-count-eq0) (length out) out result c.in_ok-first.first c.back_to_work.result is.0 is.1 refl c.back_to_work.ensures)
+    subst (λ (n : ℕ). ThroughIs set (entries_of a.job.now.bytes.now) read n result c.back_to_work.result) kept
+    (all-through set a.job.now.bytes.now read (some (goal.at.returns c).Else-count-eq0) (length out) out result c.in_ok-first.first c.back_to_work.result is.0 is.1 refl c.back_to_work.ensures)

@@ -20,7 +20,7 @@ use Rattle.lines.proofs.correct_lines.Goals as goal
 abbrev call : Start → Given
 call c =
     let a = c.args in
-    given a.set.now.bytes.now [] a.set.now.counts.now a.job.now a.batch.now a.output.now a.work.now
+    given a.set.now.bytes.now [] a.set.now.counts.now a.job.now.bytes.now a.batch.now a.output.now a.work.now
 
 pub loop-from-init : goal.loop-from-init
 loop-from-init c = (search rules, refl, rw (default-is c.default-done.result c.default-done.ensures) (begin _ _ _ _))

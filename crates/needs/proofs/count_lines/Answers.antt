@@ -5,9 +5,8 @@ use mathlib.Core.List.{List, [], ◌∷◌}
 use lib.ListN.{drop, length-take, length-drop}
 use Rattle.std.proofs.lemmas.Grind.{common_steps}
 use Rattle.rules.specs.Refusal.{accepted}
-use Rattle.rules.specs.Job.{Entry, entry, entry_count, entries_of, lines}
+use Rattle.rules.specs.Job.{Entry, entries_of, lines}
 use Rattle.rules_needs.specs.Needs.{needed_for}
-use Rattle.rules_laws.proofs.Job.{confirmed-entry}
 use Rattle.entries.specs.Entries.{entry_of}
 use Rattle.turn.specs.Turn.{offered}
 use Rattle.report.proofs.Within.{ends-in-10}
@@ -22,11 +21,8 @@ pub line_end-end-requires : goal.line_end-end-requires
 line_end-end-requires c =
     (c.loop-from-test.true, ends-in-10 c.args.batch.now c.requires.1 (omega (arith, c.loop-from-test.true)))
 
-pub entry_at-entry-requires : goal.entry_at-entry-requires
-entry_at-entry-requires c =
-    let b = c.requires.0 in
-    let some : 0 < entry_count c.args.job.now = omega (arith, b.one) in
-    (some, confirmed-entry c.args.job.now 0 b.confirms some)
+pub entry-entry-requires : goal.entry-entry-requires
+entry-entry-requires c = omega (arith, c.requires.0.one)
 
 -- A line is no longer than the batch.
 pub count-counted-requires : goal.count-counted-requires
@@ -45,11 +41,8 @@ loop-from-preserved c =
     )
 
 -- The job's one entry.
-sole : (c : At-loop-from)
-    → entries_of c.args.job.now ≡ entry_of c.entry_at-entry.result ∷ []
-sole c =
-    let e = c.entry_at-entry.ensures in
-    sole-entry c.args.job.now c.requires.0.one ∙ ap₂ (λ (m c : ℕ). entry m c ∷ []) (sym e.0) (sym e.1)
+sole : (c : At-loop-from) → entries_of c.args.job.now.bytes.now ≡ entry_of c.entry-entry.result ∷ []
+sole c = sole-entry c.args.job.now.bytes.now c.requires.0.one ∙ ap (λ (e : Entry). e ∷ []) (sym c.entry-entry.ensures)
 
 pub returns : goal.returns
 returns c =

@@ -8,4 +8,4 @@ use Rattle.through.proofs.go_on.Given as goal
 abbrev pub invariant-loop-i : goal.invariant-loop-i
 invariant-loop-i l =
     (length l.output ≡ length l.initial.output) × (length l.work ≡ length l.initial.work)
-    × Underway (offered l.set) l.job (whole_of (offered l.set) l.job l.initial.output l.initial.work l.initial.done) (most_of (offered l.set) l.job l.initial.output l.initial.work l.initial.done) l.output l.work l.done l.i
+    × Underway (offered l.set) l.job.bytes.now (whole_of (offered l.set) l.job.bytes.now l.initial.output l.initial.work l.initial.done) (most_of (offered l.set) l.job.bytes.now l.initial.output l.initial.work l.initial.done) l.output l.work l.done l.i
