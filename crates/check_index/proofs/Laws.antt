@@ -1,7 +1,6 @@
 -- Laws of an offered index as the code checks it.
-use Prim.Native.Nat.{ℕ, zero, suc, ◌*◌, ◌≤◌, ◌<◌}
+use Prim.Native.Nat.{ℕ, ◌*◌, ◌≤◌, ◌<◌}
 use native.Mathlib.Omega.{arith}
-use native.Mathlib.Numerals.{add-one}
 use borrow.Author.Tests.{eq-eqb, eqb-true}
 use mathlib.Core.Path.{◌≡◌, refl, sym, ap, ◌∙◌}
 use mathlib.Core.Bool.{Bool, true, false, false≢true}
@@ -9,7 +8,6 @@ use mathlib.Core.Logic.{◌↔◌}
 use mathlib.Core.Option.{none}
 use mathlib.Core.List.{List, [], ◌∷◌}
 use lib.ListN.{length, get_or}
-use Rattle.std.specs.List.{list_all, range_with_len}
 use Rattle.rules.specs.Refusal.{unless, first_failing}
 use Rattle.rules.specs.Set.{KmerSet, header_k, is_none, check_right, set_check, set_of}
 use Rattle.rules.specs.Blocks.{blocks_for}

@@ -19,7 +19,7 @@ use Rattle.scan.specs.Attempt.{Attempted}
 use Rattle.scan.specs.declared.Attempt.TheVariants.{Mend as Mended, Refused}
 use Rattle.scenario.specs.declared.mend.Mend.{Mend}
 use Rattle.scenario.specs.Scenario.{of_code, spelled_out}
-use Rattle.scenario.proofs.Trials.{refused-bind, given-bind}
+use Rattle.scan.proofs.Laws.{refused-bind, given-bind}
 use Rattle.trials.specs.declared.Scenarii.{Scenarii}
 use Rattle.trials.specs.Trials.{KeptIs}
 use Rattle.exist.proofs.Letters.{spelled-length}

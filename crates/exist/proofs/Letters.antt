@@ -3,9 +3,9 @@ use Prim.Native.Nat.{ℕ, zero, suc, ◌+◌, ◌*◌, ◌-◌, ◌/◌, ◌%◌
 use native.Mathlib.Omega.{arith}
 use native.Mathlib.Nat.{pow-succ', div-div-eq-div-mul, div-one}
 use native.Mathlib.Numerals.{add-one}
-use mathlib.Core.Path.{◌≡◌, refl, sym, ap, ◌∙◌}
-use mathlib.Core.List.{List, [], ◌∷◌}
-use lib.ListN.{length, get_or, take, set, length-append, get_or-append}
+use mathlib.Core.Path.{◌≡◌, sym, ap, ◌∙◌}
+use mathlib.Core.List.{List, []}
+use lib.ListN.{length, get_or, take, set, get_or-append}
 use lib.Seq.{get_or_at, take-suc, take-suc-set, take_all}
 use lib.Bits.{bit_and, and_mask}
 use Rattle.rules.specs.Letters.{Kmer, code, letter, last_letter, drop_last, last, add_all, in_place}

@@ -52,6 +52,7 @@ fn in_place(kmer: Kmer, mend: Mend, head: Header) -> Kmer
     ensures { HasLetters head.k (in_place head.k (kmer_of kmer) (spelled_out mend).letters) result }
 {
     let mut placed = kmer::drop_last(kmer, head);
+    // By index, as in `write`.
     for i in 0..mend.letters {
         placed = kmer::add_nuc_to_end(placed, letter_at(mend, i), head);
     }

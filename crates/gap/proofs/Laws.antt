@@ -29,7 +29,7 @@ use Rattle.set.proofs.Opened.{opened-n-le, set-count}
 use Rattle.scan.proofs.Laws.{add_all-snoc}
 use Rattle.successors.proofs.Laws.{known-four, letter-back, leads-on}
 use Rattle.scan.specs.Attempt.{MendIs}
-use Rattle.walk.proofs.Laws.{spell-snoc, weakest-one, weakest-snoc}
+use Rattle.walk.proofs.Laws.{spell-snoc, weakest-one, weakest-snoc, one-move}
 use Rattle.passed.specs.Passed.{onward, passed}
 use Rattle.gap.specs.Gap.{gap_mend}
 
@@ -74,23 +74,17 @@ filling-start k sol count m x out l =
 -- the k-mer at which it stands has no unknown letter
 module _ {k : ℕ} {sol : ℕ → Bool} {count : Kmer → ℕ} {m : ℕ} {x at : Kmer} {i w : ℕ} {out : List ℕ} (low : 1 ≤ k) (known : Known at)
     (f : Filling k sol count m x at i w out) (lt : i < m) where
-  one-move : m - i ≡ suc (m - (i + 1))
-  one-move = omega arith
-
-  four : (sole k sol at).lookups ≡ 4
-  four = known-four k at low sol known
-
   abbrev stopped : Try (List Kmer)
   stopped = record { answer = none; lookups = 4 * i + 4 }
 
   pub gap-dead : (sole k sol at).answer ≡ none → gap k sol m (x ∷ []) x 0 ≡ stopped
   unfolding gap
-  gap-dead e = f.rest ∙ rw (one-move, gap, e, four)
+  gap-dead e = f.rest ∙ rw (one-move lt, gap, e, known-four k at low sol known)
 
   module _ (z : Kmer) (e : (sole k sol at).answer ≡ some z) where
     pub gap-repeats : met z (passed k x i out) ≡ true → gap k sol m (x ∷ []) x 0 ≡ stopped
     unfolding gap
-    gap-repeats h = f.rest ∙ rw (one-move, gap, e, h, four)
+    gap-repeats h = f.rest ∙ rw (one-move lt, gap, e, h, known-four k at low sol known)
 
     module _ (room : i + 1 < length out) where
       back : add_base k (add_all k x (slice 1 (i + 1) out)) (last_letter z) ≡ z
@@ -104,7 +98,7 @@ module _ {k : ℕ} {sol : ℕ → Bool} {count : Kmer → ℕ} {m : ℕ} {x at :
       gap-goes h =
           let l : 4 * (i + 1) ≡ 4 * i + 4 = omega arith in
           record {
-            rest = f.rest ∙ rw (one-move, gap, e, h, four, passed-more, l);
+            rest = f.rest ∙ rw (one-move lt, gap, e, h, known-four k at low sol known, passed-more, l);
             spelled = ap spell passed-more ∙ spell-snoc (passed k x i out) z ∙ rw (f.spelled, add-one (i + 1), take-suc-set out (i + 1) (last_letter z) room);
             ends = rw (slice-more out i (last_letter z) room) (add_all-snoc k x (slice 1 (i + 1) out) (last_letter z) ∙ back);
             weakest_is = ap (weakest count) passed-more ∙ weakest-snoc count (passed k x i out) z w f.weakest_is;

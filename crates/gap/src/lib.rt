@@ -9,7 +9,8 @@ use kmer::Kmer;
 use scan::{Attempt, Scan};
 use set::KmerSet;
 
-// The moves of a gap from x, which has that count, after all lookups up to x.
+// The moves of a gap from x, which has that count, after all lookups up to x. Scan, x and count are no type of their own: what is asked of them
+// speaks of the set too.
 pub fn fill(
     set: &KmerSet,
     scan: Scan,
@@ -28,6 +29,7 @@ pub fn fill(
     let mut weakest = count;
     let mut places = [0usize; 4];
     let moves = scan.index - set.head.k;
+    // By number: it tells where the move's letter goes, and up to which one it is compared.
     for i in 0..moves {
         lookups += 4;
         let nucs = successors::next_nucs(set, at, &mut places);

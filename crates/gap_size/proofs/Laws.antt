@@ -14,7 +14,7 @@ use Rattle.rules.specs.GapSize.{gap, gap_from}
 use Rattle.rules_laws.proofs.Counted.{bind-some as given_by}
 use Rattle.rules_laws.proofs.Growth.{length-spell}
 use Rattle.rules_laws.proofs.Correctors.{gap-any}
-use Rattle.graph.proofs.Laws.{bind-none, bind-some}
+use Rattle.scan.proofs.Laws.{refused-bind, given-bind, after-after}
 use Rattle.gap.specs.Gap.{gap_mend}
 
 -- ---- from the bad k-mer to x
@@ -41,9 +41,11 @@ module _ (k : ℕ) (sol : ℕ → Bool) (m : ℕ) (y : Kmer) (l : ℕ) where
   gap-full room index h g = (λ d e. omega (arith, gap-letters d e), omega arith)
 
   pub no-alternative : {made : ℕ} → alternative k sol y ≡ record { answer = none; lookups = made } → (attempt.answer ≡ none) × (attempt.lookups ≡ l + made)
-  unfolding gap_from
-  no-alternative e = bind-none (alternative k sol y) _ l e
+  unfolding gap_from after
+  no-alternative e =
+      let w = ap (after l) (refused-bind _ e) in
+      (ap (λ (t : Try Mend). t.answer) w, ap (λ (t : Try Mend). t.lookups) w)
 
   pub from-alternative : {x : Kmer} → alternative k sol y ≡ record { answer = some x; lookups = 4 } → attempt ≡ after (l + 4) (gap_mend k sol m x)
   unfolding gap_from gap_mend
-  from-alternative e = bind-some (alternative k sol y) _ l e
+  from-alternative {x} e = ap (after l) (given-bind _ e) ∙ after-after l 4 (gap_mend k sol m x)

@@ -1,13 +1,13 @@
 -- An attempt from its scan and its bad k-mer to the walk.
 use Prim.Native.Nat.{ℕ, ◌+◌, ◌^◌, ◌≤◌, ◌<◌}
 use native.Mathlib.Omega.{arith}
-use mathlib.Core.Path.{◌≡◌, ap, subst}
+use mathlib.Core.Path.{◌≡◌, ap, ◌∙◌, subst}
 use mathlib.Core.Bool.{Bool}
 use mathlib.Core.Option.{none, some}
 use mathlib.Core.List.{List}
 use lib.ListN.{length, drop, length-drop}
 use Rattle.rules.specs.Letters.{Kmer}
-use Rattle.rules.specs.Counted.{Try, after, refuse, next, ◌>>=◌}
+use Rattle.rules.specs.Counted.{Try, after}
 use Rattle.rules.specs.Scan as rules
 use Rattle.rules.specs.Scan.{alternative, error_len}
 use Rattle.rules.specs.Exist.{Mend}
@@ -17,30 +17,24 @@ use Rattle.scan.specs.declared.Attempt.{Attempt}
 use Rattle.scan.specs.declared.Scan.{Scan}
 use Rattle.scan.specs.Scan.{scan_of}
 use Rattle.scan.specs.Attempt.{Attempted}
+use Rattle.scan.proofs.Laws.{refused-bind, given-bind, after-after}
 use Rattle.walk.specs.Walk.{walk_mend}
 
 -- ---- from the bad k-mer to x
-
-module _ {A B : Type 0} (t : Try A) (f : A → Try B) (s : ℕ) {l : ℕ} where
-  pub bind-none : t ≡ record { answer = none; lookups = l } → ((after s (t >>= f)).answer ≡ none) × ((after s (t >>= f)).lookups ≡ s + l)
-  unfolding after ◌>>=◌ next refuse
-  bind-none e = (rw e, rw e (omega arith))
-
-  pub bind-some : {a : A} → t ≡ record { answer = some a; lookups = l } → after s (t >>= f) ≡ after (s + l) (f a)
-  unfolding after ◌>>=◌ next
-  bind-some {a} e = rw e (let z : s + (l + (f a).lookups) ≡ s + l + (f a).lookups = omega arith in λ i. record { answer = (f a).answer; lookups = z i })
 
 module _ (k n : ℕ) (sol : ℕ → Bool) (sc : rules.Scan) (y : Kmer) where
   abbrev attempt : Try Mend
   attempt = after sc.lookups (graph_from k n sol sc y)
 
   pub no-alternative : {l : ℕ} → alternative k sol y ≡ record { answer = none; lookups = l } → (attempt.answer ≡ none) × (attempt.lookups ≡ sc.lookups + l)
-  unfolding graph_from
-  no-alternative e = bind-none (alternative k sol y) _ sc.lookups e
+  unfolding graph_from after
+  no-alternative e =
+      let w = ap (after sc.lookups) (refused-bind _ e) in
+      (ap (λ (t : Try Mend). t.answer) w, ap (λ (t : Try Mend). t.lookups) w)
 
   pub from-alternative : {x : Kmer} → alternative k sol y ≡ record { answer = some x; lookups = 4 } → attempt ≡ after (sc.lookups + 4) (walk_mend k n sol sc x)
   unfolding graph_from walk_mend
-  from-alternative e = bind-some (alternative k sol y) _ sc.lookups e
+  from-alternative {x} e = ap (after sc.lookups) (given-bind _ e) ∙ after-after sc.lookups 4 (walk_mend k n sol sc x)
 
 -- ---- the scan
 

@@ -56,10 +56,6 @@ writing-ends bytes k e before blocks entry v v-is w =
     let all : v ≡ index_entries (set_of bytes).k = v-is ∙ ap index_entries (set-k bytes e) in
     rw (← all) w.written
 
--- The block of entry v is there.
-pub entry-room : (m v a b : ℕ) → v < m → 512 * blocks_for m ≤ a → b ≡ a → 512 * (1 + v / 63) ≤ b
-entry-room m v a b h l e = omega arith
-
 -- ---- the whole buffer
 
 module _ (bytes : List ℕ) (k n : ℕ) (o : Opens bytes k n) (count : ℕ) (count_is : count ≡ blocks_for (index_entries k)) where

@@ -4,10 +4,12 @@ use native.Mathlib.Numerals.{add-one}
 use native.Mathlib.Omega.{arith}
 use mathlib.Core.Path.{◌≡◌, refl, sym, ap, ◌∙◌}
 use mathlib.Core.Bool.{Bool, true, false}
+use mathlib.Core.Option.{none, some}
 use mathlib.Core.List.{List, [], ◌∷◌, ◌++◌}
 use lib.ListN.{length, drop, get_or, drop_of_length-le}
 use lib.Seq.{drop-cons}
 use Rattle.rules.specs.Letters.{Kmer, add_base, add_all}
+use Rattle.rules.specs.Counted.{Try, after, refuse, next, ◌>>=◌}
 use Rattle.rules.specs.Scan.{ask, scan_from}
 use Rattle.set.specs.declared.Asked.{Asked}
 use Rattle.set.specs.Asked.{AskedIs}
@@ -50,3 +52,19 @@ module _ (k : ℕ) (sol : ℕ → Bool) (l j : ℕ) (z : Kmer) (s : List ℕ) wh
   pub scan-end : length s ≡ j → scan_from k sol l j z (drop j s) ≡ record { index = length s; end = z; lookups = l }
   unfolding scan_from
   scan-end h = let e : length s ≤ j = omega (arith, h) in rw (drop_of_length-le s e, h)
+
+-- ---- answers in turn, with what they cost
+
+-- m refuses, or answers a, after l lookups
+pub refused-bind : {A B : Type 0} {m : Try A} {l : ℕ} (f : A → Try B) → m ≡ record { answer = none; lookups = l }
+    → m >>= f ≡ record { answer = none; lookups = l }
+unfolding ◌>>=◌ next after refuse
+refused-bind {l = l} f e = rw e (let z : l + 0 ≡ l = omega arith in λ i. record { answer = none; lookups = z i })
+
+pub given-bind : {A B : Type 0} {m : Try A} {a : A} {l : ℕ} (f : A → Try B) → m ≡ record { answer = some a; lookups = l } → m >>= f ≡ after l (f a)
+unfolding ◌>>=◌ next after
+given-bind f e = rw e refl
+
+pub after-after : {A : Type 0} (s l : ℕ) (t : Try A) → after s (after l t) ≡ after (s + l) t
+unfolding after
+after-after s l t = let z : s + (l + t.lookups) ≡ s + l + t.lookups = omega arith in λ i. record { answer = t.answer; lookups = z i }

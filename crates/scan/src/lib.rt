@@ -22,7 +22,8 @@ pub struct Scan {
 
 // An attempt at a bad base: the number of its letters, which stand at the start of the lent output if that has room for all of them, the
 // resume, the lookups, the smallest count behind it, and the bad k-mer with the letters in place of its last one; or the lookups of a
-// refused one; or no room for letters that have to be looked at again. This is the source's Option<(Vec<u8>, usize)>.
+// refused one; or no room for letters that have to be looked at again. This is the source's Option<(Vec<u8>, usize)>, with two cases that
+// aren't a mend: a refusal tells its lookups, and the lack of room ends the pass.
 #[derive(Clone, Copy)]
 pub enum Attempt {
     Mend(usize, usize, u64, u32, Kmer),
@@ -55,6 +56,7 @@ pub fn error_len(set: &KmerSet, kmer: Kmer, s: &[u8]) -> Scan
 {
     let mut last = kmer;
     let mut lookups = 0;
+    // By index: the one reached is what is answered.
     for j in 1..s.len() {
         last = add_base(last, s[j], set.head);
         let asked = set.ask(last);
@@ -101,7 +103,8 @@ pub fn read_ahead(set: &KmerSet, kmer: Kmer, read: &[u8], at: usize) -> usize
     if set.head.mask < words { at } else { end }
 }
 
-// From which base on to read ahead: from none if the set is small, for then its keys are near anyway.
+// From which base on to read ahead: from none if the set is small, for then its keys are near anyway. None is the read's length and no case of
+// its own: no base stands behind the read's end.
 pub fn first_ahead(n: usize, len: usize) -> usize {
     if n < 500000 { len } else { 0 }
 }

@@ -1,6 +1,5 @@
 -- The trials of Two, and what their lookups answer.
 use Prim.Native.Nat.{ℕ, ◌+◌, ◌≤◌, ◌<◌, zero-le}
-use native.Mathlib.Omega.{arith}
 use mathlib.Core.Path.{◌≡◌, refl, sym, ap, ◌∙◌, subst}
 use mathlib.Core.Bool.{Bool, true, false}
 use mathlib.Core.Option.{none, some}
@@ -9,7 +8,7 @@ use mathlib.Core.List.{List}
 use lib.ListN.{length}
 use borrow.Author.Tests.{lt-ltb, le-ltb}
 use Rattle.rules.specs.Letters as letters
-use Rattle.rules.specs.Counted.{Try, refuse, give, after, next, ◌>>=◌, ◌>>◌}
+use Rattle.rules.specs.Counted.{Try, refuse, give, after, ◌>>◌}
 use Rattle.rules.specs.Scan.{ask, is_solid, not_solid, sole}
 use Rattle.rules.specs.Exist.{Scenario, row, one}
 use Rattle.scenario.specs.declared.one.ScenarioOne.{ScenarioOne}
@@ -19,6 +18,7 @@ use Rattle.kmer.specs.declared.Kmer.{Kmer as KmerOf}
 use Rattle.kmer.specs.Kmer.{kmer_of, IsKmer}
 use Rattle.set.specs.declared.Asked.{Asked}
 use Rattle.set.specs.Asked.{AskedIs}
+use Rattle.scan.proofs.Laws.{refused-bind, given-bind}
 use Rattle.scenario.specs.declared.Trial.{Trial}
 use Rattle.scenario.specs.Scenario.{nth, one_of, trial_of, plus, instead_of, instead_after, TriedIs, TrialIs}
 
@@ -92,16 +92,7 @@ module _ (sol : ℕ → Bool) (y : letters.Kmer) {r : Asked} (asked : AskedIs (a
     unfolding not_solid
     not-no e = rw (asked_is e, not_solid, asked.lookups)
 
--- m refuses, or answers a, after l lookups
-pub refused-bind : {A B : Type 0} {m : Try A} {l : ℕ} (f : A → Try B) → m ≡ record { answer = none; lookups = l }
-    → m >>= f ≡ record { answer = none; lookups = l }
-unfolding ◌>>=◌ next after refuse
-refused-bind {l = l} f e = rw e (let z : l + 0 ≡ l = omega arith in λ i. record { answer = none; lookups = z i })
-
-pub given-bind : {A B : Type 0} {m : Try A} {a : A} {l : ℕ} (f : A → Try B) → m ≡ record { answer = some a; lookups = l } → m >>= f ≡ after l (f a)
-unfolding ◌>>=◌ next after
-given-bind f e = rw e refl
-
+-- the same where the answer is not handed on
 pub refused-then : {A B : Type 0} {m : Try A} {l : ℕ} (n : Try B) → m ≡ record { answer = none; lookups = l } → m >> n ≡ record { answer = none; lookups = l }
 unfolding ◌>>◌
 refused-then n e = refused-bind (λ a. n) e

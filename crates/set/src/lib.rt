@@ -109,7 +109,7 @@ fn look_up(set: &[u8], starts: &[u32], kmer: Kmer, n: usize, shift: u32, finer: 
     keys::find(&part, key, shift, range.start, range.end).unwrap_or(n)
 }
 
-// A k-mer asked: whether it is solid, and the lookups made.
+// A k-mer asked: whether it is solid, and the lookups made. No Option says both: one that isn't solid costs a lookup or none.
 #[derive(Clone, Copy)]
 pub struct Asked {
     pub solid: bool,

@@ -54,13 +54,14 @@ choose-four false false true false = refl
 choose-four false false false true = refl
 choose-four false false false false = refl
 
-four : (l : List Bool) → length l ≡ 4 → get_or l 0 false ∷ get_or l 1 false ∷ get_or l 2 false ∷ get_or l 3 false ∷ [] ≡ l
-four [] e = absurd (omega arith)
-four (a ∷ []) e = absurd (omega arith)
-four (a ∷ c ∷ []) e = absurd (omega arith)
-four (a ∷ c ∷ t ∷ []) e = absurd (omega arith)
-four (a ∷ c ∷ t ∷ g ∷ []) e = refl
-four (a ∷ c ∷ t ∷ g ∷ b ∷ l) e = absurd (omega arith)
+-- a list of four by its elements
+pub four-listed : {A : Type 0} (d : A) (p : List A) → length p ≡ 4 → p ≡ get_or p 0 d ∷ get_or p 1 d ∷ get_or p 2 d ∷ get_or p 3 d ∷ []
+four-listed d [] e = absurd (omega arith)
+four-listed d (a ∷ []) e = absurd (omega arith)
+four-listed d (a ∷ b ∷ []) e = absurd (omega arith)
+four-listed d (a ∷ b ∷ c ∷ []) e = absurd (omega arith)
+four-listed d (a ∷ b ∷ c ∷ g ∷ []) e = refl
+four-listed d (a ∷ b ∷ c ∷ g ∷ f ∷ p) e = absurd (omega arith)
 
 module _ (l : List Bool) where
   -- how many of four answers are yes, and the sum of their places
@@ -78,7 +79,7 @@ module _ (l : List Bool) where
       go false = omega arith
 
   chosen : length l ≡ 4 → choice count sum ≡ only (yes_from 0 l)
-  chosen e = choose-four _ _ _ _ ∙ ap (λ (m : List Bool). only (yes_from 0 m)) (four l e)
+  chosen e = choose-four _ _ _ _ ∙ ap (λ (m : List Bool). only (yes_from 0 m)) (sym (four-listed false l e))
 
   pub chosen-one : length l ≡ 4 → count ≡ 1 → some sum ≡ only (yes_from 0 l)
   chosen-one e h = sym (ap (λ (n : ℕ). choice n sum) h) ∙ chosen e
@@ -244,14 +245,6 @@ placed set k y ps i v l before here a h = elim (ℕ_discrete a i) [
   | yes e ↦ rw e (get_or-set_same ps i v 0 l ∙ here)
   | no n ↦ get_or-set_other ps i a v 0 n ∙ before a (omega arith)
 ]
-
-pub four-listed : (p : List ℕ) → length p ≡ 4 → p ≡ get_or p 0 0 ∷ get_or p 1 0 ∷ get_or p 2 0 ∷ get_or p 3 0 ∷ []
-four-listed [] e = absurd (omega arith)
-four-listed (a ∷ []) e = absurd (omega arith)
-four-listed (a ∷ b ∷ []) e = absurd (omega arith)
-four-listed (a ∷ b ∷ c ∷ []) e = absurd (omega arith)
-four-listed (a ∷ b ∷ c ∷ d ∷ []) e = refl
-four-listed (a ∷ b ∷ c ∷ d ∷ f ∷ p) e = absurd (omega arith)
 
 -- a place below the number of keys answers the successor by a
 pub place-solid-at : (set : KmerSet) (k : ℕ) (y : Kmer) (a n p : ℕ) → n ≡ length set.keys → p ≡ place_at set k y a → Known (add k y a)

@@ -18,8 +18,9 @@ pub struct Alt {
     pub place: usize,
 }
 
-// All letters of the k-mer but its first are known: the four have them in common. The places of their keys go into the lent array. It is part
-// of the walks that call it: with a call of its own at each move Graph takes a tenth more instructions.
+// All letters of the k-mer but its first are known: the four have them in common. The places of their keys go into a lent array, since
+// document 01 has the four answers returned as a [bool; 4] by value. It is part of the walks that call it: with a call of its own at each move
+// Graph takes a tenth more instructions.
 #[inline(always)]
 pub fn next_nucs(set: &KmerSet, kmer: Kmer, places: &mut [usize; 4]) -> [bool; 4]
     requires { IsKmer set.now.head.k kmer × ((add set.now.head.k (kmer_of kmer) 0).unknown ≡ 0) }
@@ -27,6 +28,7 @@ pub fn next_nucs(set: &KmerSet, kmer: Kmer, places: &mut [usize; 4]) -> [bool; 4
         × (places.new ≡ places_of (set_of set.now.bytes.now) set.now.head.k (kmer_of kmer)) }
 {
     *places = [0; 4];
+    // By number: it is the code of the letter that is added.
     for nuc in 0..4usize {
         let next = kmer::add_nuc_to_end(kmer, nuc as u64, set.head);
         places[nuc] = set.place_of(next);

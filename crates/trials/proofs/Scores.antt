@@ -24,7 +24,8 @@ use Rattle.set.specs.Asked.{AskedIs}
 use Rattle.set.specs.Found.{index_of, is_key}
 use Rattle.set.proofs.Among.{found-solid}
 use Rattle.scenario.specs.Scenario.{trial_of}
-use Rattle.scenario.proofs.Trials.{asked_is, solid-one, refused-bind, given-bind}
+use Rattle.scan.proofs.Laws.{refused-bind, given-bind}
+use Rattle.scenario.proofs.Trials.{asked_is, solid-one}
 use Rattle.trials.specs.Trials.{confirm}
 
 -- Whether a run of solid k-mers went over all of c bases, and its lookups.

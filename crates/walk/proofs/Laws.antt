@@ -122,18 +122,16 @@ going_start k n sol count t x out e =
       rest = rw (e, walk_from, sub-zero);
     }
 
+-- of m moves i are made, and one more is left
+pub one-move : {m i : ℕ} → i < m → m - i ≡ suc (m - (i + 1))
+one-move h = omega arith
+
 -- the k-mer that it stands at has no unknown letter
 module _ {k n : ℕ} {sol : ℕ → Bool} {count : Kmer → ℕ} {t x at mark : Kmer} {i marks_at w : ℕ} {out : List ℕ} (low : 1 ≤ k) (known : Known at)
     (g : Going k n sol count t x at mark i marks_at w out) (lt : i < 6 * n) where
-  one-move : 6 * n - i ≡ suc (6 * n - (i + 1))
-  one-move = omega arith
-
-  four : (sole k sol at).lookups ≡ 4
-  four = known-four k at low sol known
-
   pub walk-dead : (sole k sol at).answer ≡ none → walk_from k n sol t x ≡ halted (4 * i + 4)
   unfolding walk halt
-  walk-dead e = g.rest ∙ rw (one-move, walk, e, four)
+  walk-dead e = g.rest ∙ rw (one-move lt, walk, e, known-four k at low sol known)
 
   module _ (y : Kmer) (e : (sole k sol at).answer ≡ some y) where
     via' : List Kmer
@@ -170,18 +168,18 @@ module _ {k n : ℕ} {sol : ℕ → Bool} {count : Kmer → ℕ} {t x at mark : 
           holds = holds';
           ends = ends';
           weakest_is = weakest';
-          is = g.rest ∙ rw (one-move, walk, e, h, four);
+          is = g.rest ∙ rw (one-move lt, walk, e, h, known-four k at low sol known);
         }
 
     module _ (ne : same y t ≡ false) where
       pub walk_meets : same y mark ≡ true → walk_from k n sol t x ≡ halted (4 * i + 4)
       unfolding walk halt
-      walk_meets h = g.rest ∙ rw (one-move, walk, e, ne, h, four)
+      walk_meets h = g.rest ∙ rw (one-move lt, walk, e, ne, h, known-four k at low sol known)
 
       module _ (new : same y mark ≡ false) where
         goes : walk_from k n sol t x ≡ walk k sol (6 * n - (i + 1)) t (moved (standing at mark i marks_at (x ∷ g.via)) y 4)
         unfolding walk
-        goes = g.rest ∙ rw (one-move, walk, e, ne, new, four)
+        goes = g.rest ∙ rw (one-move lt, walk, e, ne, new, known-four k at low sol known)
 
         cost : 4 * (i + 1) ≡ 4 * i + 4
         cost = omega arith

@@ -27,7 +27,7 @@ pub fn write_last(out: &mut [u8], at: usize, kmer: Kmer)
 }
 
 // The walk from x, which has that count and stands in the place of the bad k-mer, to the last k-mer of the scan, after all lookups up to x.
-// Letters beyond the room are only counted.
+// Letters beyond the room are only counted. Scan, x and count are no type of their own: what is asked of them speaks of the set too.
 pub fn walk(set: &KmerSet, scan: Scan, x: Kmer, count: u32, out: &mut [u8]) -> Attempt
     requires { IsKmer set.now.head.k x × (x.unknown ≡ 0) × (scan.index < 2 ^ 63) × (scan.lookups < 2 ^ 63)
         × (count ≡ count_of (set_with set.now.bytes.now set.now.counts.now) (kmer_of x)) }
@@ -50,6 +50,7 @@ pub fn walk(set: &KmerSet, scan: Scan, x: Kmer, count: u32, out: &mut [u8]) -> A
     let mut marks_at = 1;
     // It never runs out (the rules' theorem walk-moves).
     let fuel = 6 * set.head.n;
+    // By number: it tells where the move's letter goes, how many there are, and when the mark is set.
     for moves in 0..fuel {
         lookups += 4;
         let nucs = successors::next_nucs(set, at, &mut places);

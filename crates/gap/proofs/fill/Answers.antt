@@ -51,10 +51,6 @@ weighed c =
     (move-count _ _ _ _ c.sole_nuc.result c.next_nucs-nucs.ensures.0 c.sole_nuc.ensures _ (next (goal.at.After-min-weakest c).After-add_nuc_to_end-next) c.in-Some.is
     c.add_nuc_to_end-next.ensures c.next_nucs-nucs.ensures.1 c.count_at.ensures)
 
-words-after : (c : After-meet-met)
-    → length c.meet-met.new.filter ≡ length c.args.filter.now
-words-after c = c.meet-met.ensures.same ∙ words (goal.at.After-meet-met c).At-loop-i
-
 pub overflow_sub-moves : goal.overflow_sub-moves
 overflow_sub-moves c = let f = c.requires.0 in omega (arith, f.above, c.args.set.now.head.shifts.k_low)
 

@@ -1,6 +1,5 @@
 use native.Mathlib.Omega.{arith}
-use Rattle.rules.specs.Index.{index_entries}
-use Rattle.make_index.proofs.Makes.{writing-starts, writing_more, writing-ends, entry-room}
+use Rattle.make_index.proofs.Makes.{writing-starts, writing_more, writing-ends}
 use Rattle.make_index.proofs.write_entries.Goals as goal
 
 pub loop-v-init : goal.loop-v-init

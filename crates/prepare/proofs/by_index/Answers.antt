@@ -17,11 +17,12 @@ count c = shifted _ c.letters-bits.result c.letters-bits.ensures
 
 pub copy_entries-requires : goal.copy_entries-requires
 copy_entries-requires c =
-    let e = count (goal.at.copy_entries-requires c).After-letters-bits ∙ ap index_entries c.args.set.now.opens.k_is in
-    let long = ap length c.requires.1 ∙ index-length _ c.args.set.now.opens.right in
+    let o = c.args.set.now.opens in
+    let e = count (goal.at.copy_entries-requires c).After-letters-bits ∙ ap index_entries o.k_is in
+    let long = ap length c.requires.1 ∙ index-length _ o.right in
     record {
-      entries_in_bounds = (omega (arith, count (goal.at.copy_entries-requires c).After-letters-bits, count-few c.args.set.now.k, c.requires.0), rw (e, long) (omega arith));
-      by_index = rw (e, c.requires.1) (entry-small _ c.args.set.now.opens.right);
+      entries_in_bounds = (omega (arith, e, count-few (header_k c.args.set.now.bytes.now), c.requires.0), omega (arith, e, long));
+      by_index = λ v l. rw c.requires.1 (entry-small _ o.right v (omega (arith, l, e)));
     }
 
 pub header-requires : goal.header-requires

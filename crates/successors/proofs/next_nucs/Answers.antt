@@ -44,5 +44,5 @@ returns c =
         place-solid-at set k y 2 _ _ n_is (at 2 (search rules)) (known 2 (search rules)),
         place-solid-at set k y 3 _ _ n_is (at 3 (search rules)) (known 3 (search rules)),
       ),
-      four-listed c.loop-nuc.places c.loop-nuc.invariant.1 ∙ rw (at 0 (search rules), at 1 (search rules), at 2 (search rules), at 3 (search rules)),
+      four-listed 0 c.loop-nuc.places c.loop-nuc.invariant.1 ∙ rw (at 0 (search rules), at 1 (search rules), at 2 (search rules), at 3 (search rules)),
     )
