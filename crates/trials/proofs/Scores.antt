@@ -193,6 +193,9 @@ module _ (k : ℕ) (sol : ℕ → Bool) (c : ℕ) (s : List ℕ) (scs : List Sce
     pub answer : (of scs).answer ≡ ms ++ (of (drop i scs)).answer
     pub lookups : (of scs).lookups ≡ l + (of (drop i scs)).lookups
 
+  pub done-paid : {i l l' : ℕ} {ms : List Mend} → Done i ms l → l' ≡ l → Done i ms l'
+  done-paid {i} {ms = ms} d e = subst (λ (n : ℕ). Done i ms n) (sym e) d
+
   module _ {i l : ℕ} {ms : List Mend} {sc : Scenario} (d : Done i ms l) (here : drop i scs ≡ sc ∷ drop (i + 1) scs) where
     abbrev rest : Counted (List Mend)
     rest = of (drop (i + 1) scs)

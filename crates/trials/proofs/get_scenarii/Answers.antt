@@ -13,7 +13,7 @@ use Rattle.scenario.specs.Scenario.{spelled_out}
 use Rattle.scenario.proofs.Trials.{asked-le, solid-one}
 use Rattle.trials.specs.Trials.{EligibleIs, Placed}
 use Rattle.trials.proofs.Picks.{gives-place}
-use Rattle.trials.proofs.Scores.{run-on, run-bad, run-all, lent-length, tried-bad, tried-all, next-is, done-refused, done-kept, done-answer, done-lookups}
+use Rattle.trials.proofs.Scores.{run-on, run-bad, run-all, lent-length, tried-bad, tried-all, next-is, done-paid, done-refused, done-kept, done-answer, done-lookups}
 use Rattle.trials.proofs.get_scenarii.Given.{Over}
 use Rattle.trials.proofs.get_scenarii.Goals.{After-row-start, After-scenario-item, At-loop-base, Start}
 use Rattle.trials.proofs.get_scenarii.Goals as goal
@@ -75,13 +75,11 @@ scenarios-preserved-then-not-asked g c =
     let one = asked-le _ _ c.ask-asked.ensures in
     let w = given g at.After-row-start in
     let bad = run-bad _ _ _ _ j.2 c.loop-base-test.true c.add_base-kmer.ensures.is c.ask-asked.ensures (not-true _ c.if-not-asked.true) in
-    let q = tried-bad _ _ _ _ (here g at.After-scenario-item) _ _ (starts-at g at.After-row-start) w.2 _ w.0 bad in
-    let z : c.loop-base.lookups + c.ask-asked.result.lookups
-    ≡ c.scenarios.lookups + (c.eligible-candidate.result.lookups + (c.loop-base.base-index + c.ask-asked.result.lookups)) = omega (arith, j.1) in (
+    let q = tried-bad _ _ _ _ (here g at.After-scenario-item) _ _ (starts-at g at.After-row-start) w.2 _ w.0 bad in (
       omega arith,
       omega (arith, one, spent g at.At-loop-base, lent g at.After-row-start, c.loop-base-test.true, c.requires.2),
       i.2,
-      rw z (done-refused _ _ _ _ (scs g at.Start) i.3 (next g at.After-scenario-item) q),
+      done-paid _ _ _ _ (scs g at.Start) (done-refused _ _ _ _ (scs g at.Start) i.3 (next g at.After-scenario-item) q) (omega (arith, j.1)),
     )
 
 pub loop-base-preserved : goal.loop-base-preserved
@@ -108,12 +106,12 @@ scenarios-preserved g c =
     let all = run-all _ _ _ _ j.2 (omega arith) in
     let q = tried-all _ _ _ _ (here g at.After-scenario-item) _ _ (starts-at g at.After-row-start) w.2 _ w.0 all in
     let n = length-append c.scenarios.kept (m ∷ []) in
-    let z : c.loop-base.lookups ≡ c.scenarios.lookups + (c.eligible-candidate.result.lookups + c.loop-base.base-index) = omega (arith, j.1) in
     rw c.push.ensures (
       omega (arith, n),
       omega (arith, spent g at.At-loop-base, c.loop-base-test.false, c.requires.2),
       All-push (Placed (set_of set.bytes.now)) c.scenarios.kept m i.2 (gives-place _ m w.4 gives),
-      rw (map-append spelled_out c.scenarios.kept (m ∷ []), gives.is, z) (done-kept _ _ _ _ (scs g at.Start) i.3 (next g at.After-scenario-item) q),
+      rw (map-append spelled_out c.scenarios.kept (m ∷ []), gives.is)
+          (done-paid _ _ _ _ (scs g at.Start) (done-kept _ _ _ _ (scs g at.Start) i.3 (next g at.After-scenario-item) q) (omega (arith, j.1))),
     )
 
 pub returns : goal.returns
