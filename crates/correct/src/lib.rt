@@ -92,12 +92,7 @@ pub fn copied(read: &[u8], out: &mut [u8]) -> Result<Counts, Full>
 }
 
 // One pass. Shorter than k: unchanged. Else the first k-mer is asked, and copied, and the turns come.
-pub fn correct(
-    set: &KmerSet,
-    entry: Entry,
-    read: &[u8],
-    out: &mut [u8],
-) -> Result<Counts, Full>
+pub fn correct(set: &KmerSet, entry: Entry, read: &[u8], out: &mut [u8]) -> Result<Counts, Full>
     requires { length read.now ≤ max_read }
     ensures { Passed out.old out.new (one_pass (offered set.now) (entry_of entry) read.now) result }
 {

@@ -13,12 +13,7 @@ use entries::Entry;
 use set::KmerSet;
 
 // What a pass counts; Full only where the spare buffer is shorter than the read.
-pub fn count(
-    set: &KmerSet,
-    entry: Entry,
-    read: &[u8],
-    spare: &mut [u8],
-) -> Result<Counts, Full>
+pub fn count(set: &KmerSet, entry: Entry, read: &[u8], spare: &mut [u8]) -> Result<Counts, Full>
     requires { length read.now ≤ max_read }
     ensures { Counted (length read.now) (length spare.old) (one_pass (offered set.now) (entry_of entry) read.now) result }
 {
