@@ -34,16 +34,13 @@ use Rattle.refusal.specs.declared.Refusal.{Refusal}
 use Rattle.report.specs.declared.Report.{Report}
 use Rattle.correct.specs.Pass.{Tally, tally_of, Small}
 use Rattle.refusal.specs.declared.Refusal.TheVariants.{NoRoom}
-use Rattle.input.specs.Input.{LineAt, Within}
+use Rattle.input.specs.Input.{Within}
 use Rattle.through.specs.Through.{through}
 use Rattle.report.specs.Answer.{report_of, answer_of, Exact}
 use Rattle.report.specs.Ending.{Cleared, report_on}
 use Rattle.report.proofs.Exact.{through_all, report-is}
 use Rattle.turn.specs.Turn.{Fits, summed}
 use Rattle.lines.proofs.Batch.{behind, behind-assoc, Weaker, nothing}
-use Rattle.records.specs.declared.Joined.{Joined}
-use Rattle.records.specs.Records.{Ends, JoinedIs}
-use Rattle.records.proofs.Laws.{no_lines, record-begins}
 use Rattle.fasta_record.specs.Record as OfRecord
 use Rattle.fasta_record.specs.Record.{record_through, RecordIs}
 
@@ -230,21 +227,13 @@ module _ (set : KmerSet) (es : List Entry) (g : Given) (rs : List Record) where
 
 -- ---- a file that passed 6
 
-module _ (file : List ℕ) (h : file_right file ≡ true) where
-  abbrev last : ℕ
-  last = get_or file (length file - 1) 0
+few-records : (file : List ℕ) → file_right file ≡ true → length (records file) ≤ max_records
+unfolding file_right
+few-records file h =
+    let parts = and-true (eqb (length file) 0 || eqb (get_or file (length file - 1) 0) 10) (leb (length (records file)) max_records) h in
+    leb-true (length (records file)) max_records parts.1
 
-  parts : ((eqb (length file) 0 || eqb last 10) ≡ true) × (leb (length (records file)) max_records ≡ true)
-  unfolding file_right
-  parts = and-true (eqb (length file) 0 || eqb last 10) (leb (length (records file)) max_records) h
-
-  few-records : length (records file) ≤ max_records
-  few-records = leb-true (length (records file)) max_records parts.1
-
-  pub file-ends : Ends file
-  file-ends l = eqb-true last 10 (rw (ne_eqb (length file) 0 (λ e. omega arith)) at parts.0)
-
--- ---- the code's file: from is where the next name line begins
+-- ---- the call's file
 
 module _ (g : Given) where
   abbrev set : KmerSet
@@ -253,8 +242,8 @@ module _ (g : Given) where
   abbrev es : List Entry
   es = entries_of g.job
 
-  abbrev pub going : ℕ → ℕ → Counts → List ℕ → Type 0
-  going from = Going set es (length g.output) (records g.input) (records_of (lines (drop from g.input)))
+  abbrev pub going : List Record → ℕ → Counts → List ℕ → Type 0
+  going = Going set es (length g.output) (records g.input)
 
   abbrev pub checked : Type 0
   checked = Within g.job (length g.input) (length g.output) (length g.work)
@@ -263,10 +252,10 @@ module _ (g : Given) where
   exactly = Exact (corrected_records set es g (records g.input))
 
   -- No record is done before the first name line.
-  pub fasta-begun : (w : List ℕ) (j : Joined) → JoinedIs g.input 0 w j → going j.next 0 nothing g.output
+  pub fasta-begun : (rest : List Record) → records_of (lines g.input) ≡ rest → going rest 0 nothing g.output
   unfolding records
-  fasta-begun w j is =
-      subst (λ (rest : List Record). Going set es (length g.output) (records g.input) rest 0 nothing g.output) is.rest
+  fasta-begun rest e =
+      subst (λ (rs : List Record). Going set es (length g.output) (records g.input) rs 0 nothing g.output) e
       (begin set es (records g.input) g.output)
 
   -- What a read of length n is given.
@@ -282,45 +271,31 @@ module _ (g : Given) where
         work_input = omega (arith, l, k.work_input);
       }
 
-  module _ (from end : ℕ) where
-    abbrev name-is : List ℕ
-    name-is = take (end - from) (drop from g.input)
+  module _ (name read : List ℕ) (rest : List Record) (n : ℕ) (done : Counts) (o o' : List ℕ)
+      (i : going (record { name = name; read = read } ∷ rest) n done o) (same : length o' ≡ length o) where
+    pub fasta-no-room : (full : Full) → RecordIs set es name read done.written o o' (Err full) → (v : List ℕ) {r : Refusal} {o'' w'' : List ℕ}
+        → length v ≡ length g.work → (r ≡ NoRoom n) × Cleared 0 o' (length v) o'' w'' → exactly (Err r) o'' w''
+    fasta-no-room full h v same-work c =
+        full-exact set es g (records g.input) n
+        (record-full set es (length g.output) (records g.input) name read rest n done o o' i full h)
+        o' (same ∙ i.length_is) (ap (λ (r : Refusal). Err r) c.0) (rw same-work at c.1)
 
-    module _ (n : ℕ) (done : Counts) (o o' w : List ℕ) (j : Joined) (i : going from n done o)
-        (inside : from < length g.input) (named : get_or g.input from 0 ≡ mark) (l : LineAt g.input from end) (is : JoinedIs g.input (end + 1) w j)
-        (same : length o' ≡ length o) where
-      -- The record at `from`, and those behind it.
-      rest-is : records_of (lines (drop from g.input)) ≡ record { name = name-is; read = take j.read w } ∷ records_of (lines (drop j.next g.input))
-      rest-is =
-          record-begins g.input from end inside l named
-          ∙ ap₂ (λ (x : List ℕ) (rs : List Record). record { name = name-is; read = x } ∷ rs) (sym is.read) is.rest
+    pub fasta-next : (m : Counts) → RecordIs set es name read done.written o o' (Ok m) → (s : Told ℕ) → Weaker done m s → checked
+        → going rest (n + 1) (summed done m s) o'
+    fasta-next m h s v k =
+        record-done set es (length g.output) (records g.input) name read rest n done o o' i
+        m s v (omega (arith, entries_of-length g.job, k.entries)) h same
 
-      here : Going set es (length g.output) (records g.input) (record { name = name-is; read = take j.read w } ∷ records_of (lines (drop j.next g.input))) n done o
-      here = rw rest-is at i
-
-      pub fasta-no-room : (full : Full) → RecordIs set es name-is (take j.read w) done.written o o' (Err full) → (v : List ℕ) {r : Refusal} {o'' w'' : List ℕ}
-          → length v ≡ length g.work → (r ≡ NoRoom n) × Cleared 0 o' (length v) o'' w'' → exactly (Err r) o'' w''
-      fasta-no-room full h v same-work c =
-          full-exact set es g (records g.input) n
-          (record-full set es (length g.output) (records g.input) _ _ _ n done o o' here full h)
-          o' (same ∙ i.length_is) (ap (λ (r : Refusal). Err r) c.0) (rw same-work at c.1)
-
-      pub fasta-next : (m : Counts) → RecordIs set es name-is (take j.read w) done.written o o' (Ok m) → (s : Told ℕ) → Weaker done m s → checked
-          → going j.next (n + 1) (summed done m s) o'
-      fasta-next m h s v k =
-          record-done set es (length g.output) (records g.input) _ _ _ n done o o' here
-          m s v (omega (arith, entries_of-length g.job, k.entries)) h same
-
-  module _ (from n : ℕ) (done : Counts) (o : List ℕ) (i : going from n done o) (k : checked) (b : file_right g.input ≡ true) where
+  module _ (rest : List Record) (n : ℕ) (done : Counts) (o : List ℕ) (i : going rest n done o) (k : checked) (b : file_right g.input ≡ true) where
     pub fasta-few : n ≤ max_records
     fasta-few = omega (arith, i.many, few-records g.input b)
 
     pub fasta-small : (done.written ≤ length o) × (done.accepted < 2 ^ 54)
     fasta-small = (i.written, omega (arith, i.small.accepted, fasta-few))
 
-  pub fasta-fits : (from n : ℕ) (x y : Counts) (s : Told ℕ) (o : List ℕ) → going from n (summed x y s) o → checked → file_right g.input ≡ true → Fits x y
-  fasta-fits from n x y s o i k b =
-      let few = fasta-few from n (summed x y s) o i k b in
+  pub fasta-fits : (rest : List Record) (n : ℕ) (x y : Counts) (s : Told ℕ) (o : List ℕ) → going rest n (summed x y s) o → checked → file_right g.input ≡ true → Fits x y
+  fasta-fits rest n x y s o i k b =
+      let few = fasta-few rest n (summed x y s) o i k b in
       let l = i.small in
       record {
         written = omega (arith, i.written, i.length_is, k.output);
@@ -331,14 +306,12 @@ module _ (g : Given) where
         bases = omega (arith, l.bases);
       }
 
-  pub fasta-accepted : (from n : ℕ) (done : Counts) (o w : List ℕ) (offered : Bool) {r : Report} {o' w' : List ℕ} → going from n done o
-      → length g.input ≤ from → length w ≡ length g.work → offered ≡ ltb 0 (length g.counts)
+  pub fasta-accepted : (n : ℕ) (done : Counts) (o w : List ℕ) (offered : Bool) {r : Report} {o' w' : List ℕ} → going [] n done o
+      → length w ≡ length g.work → offered ≡ ltb 0 (length g.counts)
       → (r ≡ report_on offered done) × Cleared done.written o (length w) o' w' → exactly (Ok r) o' w'
-  unfolding records_of offering
-  fasta-accepted from n done o w offered i end same f a =
-      let over : records_of (lines (drop from g.input)) ≡ [] = ap records_of (no_lines g.input from end) in
-      let last : Going set es (length g.output) (records g.input) [] n done o = rw over at i in
+  unfolding offering
+  fasta-accepted n done o w offered i same f a =
       fits-exact set es g (records g.input) done offered o f
-      (all_fit set es (length g.output) (records g.input) n done o last)
-      (all_done set es (length g.output) (records g.input) n done o last)
+      (all_fit set es (length g.output) (records g.input) n done o i)
+      (all_done set es (length g.output) (records g.input) n done o i)
       i.written i.length_is (ap (λ (r : Report). Ok r) a.0) (rw same at a.1)

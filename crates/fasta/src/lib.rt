@@ -33,12 +33,10 @@ fn correct_records(
 {
     let mut done = Counts::default();
     let mut place = 0;
-    let before = records::join(file, 0, work);
-    let mut from = before.next;
-    while from < file.len() {
-        let end = input::line_end(file, from);
-        let joined = records::join(file, end + 1, work);
-        let name = &file[from..end];
+    let mut lines = input::lines(file);
+    let mut next = records::join(&mut lines, work).name;
+    while let Some(name) = next {
+        let joined = records::join(&mut lines, work);
         let corrected = fasta_record::correct_record(
             set,
             job,
@@ -53,7 +51,7 @@ fn correct_records(
         };
         done = done.plus(more);
         place += 1;
-        from = joined.next;
+        next = joined.name;
     }
     let has_counts = !set.counts.is_empty();
     Ok(report::accept(done, has_counts, output, work))

@@ -1,6 +1,8 @@
 -- What the answers mean in the rules' terms.
-use Rattle.std.specs.Prelude.{ℕ, ◌+◌, ◌*◌, ◌-◌, ◌≤◌, ◌<◌, ◌≡◌, List, ◌∷◌, length, take, drop, Result}
+use Rattle.std.specs.Prelude.{ℕ, ◌*◌, ◌≤◌, ◌≡◌, List, [], ◌∷◌, ◌++◌, length, Option, None, Some, Result}
 use Rattle.std.specs.Result.{ForOk}
+use denote.Ref.{Bor}
+use Rattle.input.specs.declared.BatchLines.{BatchLines}
 use Rattle.rules.specs.Job.{entry_count, lines}
 use Rattle.rules.specs.Calls.{max_read, max_methods, max_output}
 use Rattle.entries.specs.declared.job.Job.{Job}
@@ -11,11 +13,17 @@ pub use Rattle.refusal.specs.Refusal.{check_of}
 abbrev pub GivesJob : List ℕ → Result Job Refusal → Type 0
 GivesJob job r = ForOk r (λ checked. checked.bytes.now ≡ job)
 
--- The line from `from` on ends before `end`; the other lines follow.
-pub record LineAt (batch : List ℕ) (from end : ℕ) : Type 0 where
-  pub after : from ≤ end
-  pub inside : end < length batch
-  pub is : lines (drop from batch) ≡ take (end - from) (drop from batch) ∷ lines (drop (end + 1) batch)
+-- The bytes that are left, and the lines that are still to come.
+abbrev pub bytes_left : BatchLines → List ℕ
+bytes_left l = l.rest.now
+
+abbrev pub lines_left : BatchLines → List (List ℕ)
+lines_left l = lines (bytes_left l)
+
+-- The first line comes off with its byte 10, or no line is left.
+abbrev pub GivesLine : BatchLines → Option (Bor (List ℕ)) → BatchLines → Type 0
+GivesLine old None new = (lines_left old ≡ []) × (new ≡ old)
+GivesLine old (Some line) new = (lines_left old ≡ line.now ∷ lines_left new) × (bytes_left old ≡ line.now ++ (10 ∷ bytes_left new))
 
 -- What checks 1 to 5 leave, by the job and the lengths of input, output and work.
 pub record Within (job : List ℕ) (i o w : ℕ) : Type 0 where

@@ -1,12 +1,13 @@
-// What a call is given, looked at before any set: checks 1 to 6 of documents 01 and 02, the lines of a batch, and clearing a lent buffer.
+// What a call is given, looked at before any set: checks 1 to 6 of documents 01 and 02, and the lines of a batch.
 #![tactic(auto)]
 
-ghost use Rattle.std.specs.Prelude.{◌≡◌, ◌++◌, ◌-◌, ◌≤◌, ◌<◌, length, get_or, take, replicate, leb, ltb};
+ghost use Rattle.std.specs.Prelude.{◌≡◌, ◌≤◌, length, leb, ltb};
 ghost use Rattle.rules.specs.Refusal.{unless, ◌or_else◌, at_place, first_failing};
 ghost use Rattle.rules.specs.Job.{known, method_byte, confirm_byte, entry_count, lines};
 ghost use Rattle.rules.specs.Calls.{max_read, buffers_right, job_check, input_check, batch_right};
 ghost use Rattle.rules_needs.specs.Needs.{needs_check};
-ghost use Rattle.input.specs.Input.{check_of, GivesJob, LineAt};
+ghost use Rattle.std.specs.Iterator.{item_count};
+ghost use Rattle.input.specs.Input.{check_of, GivesJob, bytes_left, lines_left, GivesLine};
 
 use entries::Job;
 use refusal::Refusal;
@@ -39,7 +40,7 @@ fn is_known(method: u8) -> bool
     matches!(method, 1..=4)
 }
 
-// Check 3.
+// Check 3. The index is what a refusal tells.
 fn check_methods(job: &[u8]) -> Result<(), Refusal>
     ensures { check_of result ≡ at_place 3 (first_failing (λ i. known (method_byte job.now i)) 0 (entry_count job.now)) }
 {
@@ -51,7 +52,7 @@ fn check_methods(job: &[u8]) -> Result<(), Refusal>
     Ok(())
 }
 
-// Check 4.
+// Check 4, as 3.
 fn check_confirms(job: &[u8]) -> Result<(), Refusal>
     ensures { check_of result ≡ at_place 4 (first_failing (λ i. ltb 0 (confirm_byte job.now i)) 0 (entry_count job.now)) }
 {
@@ -143,18 +144,29 @@ pub fn check_batch(batch: &[u8]) -> Result<(), Refusal>
     Ok(())
 }
 
-// Where the line from `from` on ends: the index of its byte 10.
-pub fn line_end(batch: &[u8], from: usize) -> usize
-    requires { (from < length batch.now) × (get_or batch.now (length batch.now - 1) 0 ≡ 10) }
-    ensures { LineAt batch.now from result }
-{
-    from + batch[from..].iter().position(|byte| *byte == 10).unwrap()
+// The lines of a batch in turn, each without the byte 10 that ends it.
+#[derive(Drop)]
+pub struct BatchLines<'a> {
+    rest: &'a [u8],
 }
 
-// Zeros from `from` to the end.
-pub fn clear(buffer: &mut [u8], from: usize)
-    requires { from ≤ length buffer.old }
-    ensures { buffer.new ≡ take from buffer.old ++ replicate (length buffer.old - from) 0 }
+pub fn lines(batch: &[u8]) -> BatchLines<'_>
+    ensures { bytes_left result ≡ batch.now }
 {
-    buffer[from..].fill(0);
+    BatchLines { rest: batch }
+}
+
+impl<'a> Iterator for BatchLines<'a> {
+    type Item = &'a [u8];
+
+    ghost next_gives = { GivesLine };
+
+    ghost remaining = { item_count lines_left };
+
+    fn next(&mut self) -> Option<&'a [u8]> {
+        let rest = self.rest;
+        let end = rest.iter().position(|byte| *byte == 10)?;
+        self.rest = &rest[end + 1..];
+        Some(&rest[..end])
+    }
 }

@@ -7,15 +7,14 @@ use mathlib.Core.Path.{◌≡◌, refl, sym, ap, ap₂, ◌∙◌}
 use mathlib.Core.Bool.{Bool, true}
 use mathlib.Core.Option.{none, some}
 use mathlib.Core.List.{List, [], ◌∷◌, ◌++◌, append-nil, append_assoc}
-use lib.ListN.{length, take, drop, length-append, length-drop, drop_of_length-le}
+use lib.ListN.{length, take, drop, length-append, length-drop}
 use lib.Dec.{ltb}
 use lib.Seq.{length-take-le, take-add}
 use Rattle.rules.specs.Set.{KmerSet, offering}
 use Rattle.rules.specs.Driver.{weaker}
-use Rattle.rules.specs.Job.{Entry, result, entries_of, lines, lines_from}
+use Rattle.rules.specs.Job.{Entry, result, entries_of, lines}
 use Rattle.rules.specs.Counts.{sum, all_passes, turns, lookups, attempts, corrections, support_over, w_of}
 use Rattle.rules.specs.Calls.{Given, max_methods, max_lines, batch_right, too_long, results, corrected}
-use Rattle.input.specs.Input.{LineAt}
 use Rattle.turn.specs.declared.Counts.{Counts}
 use Rattle.turn.specs.declared.Full.{Full}
 use Rattle.std.specs.Prelude.{Option as Told, None, Result, Ok, Err}
@@ -202,7 +201,7 @@ module _ (set : KmerSet) (es : List Entry) where
     all_done : tally_of done o ≡ all reads
     all_done = sym (all_none (tally_of done o)) ∙ g.whole
 
--- ---- the code's batch: from is where the next line begins
+-- ---- the call's batch
 
 module _ (g : Given) where
   abbrev set : KmerSet
@@ -211,8 +210,8 @@ module _ (g : Given) where
   abbrev es : List Entry
   es = entries_of g.job
 
-  abbrev pub going : ℕ → ℕ → Counts → List ℕ → Type 0
-  going from = Going set es (length g.output) (lines g.input) (lines (drop from g.input))
+  abbrev pub going : List (List ℕ) → ℕ → Counts → List ℕ → Type 0
+  going = Going set es (length g.output) (lines g.input)
 
   abbrev pub checked : Type 0
   checked = Within g.job (length g.input) (length g.output) (length g.work)
@@ -220,50 +219,30 @@ module _ (g : Given) where
   abbrev exactly : Result Report Refusal → List ℕ → List ℕ → Type 0
   exactly = Exact (corrected set es (10 ∷ []) g (lines g.input))
 
-  -- What a line of length n is given.
-  pub line-within : (n : ℕ) → n ≤ length g.input → (o w : List ℕ) → checked
-      → length o ≡ length g.output → length w ≡ length g.work
-      → Within g.job n (length o) (length w)
-  line-within n l o w k same same-work =
-      record {
-        input = omega (arith, l, k.input);
-        entries = k.entries;
-        output = omega (arith, k.output);
-        work = omega (arith, k.work);
-        work_input = omega (arith, l, k.work_input);
-      }
+  module _ (l : List ℕ) (rest : List (List ℕ)) (line : ℕ) (done : Counts) (o o' : List ℕ) (i : going (l ∷ rest) line done o) (same : length o' ≡ length o) where
+    pub batch-no-room : (full : Full) → LineIs set es l done.written o o' (Err full) → (w : List ℕ) {r : Refusal} {o'' w'' : List ℕ}
+        → length w ≡ length g.work → (r ≡ NoRoom line) × Cleared 0 o' (length w) o'' w'' → exactly (Err r) o'' w''
+    batch-no-room full h w same-work n =
+        full-exact set es (10 ∷ []) g (lines g.input) line
+        (line-full set es (length g.output) (lines g.input) l rest line done o o' i full h)
+        o' (same ∙ i.length_is) (ap (λ (r : Refusal). Err r) n.0) (rw same-work at n.1)
 
-  module _ (from end : ℕ) where
-    abbrev line-is : List ℕ
-    line-is = take (end - from) (drop from g.input)
+    pub batch-next : (r : Counts) → LineIs set es l done.written o o' (Ok r) → (s : Told ℕ) → Weaker done r s → checked
+        → going rest (line + 1) (summed done r s) o'
+    batch-next r h s v k =
+        line-done set es (length g.output) (lines g.input) l rest line done o o' i
+        r s v (omega (arith, entries_of-length g.job, k.entries)) h same
 
-    module _ (line : ℕ) (done : Counts) (o o' : List ℕ) (i : going from line done o) (l : LineAt g.input from end) (same : length o' ≡ length o) where
-      here : Going set es (length g.output) (lines g.input) (line-is ∷ lines (drop (end + 1) g.input)) line done o
-      here = rw l.is at i
-
-      pub batch-no-room : (full : Full) → LineIs set es line-is done.written o o' (Err full) → (w : List ℕ) {r : Refusal} {o'' w'' : List ℕ}
-          → length w ≡ length g.work → (r ≡ NoRoom line) × Cleared 0 o' (length w) o'' w'' → exactly (Err r) o'' w''
-      batch-no-room full h w same-work n =
-          full-exact set es (10 ∷ []) g (lines g.input) line
-          (line-full set es (length g.output) (lines g.input) _ _ line done o o' here full h)
-          o' (same ∙ i.length_is) (ap (λ (r : Refusal). Err r) n.0) (rw same-work at n.1)
-
-      pub batch-next : (r : Counts) → LineIs set es line-is done.written o o' (Ok r) → (s : Told ℕ) → Weaker done r s → checked
-          → going (end + 1) (line + 1) (summed done r s) o'
-      batch-next r h s v k =
-          line-done set es (length g.output) (lines g.input) _ _ line done o o' here
-          r s v (omega (arith, entries_of-length g.job, k.entries)) h same
-
-  module _ (from line : ℕ) (done : Counts) (o : List ℕ) (i : going from line done o) (k : checked) (b : batch_right g.input ≡ true) where
-    pub batch-few : line ≤ max_lines
+  module _ (rest : List (List ℕ)) (line : ℕ) (done : Counts) (o : List ℕ) (i : going rest line done o) (k : checked) (b : batch_right g.input ≡ true) where
+    batch-few : line ≤ max_lines
     batch-few = omega (arith, i.lines, few-lines g.input b)
 
     pub batch-small : (done.written ≤ length o) × (done.accepted < 2 ^ 54)
     batch-small = (i.written, omega (arith, i.small.accepted, batch-few))
 
-  pub batch-fits : (from line : ℕ) (x y : Counts) (s : Told ℕ) (o : List ℕ) → going from line (summed x y s) o → checked → batch_right g.input ≡ true → Fits x y
-  batch-fits from line x y s o i k b =
-      let few = batch-few from line (summed x y s) o i k b in
+  pub batch-fits : (rest : List (List ℕ)) (line : ℕ) (x y : Counts) (s : Told ℕ) (o : List ℕ) → going rest line (summed x y s) o → checked → batch_right g.input ≡ true → Fits x y
+  batch-fits rest line x y s o i k b =
+      let few = batch-few rest line (summed x y s) o i k b in
       let l = i.small in
       record {
         written = omega (arith, i.written, i.length_is, k.output);
@@ -274,12 +253,11 @@ module _ (g : Given) where
         bases = omega (arith, l.bases);
       }
 
-  pub batch-accepted : (from line : ℕ) (done : Counts) (o w : List ℕ) (offered : Bool) {r : Report} {o' w' : List ℕ} → going from line done o
-      → length g.input ≤ from → length w ≡ length g.work → offered ≡ ltb 0 (length g.counts)
+  pub batch-accepted : (rest : List (List ℕ)) (line : ℕ) (done : Counts) (o w : List ℕ) (offered : Bool) {r : Report} {o' w' : List ℕ} → going rest line done o
+      → rest ≡ [] → length w ≡ length g.work → offered ≡ ltb 0 (length g.counts)
       → (r ≡ report_on offered done) × Cleared done.written o (length w) o' w' → exactly (Ok r) o' w'
-  unfolding lines lines_from offering
-  batch-accepted from line done o w offered i end same f a =
-      let over : lines (drop from g.input) ≡ [] = ap lines (drop_of_length-le g.input end) in
+  unfolding offering
+  batch-accepted rest line done o w offered i over same f a =
       let last : Going set es (length g.output) (lines g.input) [] line done o = rw over at i in
       fits-exact set es (10 ∷ []) g (lines g.input) done offered o f
       (all_fit set es (length g.output) (lines g.input) line done o last)

@@ -40,7 +40,7 @@ fn correct_line(
     })
 }
 
-// The lines of a batch in turn. By line_end, not split_inclusive: each of its pieces has the byte 10 that a line is without.
+// The lines of a batch in turn.
 pub fn correct_lines(
     set: &KmerSet,
     job: &Job,
@@ -56,17 +56,12 @@ pub fn correct_lines(
         result output.new work.new }
 {
     let mut done = Counts::default();
-    let mut line = 0;
-    let mut from = 0;
-    while from < batch.len() {
-        let end = input::line_end(batch, from);
-        let corrected = correct_line(set, job, &batch[from..end], done.written, output, work);
+    for (i, line) in input::lines(batch).enumerate() {
+        let corrected = correct_line(set, job, line, done.written, output, work);
         let Ok(more) = corrected else {
-            return Err(report::no_room(line, output, work));
+            return Err(report::no_room(i, output, work));
         };
         done = done.plus(more);
-        line += 1;
-        from = end + 1;
     }
     let has_counts = !set.counts.is_empty();
     Ok(report::accept(done, has_counts, output, work))

@@ -5,15 +5,14 @@ use native.Mathlib.Nat.{mul-le-mul_right}
 use mathlib.Core.Path.{◌≡◌, ap, ◌∙◌}
 use mathlib.Core.Bool.{true}
 use mathlib.Core.List.{List, [], ◌∷◌}
-use lib.ListN.{length, take, drop, length-append, length-take, drop_of_length-le}
+use lib.ListN.{length, length-append}
 use Rattle.rules.specs.Set.{KmerSet}
-use Rattle.rules.specs.Job.{Entry, entry_at, entry_count, entries_from, entries_of, pass, result, lines, lines_from}
+use Rattle.rules.specs.Job.{Entry, entry_at, entry_count, entries_from, entries_of, pass, result, lines}
 use Rattle.rules.specs.Counts.{sum, passes_of, all_passes, turns, lookups}
 use Rattle.rules.specs.Calls.{max_read, max_lines, batch_right, results, report}
 use Rattle.rules_needs.specs.Needs as rules
 use Rattle.rules_needs.specs.Needs.{needed_for}
 use Rattle.rules_laws.proofs.Calls.{sum_first}
-use Rattle.input.specs.Input.{LineAt}
 use Rattle.report.proofs.Within.{few-lines}
 use Rattle.turn.specs.declared.Counts.{Counts}
 use Rattle.std.specs.Prelude.{Ok}
@@ -51,19 +50,16 @@ module _ (set : KmerSet) (e : Entry) where
   none_left = (omega arith, omega arith, omega arith)
 
   module _ (batch : List ℕ) where
-    abbrev left : ℕ → List (List ℕ)
-    left from = lines (drop from batch)
+    -- The lines that are left have so many bytes, with their ends. Each can count so much.
+    pub record Going (left : List (List ℕ)) (size : ℕ) (done : Need) : Type 0 where
+      pub bytes : done.bytes + (need left).bytes ≡ (need (lines batch)).bytes
+      pub turns : done.turns + (need left).turns ≡ (need (lines batch)).turns
+      pub lookups : done.lookups + (need left).lookups ≡ (need (lines batch)).lookups
+      pub few_bytes : done.bytes + size ≤ length batch + done.lookups
+      pub few_turns : done.turns + length left * (2 * max_read) ≤ max_lines * (2 * max_read)
+      pub few_lookups : done.lookups + length left * (1 + max_read * max_f) ≤ max_lines * (1 + max_read * max_f)
 
-    -- The lines before `from` are done. Each of those that are left can count so much.
-    pub record Going (from : ℕ) (done : Need) : Type 0 where
-      pub bytes : done.bytes + (need (left from)).bytes ≡ (need (lines batch)).bytes
-      pub turns : done.turns + (need (left from)).turns ≡ (need (lines batch)).turns
-      pub lookups : done.lookups + (need (left from)).lookups ≡ (need (lines batch)).lookups
-      pub few_bytes : done.bytes ≤ from + done.lookups
-      pub few_turns : done.turns + length (left from) * (2 * max_read) ≤ max_lines * (2 * max_read)
-      pub few_lookups : done.lookups + length (left from) * (1 + max_read * max_f) ≤ max_lines * (1 + max_read * max_f)
-
-    pub begin : batch_right batch ≡ true → (done : Need) → (done.bytes ≡ 0) × ((done.turns ≡ 0) × (done.lookups ≡ 0)) → Going 0 done
+    pub begin : batch_right batch ≡ true → (done : Need) → (done.bytes ≡ 0) × ((done.turns ≡ 0) × (done.lookups ≡ 0)) → Going (lines batch) (length batch) done
     begin right done zero =
         let few = few-lines batch right in
         record {
@@ -76,36 +72,28 @@ module _ (set : KmerSet) (e : Entry) where
         }
 
     -- A line more.
-    pub next : (from end : ℕ) (done : Need) (more : Counts) {spare : ℕ} → Going from done → LineAt batch from end
-        → Counted (length (take (end - from) (drop from batch))) spare (one_pass set e (take (end - from) (drop from batch))) (Ok more)
-        → Going (end + 1) (plus_line done more)
+    pub next : (line : List ℕ) (rest : List (List ℕ)) (size behind : ℕ) (done : Need) (more : Counts) {spare : ℕ} → Going (line ∷ rest) size done → size ≡ length line + (behind + 1)
+        → Counted (length line) spare (one_pass set e line) (Ok more) → Going rest behind (plus_line done more)
     unfolding one_pass
-    next from end done more g l c =
-        let line : List ℕ = take (end - from) (drop from batch) in
-        let rest = left (end + 1) in
-        let is : left from ≡ line ∷ rest = l.is in
+    next line rest size behind done more g is c =
         let h = c.is in
-        let many : length (left from) ≡ 1 + length rest = ap length is ∙ omega arith in
-        let size : length line ≤ end - from = omega (arith, length-take (end - from) (drop from batch)) in
         record {
-          bytes = omega (arith, g.bytes, ap (λ (ls : List (List ℕ)). (need ls).bytes) is, first-bytes line rest, h.bytes);
-          turns = omega (arith, g.turns, ap (λ (ls : List (List ℕ)). (need ls).turns) is, first-turns line rest, h.turns);
-          lookups = omega (arith, g.lookups, ap (λ (ls : List (List ℕ)). (need ls).lookups) is, first-lookups line rest, h.lookups);
-          few_bytes = omega (arith, g.few_bytes, c.bytes, h.bytes, h.lookups, size, l.after);
-          few_turns = omega (arith, g.few_turns, many, c.small.turns, h.turns);
-          few_lookups = omega (arith, g.few_lookups, many, c.small.lookups, h.lookups);
+          bytes = omega (arith, g.bytes, first-bytes line rest, h.bytes);
+          turns = omega (arith, g.turns, first-turns line rest, h.turns);
+          lookups = omega (arith, g.lookups, first-lookups line rest, h.lookups);
+          few_bytes = omega (arith, g.few_bytes, c.bytes, h.bytes, h.lookups);
+          few_turns = omega (arith, g.few_turns, c.small.turns, h.turns);
+          few_lookups = omega (arith, g.few_lookups, c.small.lookups, h.lookups);
         }
 
     -- No counter wraps.
-    pub fits : {from : ℕ} {done : Need} → Going from done → from ≤ max_read + 1
+    pub fits : {left : List (List ℕ)} {size : ℕ} {done : Need} → Going left size done → length batch ≤ max_read
         → (done.bytes < 2 ^ 63) × (done.turns < 2 ^ 63) × (done.lookups < 2 ^ 63)
     fits g h = (omega (arith, g.few_bytes, g.few_lookups), omega (arith, g.few_turns), omega (arith, g.few_lookups))
 
-    pub over : {from : ℕ} {done : Need} → Going from done → length batch ≤ from → needs_of done ≡ need (lines batch)
-    unfolding lines lines_from
-    over {from} {done} g h =
-        let none : left from ≡ [] = ap lines (drop_of_length-le batch h) in
-        let b : done.bytes ≡ (need (lines batch)).bytes = omega (arith, g.bytes, ap (λ (ls : List (List ℕ)). (need ls).bytes) none, none_left.0) in
-        let t : done.turns ≡ (need (lines batch)).turns = omega (arith, g.turns, ap (λ (ls : List (List ℕ)). (need ls).turns) none, none_left.1) in
-        let l : done.lookups ≡ (need (lines batch)).lookups = omega (arith, g.lookups, ap (λ (ls : List (List ℕ)). (need ls).lookups) none, none_left.2) in
+    pub over : {size : ℕ} {done : Need} → Going [] size done → needs_of done ≡ need (lines batch)
+    over {size} {done} g =
+        let b : done.bytes ≡ (need (lines batch)).bytes = omega (arith, g.bytes, none_left.0) in
+        let t : done.turns ≡ (need (lines batch)).turns = omega (arith, g.turns, none_left.1) in
+        let l : done.lookups ≡ (need (lines batch)).lookups = omega (arith, g.lookups, none_left.2) in
         λ i. record { bytes = b i; turns = t i; lookups = l i }

@@ -44,14 +44,11 @@ fn count_lines(set: &KmerSet, job: &Job, batch: &[u8], work: &mut [u8]) -> Need
 {
     let entry = job.entry(0);
     let mut done = Need::default();
-    let mut from = 0;
-    while from < batch.len() {
-        let end = input::line_end(batch, from);
-        let counted = count::count(set, entry, &batch[from..end], work);
+    for line in input::lines(batch) {
+        let counted = count::count(set, entry, line, work);
         // Work is as long as the batch (check 5), so Full never comes.
-        let Ok(line) = counted else { unreachable!() };
-        done = done.plus_line(line);
-        from = end + 1;
+        let Ok(more) = counted else { unreachable!() };
+        done = done.plus_line(more);
     }
     work.fill(0);
     done

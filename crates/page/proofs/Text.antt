@@ -33,9 +33,9 @@ pub length-page : (text : List ℕ) (n : ℕ) (page : List ℕ) → Page text n 
 length-page text n page p = rw (p.page, length-append, length-zeros) (omega (arith, p.bytes, p.fits))
 
 -- A page that was cleared.
-pub cleared-page : (page₀ page : List ℕ) → length page₀ ≡ page_length → page ≡ take 0 page₀ ++ replicate (length page₀ - 0) 0 → Page [] 0 page
+pub cleared-page : (page₀ page : List ℕ) → length page₀ ≡ page_length → page ≡ replicate (length page₀) 0 → Page [] 0 page
 unfolding zeros
-cleared-page page₀ page l e = record { bytes = refl; fits = omega arith; page = e ∙ ap (λ (n : ℕ). replicate (n - 0) 0) l }
+cleared-page page₀ page l e = record { bytes = refl; fits = omega arith; page = e ∙ ap (λ (n : ℕ). replicate n 0) l }
 
 put-text : (text bytes : List ℕ) (m : ℕ) → paste (text ++ zeros m) (length text) bytes (length bytes) ≡ text ++ bytes ++ zeros (m - length bytes)
 put-text text bytes m =

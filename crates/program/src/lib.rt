@@ -74,7 +74,7 @@ fn put_answer(set: &[u8], job: &[u8], batch: &[u8], page: &mut [u8]) -> usize
 pub fn printed(files: Files, page: &mut [u8; PAGE]) -> usize
     ensures { Page (Program·printed (files_of files.entry)) result page.new }
 {
-    input::clear(page, 0);
+    page.fill(0);
     let Some(set) = taken(files.set, MAX_SET) else {
         return page::put(page, 0, BAD_FILE);
     };

@@ -20,9 +20,6 @@ pub record Under (read o : List ℕ) (at : ℕ) (o' rest : List ℕ) (to : ℕ) 
   pub is : take to o' ++ lines_text rest ≡ take at o ++ lines_text read
 
 module _ (read o : List ℕ) (at : ℕ) where
-  pub under-begun : Under read o at o read at
-  under-begun = record { many = refl; is = refl }
-
   module _ (o' rest : List ℕ) (to : ℕ) (u : Under read o at o' rest to) where
     pub under-over : length rest ≡ 0 → PutIs o o' at (lines_text read) to
     unfolding ended

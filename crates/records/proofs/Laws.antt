@@ -22,7 +22,6 @@ use Rattle.rules.specs.Job.{lines_from, lines}
 use Rattle.rules_fasta.specs.Fasta.{mark, is_name, joined, records_of, records, max_records, file_right, line_right, first_wrong}
 use Rattle.refusal.specs.declared.Refusal.TheVariants.{Batch, Sequence}
 use Rattle.refusal.specs.Refusal.{refusal_of}
-use Rattle.input.specs.Input.{LineAt}
 use Rattle.records.specs.declared.Seen.{Seen}
 use Rattle.records.specs.Records.{file_check, wrong_behind, SeenWith, SeenIn}
 
@@ -74,87 +73,34 @@ module _ (named : Bool) (i : ℕ) (l : List ℕ) (ls : List (List ℕ)) where
   unfolding first_wrong
   wrong-later e = rw (first_wrong, e, add-one)
 
--- A name line has come where there is a record.
-pub named-name : (n : ℕ) → (ltb 0 n || true) ≡ ltb 0 (n + 1)
-named-name n = go (ltb 0 n) ∙ sym (lt-ltb 0 (n + 1) (omega arith))
-  where
-    go : (t : Bool) → (t || true) ≡ true
-    go true = refl
-    go false = refl
+-- ---- a read joined, by its first line
 
-pub named-on : (t : Bool) → (t || false) ≡ t
-named-on true = refl
-named-on false = refl
-
--- ---- the lines from `from` on
-
-module _ (file : List ℕ) (from : ℕ) (h : length file ≤ from) where
-  pub no_lines : lines (drop from file) ≡ []
-  unfolding lines lines_from
-  no_lines = ap lines (drop_of_length-le file h)
-
-begun : (b : ℕ) (acc bs l : List ℕ) (ls : List (List ℕ)) → lines_from (b ∷ acc) bs ≡ l ∷ ls → is_name l ≡ eqb b mark
-unfolding lines_from is_name
-begun b acc [] l ls e = absurd (let z : ◌≡◌ {A = ℕ} 0 1 = cc in omega arith)
-begun b acc (x ∷ xs) l ls e = go (eqb x 10) refl (begun b (acc ++ (x ∷ [])) xs l ls)
-  where
-    go : (t : Bool) → eqb x 10 ≡ t → (lines_from (b ∷ (acc ++ (x ∷ []))) xs ≡ l ∷ ls → is_name l ≡ eqb b mark) → is_name l ≡ eqb b mark
-    go true f i = let q : (b ∷ acc) ∷ lines_from [] xs ≡ l ∷ ls = rw (lines_from, f) at e in let s : b ∷ acc ≡ l = cc in ap is_name (sym s)
-    go false f i = i (rw (lines_from, f) at e)
-
--- The first line is a name line where its first byte is `>`.
-first-name : (b : ℕ) (bs l : List ℕ) (ls : List (List ℕ)) → lines (b ∷ bs) ≡ l ∷ ls → is_name l ≡ eqb b mark
-unfolding lines lines_from is_name
-first-name b bs l ls e = go (eqb b 10) refl
-  where
-    go : (t : Bool) → eqb b 10 ≡ t → is_name l ≡ eqb b mark
-    go true f =
-        let q : [] ∷ lines_from [] bs ≡ l ∷ ls = rw (lines_from, f) at e in
-        let s : [] ≡ l = cc in
-        ap is_name (sym s) ∙ sym (ne_eqb b mark (λ z. let y = eqb-true b 10 f in omega arith))
-    go false f = begun b [] bs l ls (rw (lines_from, f) at e)
-
--- A read ends where a name line begins.
-pub ends-at-name : (file : List ℕ) (i : ℕ) → i < length file → get_or file i 0 ≡ mark → joined (lines (drop i file)) ≡ []
-unfolding joined
-ends-at-name file i h e = go (lines (drop i file)) refl
-  where
-    go : (ls : List (List ℕ)) → lines (drop i file) ≡ ls → joined ls ≡ []
-    go [] f = refl
-    go (l ∷ ls) f =
-        let n : is_name l ≡ true = first-name (get_or file i 0) (drop (suc i) file) l ls (ap lines (sym (drop-cons file i 0 h)) ∙ f) ∙ eq-eqb (get_or file i 0) mark e in
-        rw (joined, n)
-
-module _ (file : List ℕ) (from end : ℕ) (here : from < length file) (at : LineAt file from end) where
-  abbrev line : List ℕ
-  line = take (end - from) (drop from file)
-
-  abbrev rest : List (List ℕ)
-  rest = lines (drop (end + 1) file)
-
-  pub line-length : length line ≡ end - from
-  line-length = length-take-le (end - from) (drop from file) (omega (arith, length-drop from file, at.inside))
-
-  line-name : is_name line ≡ eqb (get_or file from 0) mark
-  line-name = first-name (get_or file from 0) (drop (suc from) file) line rest (ap lines (sym (drop-cons file from 0 here)) ∙ at.is)
-
-  -- A name line begins a record.
-  pub record-begins : get_or file from 0 ≡ mark → records_of (lines (drop from file)) ≡ record { name = line; read = joined rest } ∷ records_of rest
-  unfolding records_of
-  record-begins e = let n : is_name line ≡ true = line-name ∙ eq-eqb (get_or file from 0) mark e in rw (at.is, records_of, n)
-
-  -- A line that is no name line goes on with the read, and begins no record.
-  module _ (ne : get_or file from 0 ≡ mark → ⊥) where
-    no_name : is_name line ≡ false
-    no_name = line-name ∙ ne_eqb (get_or file from 0) mark ne
-
-    pub record_same : records_of (lines (drop from file)) ≡ records_of rest
-    unfolding records_of
-    record_same = rw (at.is, records_of, no_name)
-
-    pub join_more : joined (lines (drop from file)) ≡ line ++ joined rest
+module _ (l : List ℕ) (ls : List (List ℕ)) where
+  module _ (e : is_name l ≡ true) where
+    pub join_stops : joined (l ∷ ls) ≡ []
     unfolding joined
-    join_more = rw (at.is, joined, no_name)
+    join_stops = rw (joined, e)
+
+    pub record-begins : records_of (l ∷ ls) ≡ record { name = l; read = joined ls } ∷ records_of ls
+    unfolding records_of
+    record-begins = rw (records_of, e)
+
+  module _ (e : is_name l ≡ false) where
+    pub join_more : joined (l ∷ ls) ≡ l ++ joined ls
+    unfolding joined
+    join_more = rw (joined, e)
+
+    pub record_same : records_of (l ∷ ls) ≡ records_of ls
+    unfolding records_of
+    record_same = rw (records_of, e)
+
+pub no_read : joined [] ≡ []
+unfolding joined
+no_read = refl
+
+pub no_records : records_of [] ≡ []
+unfolding records_of
+no_records = refl
 
 -- ---- checks 6 and 18
 
@@ -181,32 +127,29 @@ module _ (file : List ℕ) (some_bytes : length file ≡ 0 → ⊥) where
     few-records m = rw (ne_eqb (length file) 0 some_bytes, eq-eqb last 10 e, le-leb (length (records file)) max_records m)
 
 -- What is seen of all lines.
-module _ (file : List ℕ) (s : Seen) (all : SeenIn file (length file) s) where
-  none_left : lines (drop (length file) file) ≡ []
-  none_left = no_lines file (length file) (omega arith)
-
+module _ (file : List ℕ) (s : Seen) (all : SeenIn file [] s) where
   pub seen-records : length (records file) ≡ s.records
   unfolding records records_of
-  seen-records = omega (arith, all.counted, ap (λ (ls : List (List ℕ)). length (records_of ls)) none_left)
+  seen-records = omega (arith, all.counted)
 
   pub seen-right : (i : ℕ) → s.lines ≡ Ok i → first_wrong false 0 (lines file) ≡ none
   unfolding first_wrong
-  seen-right i e = all.judged ∙ rw (e, none_left)
+  seen-right i e = all.judged ∙ rw e
 
   pub seen-wrong : (i : ℕ) → s.lines ≡ Err i → first_wrong false 0 (lines file) ≡ some i
   seen-wrong i e = all.judged ∙ rw e
 
 -- No line is seen yet, or one more.
-pub seen_none : (file : List ℕ) → SeenIn file 0 (record { records = 0; lines = Ok 0 })
+pub seen_none : (file : List ℕ) → SeenIn file (lines file) (record { records = 0; lines = Ok 0 })
 seen_none file = record { counted = omega arith; judged = refl; few = omega arith; near = omega arith }
 
-pub seen-on : (file : List ℕ) (from end : ℕ) (s r : Seen) → LineAt file from end → SeenIn file from s → SeenWith s (take (end - from) (drop from file)) r → SeenIn file (end + 1) r
-seen-on file from end s r l i w =
+pub seen-on : (file line : List ℕ) (rest : List (List ℕ)) (s r : Seen) → SeenIn file (line ∷ rest) s → SeenWith s line r → SeenIn file rest r
+seen-on file line rest s r i w =
     record {
-      counted = i.counted ∙ ap (λ (ls : List (List ℕ)). s.records + length (records_of ls)) l.is ∙ sym (w.counted (lines (drop (end + 1) file)));
-      judged = i.judged ∙ ap (wrong_behind s) l.is ∙ sym (w.judged (lines (drop (end + 1) file)));
-      few = omega (arith, i.few, w.few, l.after);
-      near = omega (arith, i.near, w.near, l.after);
+      counted = i.counted ∙ sym (w.counted rest);
+      judged = i.judged ∙ sym (w.judged rest);
+      few = omega (arith, i.few, w.few);
+      near = omega (arith, i.near, w.near);
     }
 
 -- n are the records with line l.

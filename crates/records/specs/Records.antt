@@ -1,9 +1,13 @@
 -- What the functions ask and give, in the rules' terms.
-use Rattle.std.specs.Prelude.{ℕ, ◌+◌, ◌-◌, ◌≤◌, ◌<◌, ◌≡◌, false, List, ◌∷◌, length, get_or, take, drop, ltb, Result, Ok, Err}
-use Rattle.std.proofs.Math.Option.{Option, some}
+use Rattle.std.specs.Prelude.{ℕ, ◌+◌, ◌≤◌, ◌≡◌, false, List, [], ◌∷◌, length, take, ltb, Result, Ok, Err, Option, None, Some}
+use denote.Ref.{Bor}
+use Rattle.input.specs.declared.BatchLines.{BatchLines}
+use Rattle.input.specs.Input.{bytes_left, lines_left}
+use Rattle.std.proofs.Math.Option as Math
+use Rattle.std.proofs.Math.Option.{some}
 use Rattle.rules.specs.Refusal.{Check, ◌or_else◌, unless, at_place}
 use Rattle.rules.specs.Job.{lines}
-use Rattle.rules_fasta.specs.Fasta.{mark, joined, records_of, file_right, first_wrong}
+use Rattle.rules_fasta.specs.Fasta.{Record, joined, records_of, file_right, first_wrong}
 use Rattle.records.specs.declared.Joined.{Joined}
 use Rattle.records.specs.declared.Seen.{Seen}
 
@@ -11,17 +15,13 @@ use Rattle.records.specs.declared.Seen.{Seen}
 abbrev pub file_check : List ℕ → Check
 file_check file = unless (file_right file) 6 or_else at_place 18 (first_wrong false 0 (lines file))
 
--- A file that is not empty ends with byte 10.
-abbrev pub Ends : List ℕ → Type 0
-Ends file = 0 < length file → get_or file (length file - 1) 0 ≡ 10
-
 -- The number of the lines seen, or of the first wrong one.
 abbrev pub line_of : Result ℕ ℕ → ℕ
 line_of (Ok i) = i
 line_of (Err i) = i
 
 -- 18, by what is seen of the first lines and by those that are left.
-abbrev pub wrong_behind : Seen → List (List ℕ) → Option ℕ
+abbrev pub wrong_behind : Seen → List (List ℕ) → Math.Option ℕ
 wrong_behind s ls = elim s.lines [ Ok i ↦ first_wrong (ltb 0 s.records) i ls | Err i ↦ some i ]
 
 -- A line more: whatever lines are left behind it, records and 18 are as before.
@@ -31,17 +31,24 @@ pub record SeenWith (s : Seen) (line : List ℕ) (r : Seen) : Type 0 where
   pub few : r.records ≤ s.records + 1
   pub near : line_of r.lines ≤ line_of s.lines + 1
 
--- The lines up to `from` are seen.
-pub record SeenIn (file : List ℕ) (from : ℕ) (s : Seen) : Type 0 where
-  pub counted : length (records_of (lines file)) ≡ s.records + length (records_of (lines (drop from file)))
-  pub judged : first_wrong false 0 (lines file) ≡ wrong_behind s (lines (drop from file))
-  pub few : s.records ≤ from
-  pub near : line_of s.lines ≤ from
+-- All lines are seen but those that are left.
+pub record SeenIn (file : List ℕ) (left : List (List ℕ)) (s : Seen) : Type 0 where
+  pub counted : length (records_of (lines file)) ≡ s.records + length (records_of left)
+  pub judged : first_wrong false 0 (lines file) ≡ wrong_behind s left
+  pub few : s.records + length left ≤ length (lines file)
+  pub near : line_of s.lines + length left ≤ length (lines file)
 
--- The lines from `from` on up to the next name line stand joined at the front of the work buffer; what is left begins with that line.
-pub record JoinedIs (file : List ℕ) (from : ℕ) (work : List ℕ) (r : Joined) : Type 0 where
-  pub read : take r.read work ≡ joined (lines (drop from file))
-  pub rest : records_of (lines (drop from file)) ≡ records_of (lines (drop r.next file))
-  pub short : from + r.read ≤ r.next
-  pub inside : r.next ≤ length file
-  pub stops : r.next < length file → get_or file r.next 0 ≡ mark
+-- The records from a name line on, by the lines behind it; none where there is no name line.
+abbrev pub records_at : Option (Bor (List ℕ)) → List (List ℕ) → List Record
+records_at None ls = []
+records_at (Some name) ls = record { name = name.now; read = joined ls } ∷ records_of ls
+
+abbrev pub name_length : Option (Bor (List ℕ)) → ℕ
+name_length None = 0
+name_length (Some name) = length name.now
+
+-- The lines up to the next name line stand joined at the front of the work buffer; that line is answered, and those behind it are left.
+pub record JoinedIs (old new : BatchLines) (work : List ℕ) (r : Joined) : Type 0 where
+  pub read : take r.read work ≡ joined (lines_left old)
+  pub rest : records_of (lines_left old) ≡ records_at r.name (lines_left new)
+  pub short : r.read + name_length r.name + length (bytes_left new) ≤ length (bytes_left old)

@@ -1,11 +1,12 @@
 // The records of a FASTA file: checks 6 and 18, and a record's sequence lines joined. Document 02, W11.
 #![tactic(auto)]
 
-ghost use Rattle.std.specs.Prelude.{◌≡◌, ◌+◌, ◌≤◌, ◌<◌, ◌^◌, length};
+ghost use Rattle.std.specs.Prelude.{◌≡◌, ◌≤◌, ◌<◌, ◌^◌, [], length};
 ghost use Rattle.rules_fasta.specs.Fasta.{is_name, line_right};
-ghost use Rattle.input.specs.Input.{check_of};
-ghost use Rattle.records.specs.Records.{file_check, line_of, Ends, SeenWith, SeenIn, JoinedIs};
+ghost use Rattle.input.specs.Input.{check_of, bytes_left};
+ghost use Rattle.records.specs.Records.{file_check, line_of, SeenWith, SeenIn, JoinedIs};
 
+use input::BatchLines;
 use refusal::Refusal;
 
 const MAX_RECORDS: usize = 1024;
@@ -54,18 +55,15 @@ fn see(seen: Seen, line: &[u8]) -> Seen
 
 // All lines, looked at once for both checks.
 fn see_all(file: &[u8]) -> Seen
-    requires { Ends file.now × (length file.now < 2 ^ 32) }
-    ensures { SeenIn file.now (length file.now) result }
+    requires { length file.now < 2 ^ 32 }
+    ensures { SeenIn file.now [] result }
 {
     let mut seen = Seen {
         records: 0,
         lines: Ok(0),
     };
-    let mut from = 0;
-    while from < file.len() {
-        let end = input::line_end(file, from);
-        seen = see(seen, &file[from..end]);
-        from = end + 1;
+    for line in input::lines(file) {
+        seen = see(seen, line);
     }
     seen
 }
@@ -91,29 +89,29 @@ pub fn check_file(file: &[u8]) -> Result<(), Refusal>
     }
 }
 
-// How long a joined read is, and where the next name line is, or the file's end.
+// How long a joined read is, and the name line behind it, if any.
 #[derive(Clone, Copy)]
-pub struct Joined {
+pub struct Joined<'a> {
     pub read: usize,
-    pub next: usize,
+    pub name: Option<&'a [u8]>,
 }
 
-// The lines from `from` up to the next name line, joined at the front of the work buffer without their ends.
-pub fn join(file: &[u8], from: usize, work: &mut [u8]) -> Joined
-    requires { Ends file.now × (from ≤ length file.now) × (length file.now ≤ length work.old) }
-    ensures { JoinedIs file.now from work.new result }
+// The lines up to the next name line, joined at the front of the work buffer without their ends.
+pub fn join<'a>(lines: &mut BatchLines<'a>, work: &mut [u8]) -> Joined<'a>
+    requires { length (bytes_left lines.old) ≤ length work.old }
+    ensures { JoinedIs lines.old lines.new work.new result }
 {
     let mut read = 0;
-    let mut next = from;
-    while next < file.len() {
-        if file[next] == MARK {
-            return Joined { read, next };
+    // Tried: `for line in lines.by_ref()`; a proof can't say there what is left of the lines behind it.
+    while let Some(line) = lines.next() {
+        if is_name(line) {
+            return Joined {
+                read,
+                name: Some(line),
+            };
         }
-        let end = input::line_end(file, next);
-        let line = &file[next..end];
         work[read..read + line.len()].copy_from_slice(line);
         read += line.len();
-        next = end + 1;
     }
-    Joined { read, next }
+    Joined { read, name: None }
 }

@@ -1,7 +1,7 @@
 use Rattle.std.proofs.Common.{◌≡◌, length, arith}
 use borrow.Author.Tests.{eq-eqb, ne_eqb}
 use Rattle.rules.specs.Calls.{batch_right}
-use Rattle.input.proofs.Lines.{no-batch}
+use Rattle.input.proofs.Batch.{no-batch}
 use Rattle.input.proofs.batch_right.Goals as goal
 
 pub returns-in-empty : goal.returns-in-empty

@@ -1,7 +1,7 @@
 use Rattle.std.proofs.Common.{◌∙◌, rules, tests, eqb}
 use Rattle.std.proofs.lemmas.Iterator.{YieldsList-from_slice}
 use Rattle.std.proofs.lemmas.Iterator.Consumers.{YieldsList-at, YieldsList-from_filter, count_from_yields_List}
-use Rattle.input.proofs.Lines.{lines-counted}
+use Rattle.input.proofs.Batch.{lines-counted}
 use Rattle.input.proofs.count_lines.Goals as goal
 
 pub returns : goal.returns

@@ -1,25 +1,28 @@
-use Prim.Native.Nat.{ℕ, ◌-◌, ◌<◌}
+use Prim.Native.Nat.{ℕ, ◌+◌, ◌<◌}
 use native.Mathlib.Omega.{arith}
 use mathlib.Core.Path.{◌≡◌, refl, sym, ap, ap₂, ◌∙◌}
 use mathlib.Core.List.{List, [], ◌∷◌}
-use lib.ListN.{drop, length-take, length-drop}
+use lib.ListN.{length}
 use Rattle.std.proofs.lemmas.Grind.{common_steps}
 use Rattle.rules.specs.Refusal.{accepted}
 use Rattle.rules.specs.Job.{Entry, entries_of, lines}
 use Rattle.rules_needs.specs.Needs.{needed_for}
 use Rattle.entries.specs.Entries.{entry_of}
+use Rattle.input.specs.Input.{bytes_left, lines_left}
+use Rattle.input.proofs.Batch.{line-size}
 use Rattle.turn.specs.Turn.{offered}
-use Rattle.report.proofs.Within.{ends-in-10}
 use Rattle.needs.proofs.Lines.{sole-entry, begin, next, over}
-use Rattle.needs.proofs.count_lines.Goals.{At-loop-from}
+use Rattle.needs.proofs.count_lines.Goals.{At-loop-line, In-Some}
 use Rattle.needs.proofs.count_lines.Goals as goal
 
-pub loop-from-init : goal.loop-from-init
-loop-from-init c = (omega arith, refl, begin _ _ c.args.batch.now c.requires.1 c.default-done.result c.default-done.ensures)
+pub loop-line-init : goal.loop-line-init
+loop-line-init c =
+    let all = ap bytes_left c.into_iter-line-iterator.ensures.into_iter_gives ∙ c.lines-line-items.ensures in
+    rw all (omega arith, refl, begin _ _ c.args.batch.now c.requires.1 c.default-done.result c.default-done.ensures)
 
-pub line_end-end-requires : goal.line_end-end-requires
-line_end-end-requires c =
-    (c.loop-from-test.true, ends-in-10 c.args.batch.now c.requires.1 (omega (arith, c.loop-from-test.true)))
+-- What is left behind the line.
+size : (c : In-Some) → length (bytes_left c.loop-line.line-iterator) ≡ length c.in-Some.line.now + (length (bytes_left c.next.new.self) + 1)
+size c = line-size _ c.in-Some.line.now _ c.in-Some.ensures.steps.1
 
 pub entry-entry-requires : goal.entry-entry-requires
 entry-entry-requires c = omega (arith, c.requires.0.one)
@@ -27,28 +30,28 @@ entry-entry-requires c = omega (arith, c.requires.0.one)
 -- A line is no longer than the batch.
 pub count-counted-requires : goal.count-counted-requires
 count-counted-requires c =
-    let from = c.loop-from.from in
-    let n = c.line_end-end.result - from in
-    omega (arith, c.requires.0.input, length-take n (drop from c.args.batch.now), length-drop from c.args.batch.now)
+    omega (arith, c.requires.0.input, size (goal.at.count-counted-requires c).In-Some, c.loop-line.invariant.0)
 
 -- The line is counted, and the next one is due.
-pub loop-from-preserved : goal.loop-from-preserved
-loop-from-preserved c =
-    let i = c.loop-from.invariant in (
-      omega (arith, c.line_end-end.ensures.inside),
+pub loop-line-preserved : goal.loop-line-preserved
+loop-line-preserved c =
+    let i = c.loop-line.invariant in
+    let s = size (goal.at.loop-line-preserved c).In-Some in (
+      omega (arith, s, i.0),
       c.count-counted.auto.spare ∙ i.1,
-      rw c.plus_line-done.ensures (next _ _ _ c.loop-from.from _ _ _ i.2 c.line_end-end.ensures c.in-Ok.ensures),
+      rw c.plus_line-done.ensures (next _ _ _ c.in-Some.line.now (lines_left c.next.new.self) _ _ _ _ (rw c.in-Some.ensures.steps.0 at i.2) s c.in-Ok.ensures),
     )
 
 -- The job's one entry.
-sole : (c : At-loop-from) → entries_of c.args.job.now.bytes.now ≡ entry_of c.entry-entry.result ∷ []
+sole : (c : At-loop-line) → entries_of c.args.job.now.bytes.now ≡ entry_of c.entry-entry.result ∷ []
 sole c = sole-entry c.args.job.now.bytes.now c.requires.0.one ∙ ap (λ (e : Entry). e ∷ []) (sym c.entry-entry.ensures)
 
 pub returns : goal.returns
 returns c =
     let a = c.args in
-    let done = over _ _ a.batch.now c.loop-from.invariant.2 c.loop-from-test.false in
+    let last = rw c.in-None.ensures.steps.0 at c.loop-line.invariant.2 in
+    let done = over _ _ a.batch.now last in
     record {
-      answer = ap accepted (done ∙ ap (λ (es : List Entry). needed_for (offered a.set.now) es (lines a.batch.now)) (sym (sole (goal.at.returns c).At-loop-from)));
+      answer = ap accepted (done ∙ ap (λ (es : List Entry). needed_for (offered a.set.now) es (lines a.batch.now)) (sym (sole (goal.at.returns c).At-loop-line)));
       zeroed = grind (arith, common_steps);
     }

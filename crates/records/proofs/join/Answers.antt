@@ -1,65 +1,72 @@
 use Prim.Native.Nat.{ℕ, ◌+◌, ◌-◌, ◌<◌}
 use native.Mathlib.Omega.{arith}
 use mathlib.Core.Path.{◌≡◌, refl, sym, ap, ◌∙◌}
-use mathlib.Core.List.{List, [], ◌++◌, append-nil, append_assoc}
+use mathlib.Core.Bool.{true, false}
+use mathlib.Core.List.{List, [], ◌∷◌, ◌++◌, append-nil, append_assoc}
 use borrow.Author.Rules.{rules}
 use borrow.Rule.Slice.PartMut.{same_len_mid}
 use lib.ListN.{length, take, drop}
 use Rattle.std.proofs.lemmas.Slice.{take-put_mid}
-use Rattle.rules.specs.Job.{lines}
-use Rattle.rules_fasta.specs.Fasta.{joined}
-use Rattle.records.proofs.Laws.{line-length, record_same, join_more, ends-at-name, no_lines}
+use Rattle.rules_fasta.specs.Fasta.{is_name, joined, records_of}
+use Rattle.input.specs.Input.{bytes_left, lines_left}
+use Rattle.input.proofs.Batch.{line-size}
+use Rattle.records.proofs.Laws.{join_stops, join_more, record-begins, record_same, no_read, no_records}
+use Rattle.records.proofs.join.Goals.{In-Some}
 use Rattle.records.proofs.join.Goals as goal
 
-pub loop-next-init : goal.loop-next-init
-loop-next-init c = (search rules, search rules, refl, refl, refl)
+pub loop-line-init : goal.loop-line-init
+loop-line-init c = (omega arith, refl, refl, refl)
 
-pub returns-then-file-next-eq-MARK : goal.returns-then-file-next-eq-MARK
-returns-then-file-next-eq-MARK c =
-    let l = c.loop-next in
-    let a = c.args in
-    let over = ends-at-name a.file.now l.next (search rules) c.if-file-next-eq-MARK.true in
+-- What is left behind the line.
+size : (c : In-Some) → length (bytes_left c.loop-line.lines) ≡ length c.in-Some.line.now + (length (bytes_left c.next.new.self) + 1)
+size c = line-size _ c.in-Some.line.now _ c.in-Some.ensures.steps.1
+
+pub returns-then-is_name : goal.returns-then-is_name
+returns-then-is_name c =
+    let l = c.loop-line in
+    let first = c.in-Some.ensures.steps.0 in
+    let name : is_name c.in-Some.line.now ≡ true = sym c.is_name.ensures ∙ c.if-is_name.true in
+    let over = ap joined first ∙ join_stops c.in-Some.line.now (lines_left c.next.new.self) name in
     record {
-      read = sym (append-nil (take l.read l.work)) ∙ ap (λ (t : List ℕ). take l.read l.work ++ t) (sym over) ∙ l.invariant.3;
-      rest = l.invariant.4;
-      short = l.invariant.0;
-      inside = l.invariant.1;
-      stops = λ h. c.if-file-next-eq-MARK.true;
+      read = sym (append-nil (take l.read l.work)) ∙ ap (λ (t : List ℕ). take l.read l.work ++ t) (sym over) ∙ l.invariant.2;
+      rest = l.invariant.3 ∙ ap records_of first ∙ record-begins c.in-Some.line.now (lines_left c.next.new.self) name;
+      short = omega (arith, l.invariant.0, size (goal.at.returns-then-is_name c).In-Some);
     }
 
-pub line_end-end-requires : goal.line_end-end-requires
-line_end-end-requires c = (search rules, c.requires.0 (search rules))
+pub overflow_add-read : goal.overflow_add-read
+overflow_add-read c = record { fits = omega (arith, c.loop-line.invariant.0, size (goal.at.overflow_add-read c).In-Some, c.requires, c.well_formed) }
 
-pub loop-next-preserved : goal.loop-next-preserved
-loop-next-preserved c =
-    let l = c.loop-next in
-    let file = c.args.file.now in
-    let end = c.line_end-end.result in
-    let e = c.line_end-end.ensures in
-    let ne = c.if-file-next-eq-MARK.false in
-    let here : l.next < length file = search rules in
-    let line : List ℕ = take (end - l.next) (drop l.next file) in
-    let more = joined (lines (drop (end + 1) file)) in (
-      omega (arith, e.after, l.invariant.0, line-length file l.next end here e),
-      omega (arith, e.inside),
-      same_len_mid l.read (l.read + length line - l.read) l.work c.copy_from_slice.new.self c.copy_from_slice.auto.self ∙ l.invariant.2,
-      ap (λ (t : List ℕ). t ++ more) (take-put_mid l.read (l.read + length line - l.read) l.work c.copy_from_slice.new.self (l.read + length line) (omega (arith, ap length c.copy_from_slice.ensures.after)) (omega (arith, l.invariant.0, l.invariant.1, l.invariant.2, c.requires.2)))
-          ∙ rw c.copy_from_slice.ensures.after (append_assoc (take l.read l.work) line more)
-          ∙ ap (λ (t : List ℕ). take l.read l.work ++ t) (sym (join_more file l.next end here e ne))
-          ∙ l.invariant.3,
-      l.invariant.4 ∙ record_same file l.next end here e ne,
+pub slice_bounds-copy_from_slice-end : goal.slice_bounds-copy_from_slice-end
+slice_bounds-copy_from_slice-end c = omega (arith, c.loop-line.invariant.0, c.loop-line.invariant.1, size (goal.at.slice_bounds-copy_from_slice-end c).In-Some, c.requires)
+
+pub loop-line-preserved : goal.loop-line-preserved
+loop-line-preserved c =
+    let l = c.loop-line in
+    let line = c.in-Some.line.now in
+    let first = c.in-Some.ensures.steps.0 in
+    let left = lines_left c.next.new.self in
+    let n = length line in
+    let s = size (goal.at.loop-line-preserved c).In-Some in
+    let plain : is_name line ≡ false = sym c.is_name.ensures ∙ c.if-is_name.false in (
+      omega (arith, l.invariant.0, s),
+      same_len_mid l.read (l.read + n - l.read) l.work c.copy_from_slice.new.self c.copy_from_slice.auto.self ∙ l.invariant.1,
+      ap (λ (t : List ℕ). t ++ joined left) (take-put_mid l.read (l.read + n - l.read) l.work c.copy_from_slice.new.self (l.read + n) (omega (arith, ap length c.copy_from_slice.ensures.after)) (omega (arith, l.invariant.0, l.invariant.1, s, c.requires)))
+          ∙ rw c.copy_from_slice.ensures.after (append_assoc (take l.read l.work) line (joined left))
+          ∙ ap (λ (t : List ℕ). take l.read l.work ++ t) (sym (ap joined first ∙ join_more line left plain))
+          ∙ l.invariant.2,
+      l.invariant.3 ∙ ap records_of first ∙ record_same line left plain,
     )
 
+pub loop-line-smaller : goal.loop-line-smaller
+loop-line-smaller c = omega (arith, ap length c.in-Some.ensures.steps.0)
+
 pub returns : goal.returns
-unfolding joined
 returns c =
-    let l = c.loop-next in
-    let a = c.args in
-    let over : joined (lines (drop l.next a.file.now)) ≡ [] = ap joined (no_lines a.file.now l.next (search rules)) in
+    let l = c.loop-line in
+    let over = c.in_default.ensures.steps in
+    let same : length (bytes_left c.next.new.self) ≡ length (bytes_left l.lines) = ap (λ x. length (bytes_left x)) over.1 in
     record {
-      read = sym (append-nil (take l.read l.work)) ∙ ap (λ (t : List ℕ). take l.read l.work ++ t) (sym over) ∙ l.invariant.3;
-      rest = l.invariant.4;
-      short = l.invariant.0;
-      inside = l.invariant.1;
-      stops = λ h. absurd (search rules);
+      read = sym (append-nil (take l.read l.work)) ∙ ap (λ (t : List ℕ). take l.read l.work ++ t) (sym (ap joined over.0 ∙ no_read)) ∙ l.invariant.2;
+      rest = l.invariant.3 ∙ ap records_of over.0 ∙ no_records;
+      short = omega (arith, l.invariant.0, same);
     }

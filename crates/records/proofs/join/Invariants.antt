@@ -1,19 +1,18 @@
-use Prim.Native.Nat.{◌+◌, ◌-◌, ◌≤◌}
+use Prim.Native.Nat.{◌+◌, ◌≤◌}
 use mathlib.Core.Path.{◌≡◌}
 use mathlib.Core.List.{◌++◌}
-use lib.ListN.{length, take, drop}
-use Rattle.rules.specs.Job.{lines}
+use lib.ListN.{length, take}
 use Rattle.rules_fasta.specs.Fasta.{joined, records_of}
+use Rattle.input.specs.Input.{bytes_left, lines_left}
 use Rattle.records.proofs.join.Given as goal
 
 -- What is joined, and what is left.
-abbrev pub invariant-loop-next : goal.invariant-loop-next
-invariant-loop-next l =
-    (l.from + l.read ≤ l.next)
-    × (l.next ≤ length l.file)
+abbrev pub invariant-loop-line : goal.invariant-loop-line
+invariant-loop-line l =
+    (l.read + length (bytes_left l.lines) ≤ length (bytes_left l.initial.lines))
     × (length l.work ≡ length l.initial.work)
-    × (take l.read l.work ++ joined (lines (drop l.next l.file)) ≡ joined (lines (drop l.from l.file)))
-    × (records_of (lines (drop l.from l.file)) ≡ records_of (lines (drop l.next l.file)))
+    × (take l.read l.work ++ joined (lines_left l.lines) ≡ joined (lines_left l.initial.lines))
+    × (records_of (lines_left l.initial.lines) ≡ records_of (lines_left l.lines))
 
-abbrev pub decreases-loop-next : goal.decreases-loop-next
-decreases-loop-next l = length l.file - l.next
+abbrev pub decreases-loop-line : goal.decreases-loop-line
+decreases-loop-line l = length (lines_left l.lines)

@@ -1,29 +1,24 @@
 use native.Mathlib.Omega.{arith}
-use mathlib.Core.Path.{◌≡◌}
-use borrow.Author.Rules.{rules}
-use lib.ListN.{length}
+use mathlib.Core.Path.{ap, ◌∙◌}
+use Rattle.input.specs.Input.{bytes_left, lines_left}
+use Rattle.input.proofs.Batch.{lines-fit}
 use Rattle.records.proofs.Laws.{seen_none, seen-on}
 use Rattle.records.proofs.see_all.Goals as goal
 
-pub loop-from-init : goal.loop-from-init
-loop-from-init c = (search rules, seen_none _)
-
-pub line_end-end-requires : goal.line_end-end-requires
-line_end-end-requires c = (search rules, c.requires.0 (search rules))
+pub loop-line-init : goal.loop-line-init
+loop-line-init c =
+    let all = ap bytes_left c.into_iter-line-iterator.ensures.into_iter_gives ∙ c.lines-line-items.ensures in
+    rw all (seen_none c.args.file.now)
 
 pub see-seen-requires : goal.see-seen-requires
 see-seen-requires c =
-    let i = c.loop-from.invariant in
-    (omega (arith, i.0, i.1.few, c.requires.1), omega (arith, i.0, i.1.near, c.requires.1))
+    let i = c.loop-line.invariant in
+    let fit = lines-fit c.args.file.now in
+    (omega (arith, i.few, fit, c.requires), omega (arith, i.near, fit, c.requires))
 
-pub loop-from-preserved : goal.loop-from-preserved
-loop-from-preserved c =
-    let e = c.line_end-end.ensures in
-    let l = c.loop-from in
-    (omega (arith, e.inside), seen-on _ l.from _ l.seen _ e l.invariant.1 c.see-seen.ensures)
+pub loop-line-preserved : goal.loop-line-preserved
+loop-line-preserved c =
+    seen-on _ c.in-Some.line.now (lines_left c.next.new.self) _ _ (rw c.in-Some.ensures.steps.0 at c.loop-line.invariant) c.see-seen.ensures
 
 pub returns : goal.returns
-returns c =
-    let l = c.loop-from in
-    let e : l.from ≡ length c.args.file.now = search rules in
-    rw e at l.invariant.1
+returns c = rw c.in-None.ensures.steps.0 at c.loop-line.invariant
