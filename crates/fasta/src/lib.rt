@@ -15,8 +15,8 @@ use refusal::Refusal;
 use report::Report;
 use set::{KmerSet, STARTS};
 
-// The records of a file in turn. A record's read is joined into the work buffer, which has room for twice the file. A loop of its own beside
-// that of lines::correct_lines: one over a trait that gives the next record would have to state both steps' contracts, and is no plainer.
+// The records of a file in turn. A record's read is joined into the work buffer, which has room for twice the file; an iterator of records would
+// have to hold that buffer, and one loop for this and lines::correct_lines both steps' contracts: neither is plainer.
 fn correct_records(
     set: &KmerSet,
     job: &Job,
