@@ -1,13 +1,9 @@
 -- Checks 1 to 5.
-use Prim.Native.Nat.{ℕ, suc, ◌+◌, ◌-◌, ◌≤◌, ◌<◌}
-use native.Mathlib.Omega.{arith}
-use native.Mathlib.Numerals.{add-one}
+use Prim.Native.Nat.{ℕ}
 use mathlib.Core.Path.{◌≡◌, sym}
-use mathlib.Core.Bool.{Bool, true, false}
 use mathlib.Core.List.{List}
-use mathlib.Core.Option.{none, some}
 use lib.Dec.{eqb, leb}
-use Rattle.rules.specs.Refusal.{◌or_else◌, unless, first_failing}
+use Rattle.rules.specs.Refusal.{◌or_else◌, unless}
 use Rattle.rules.specs.Job.{entry_count}
 use Rattle.rules.specs.Calls.{max_read, buffers_right, job_check, input_check}
 use Rattle.rules_laws.proofs.Upward.{or_else-assoc}

@@ -1,5 +1,5 @@
 -- What the answers mean in the rules' terms.
-use Rattle.std.specs.Prelude.{ℕ, ◌*◌, ◌≤◌, ◌≡◌, List, [], ◌∷◌, ◌++◌, length, Option, None, Some, Result}
+use Rattle.std.specs.Prelude.{ℕ, ◌*◌, ◌≤◌, ◌≡◌, List, [], ◌∷◌, ◌++◌, Option, None, Some, Result}
 use Rattle.std.specs.Result.{ForOk}
 use denote.Ref.{Bor}
 use Rattle.input.specs.declared.BatchLines.{BatchLines}
