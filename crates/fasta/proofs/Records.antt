@@ -3,13 +3,13 @@ use Prim.Native.Nat.{ℕ, ◌+◌, ◌*◌, ◌-◌, ◌^◌, ◌≤◌, ◌<◌
 use native.Mathlib.Omega.{arith}
 use native.Mathlib.Nat.{add-zero, zero-add, sub-zero}
 use native.Mathlib.Numerals.{add-one}
-use borrow.Author.Tests.{leb-true, eqb-true, ne_eqb}
+use borrow.Author.Tests.{leb-true}
 use mathlib.Core.Path.{◌≡◌, refl, sym, ap, ap₂, ◌∙◌, subst}
 use mathlib.Core.Bool.{Bool, true, ◌||◌}
 use mathlib.Core.Option.{none, some}
 use mathlib.Core.Logic.{⊎_elim}
 use mathlib.Core.List.{List, [], ◌∷◌, ◌++◌, append-nil}
-use lib.ListN.{length, get_or, take, drop, replicate}
+use lib.ListN.{length, get_or, take, replicate}
 use lib.Dec.{eqb, ltb, leb}
 use lib.Seq.{length-take-le, take-length}
 use Rattle.rules.specs.Refusal.{accepted}
@@ -22,7 +22,7 @@ use Rattle.rules_laws.proofs.Opened.{both as and-true}
 use Rattle.rules_laws.proofs.Job.{entries_of-length}
 use Rattle.rules_laws.proofs.Support.{weaker-none}
 use Rattle.rules_laws.proofs.Calls.{sum_first, support-first}
-use Rattle.rules_fasta.specs.Fasta.{mark, Record, records_of, records, reads_of, max_records, file_right, text, texts, no_room_at, with_written, fasta_report, corrected_records}
+use Rattle.rules_fasta.specs.Fasta.{Record, records_of, records, reads_of, max_records, file_right, text, texts, no_room_at, with_written, fasta_report, corrected_records}
 use Rattle.rules_fasta.proofs.Text.{no-room-text, no-room-pass, room-later}
 use Rattle.rules_fasta.proofs.Calls.{records-full, records-fit}
 use Rattle.set.specs.Counted.{set_with}

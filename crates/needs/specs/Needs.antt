@@ -2,7 +2,7 @@
 use Rattle.std.specs.Prelude.{ℕ, ◌+◌, ◌≤◌, ◌≡◌, List, length, replicate, Result, Ok, Err}
 use Rattle.rules.specs.Refusal.{Outcome, accepted, refused}
 use Rattle.rules.specs.Set.{KmerSet}
-use Rattle.rules.specs.Job.{Entry, entry_count, entries_of, Confirmed, lines}
+use Rattle.rules.specs.Job.{Entry, entry_count, entries_of, lines}
 use Rattle.rules_ceiling.specs.Ceiling.{Demand3}
 use Rattle.rules.specs.Calls.{max_read}
 use Rattle.rules_needs.specs.Needs as rules

@@ -1,8 +1,8 @@
 -- A file line by line.
-use Prim.Native.Nat.{ℕ, suc, ◌+◌, ◌-◌, ◌≤◌, ◌<◌}
+use Prim.Native.Nat.{ℕ, ◌+◌, ◌-◌, ◌≤◌, ◌<◌}
 use native.Mathlib.Omega.{arith}
 use native.Mathlib.Numerals.{add-one}
-use borrow.Author.Tests.{lt-ltb, le-leb, lt-leb, eq-eqb, ne_eqb, eqb-true}
+use borrow.Author.Tests.{le-leb, lt-leb, eq-eqb, ne_eqb}
 use mathlib.Core.Path.{◌≡◌, refl, sym, ap, ◌∙◌}
 use mathlib.Core.Bool.{Bool, true, false, not, ◌&&◌, ◌||◌}
 use mathlib.Core.Option.{none, some}
@@ -14,8 +14,7 @@ use Rattle.std.specs.List.{list_any}
 use Rattle.std.proofs.lemmas.Grind.{common_steps}
 use mathlib.Core.List.{List, [], ◌∷◌, ◌++◌}
 use lib.Dec.{eqb, ltb}
-use lib.ListN.{length, get_or, take, drop, length-drop, drop_of_length-le}
-use lib.Seq.{drop-cons, length-take-le}
+use lib.ListN.{length, get_or}
 use Rattle.rules.specs.Letters.{among}
 use Rattle.rules.specs.Refusal.{unless, at_place, ◌or_else◌}
 use Rattle.rules.specs.Job.{lines_from, lines}
@@ -23,7 +22,7 @@ use Rattle.rules_fasta.specs.Fasta.{mark, is_name, joined, records_of, records, 
 use Rattle.refusal.specs.declared.Refusal.TheVariants.{Batch, Sequence}
 use Rattle.refusal.specs.Refusal.{refusal_of}
 use Rattle.records.specs.declared.Seen.{Seen}
-use Rattle.records.specs.Records.{file_check, wrong_behind, SeenWith, SeenIn}
+use Rattle.records.specs.Records.{file_check, SeenWith, SeenIn}
 
 -- ---- `>` in a line
 

@@ -1,13 +1,13 @@
 use Prim.Native.Nat.{ℕ, ◌+◌, ◌≤◌}
 use native.Mathlib.Omega.{arith}
 use mathlib.Core.Path.{◌≡◌, refl, sym, ap, ◌∙◌}
-use mathlib.Core.List.{List, [], ◌∷◌}
+use mathlib.Core.List.{[], ◌∷◌}
 use lib.ListN.{length, take}
 use Rattle.rules.specs.Calls.{Given}
 use Rattle.rules.specs.Driver.{weaker}
 use Rattle.rules.specs.Job.{lines}
-use Rattle.rules_fasta.specs.Fasta.{Record, max_records, joined, records_of}
-use Rattle.input.specs.Input.{bytes_left, lines_left}
+use Rattle.rules_fasta.specs.Fasta.{max_records, records_of}
+use Rattle.input.specs.Input.{lines_left}
 use Rattle.report.specs.Answer.{given}
 use Rattle.std.specs.Prelude.{Option as Told}
 use Rattle.support.specs.Support.{support_of}
@@ -15,8 +15,8 @@ use Rattle.support.proofs.Laws.{told, told-is}
 use Rattle.std.proofs.lemmas.Grind.{common_steps}
 use Rattle.turn.specs.Turn.{Fits, summed}
 use Rattle.lines.proofs.Batch.{Weaker, default-is}
-use Rattle.records.specs.Records.{records_at, name_length}
-use Rattle.fasta.proofs.Records.{going, fasta-begun, read-within, fasta-no-room, fasta-next, fasta-few, fasta-fits, fasta-small, fasta-accepted}
+use Rattle.records.specs.Records.{records_at}
+use Rattle.fasta.proofs.Records.{going, fasta-begun, fasta-no-room, fasta-next, fasta-few, fasta-fits, fasta-small, fasta-accepted}
 use Rattle.fasta.proofs.correct_records.Goals.{Start, At-loop-next, In-Some, After-join-joined, In-Ok}
 use Rattle.fasta.proofs.correct_records.Goals as goal
 

@@ -1,13 +1,12 @@
-use Prim.Native.Nat.{ℕ, ◌+◌, ◌≤◌, ◌<◌, ◌^◌}
+use Prim.Native.Nat.{ℕ, ◌+◌}
 use native.Mathlib.Omega.{arith}
 use mathlib.Core.Path.{◌≡◌, refl, ap, ◌∙◌}
 use mathlib.Core.Logic.{inl}
-use mathlib.Core.List.{List, [], ◌∷◌}
+use mathlib.Core.List.{[], ◌∷◌}
 use lib.ListN.{length}
-use borrow.Author.Rules.{rules}
 use Rattle.std.proofs.lemmas.Grind.{common_steps}
 use Rattle.std.specs.Iterator.Adapters.{enumerate_source, enumerate_count}
-use Rattle.rules.specs.Calls.{Given, max_lines}
+use Rattle.rules.specs.Calls.{Given}
 use Rattle.std.specs.Prelude.{Option as Told}
 use Rattle.rules.specs.Driver.{weaker}
 use Rattle.support.specs.Support.{support_of}
@@ -15,7 +14,7 @@ use Rattle.support.proofs.Laws.{told, told-is}
 use Rattle.rules.specs.Job.{lines}
 use Rattle.input.specs.Input.{bytes_left, lines_left}
 use Rattle.input.proofs.Batch.{line-size}
-use Rattle.turn.specs.Turn.{Fits, summed}
+use Rattle.turn.specs.Turn.{summed}
 use Rattle.report.specs.Answer.{given}
 use Rattle.report.proofs.Within.{few-lines}
 use Rattle.lines.proofs.Batch.{Weaker, going, default-is, begin, batch-no-room, batch-next, batch-fits, batch-small, batch-accepted}

@@ -1,10 +1,9 @@
-use Prim.Native.Nat.{ℕ, ◌+◌, ◌-◌}
+use Prim.Native.Nat.{◌+◌, ◌-◌}
 use native.Mathlib.Omega.{arith}
-use mathlib.Core.Path.{◌≡◌, refl, sym, ◌∙◌, subst}
+use mathlib.Core.Path.{◌≡◌, refl}
 use lib.ListN.{length}
 use Rattle.std.proofs.lemmas.Slice.{put_mid-paste}
 use Rattle.page.proofs.Text.{put-page}
-use Rattle.page.specs.Page.{Puts}
 use Rattle.page.proofs.put.Goals as goal
 
 pub returns : goal.returns

@@ -1,9 +1,8 @@
 use Prim.Native.Nat.{ℕ}
-use mathlib.Core.Path.{◌≡◌, subst}
-use mathlib.Core.Option.{some}
+use mathlib.Core.Path.{subst}
 use mathlib.Core.List.{List, []}
 use borrow.Author.Rules.{rules}
-use Rattle.rules_program.specs.Program.{Files, bad_file, up_to, printed}
+use Rattle.rules_program.specs.Program.{Files}
 use Rattle.page.specs.Page.{Page}
 use Rattle.page.proofs.Text.{cleared-page}
 use Rattle.program.specs.Given.{files_of}

@@ -1,11 +1,10 @@
-use Prim.Native.Nat.{ℕ, ◌+◌, ◌-◌, ◌<◌}
+use Prim.Native.Nat.{ℕ, ◌+◌, ◌-◌}
 use native.Mathlib.Omega.{arith}
 use mathlib.Core.Path.{◌≡◌, refl, sym, ap, ◌∙◌}
 use mathlib.Core.Bool.{true, false}
-use mathlib.Core.List.{List, [], ◌∷◌, ◌++◌, append-nil, append_assoc}
-use borrow.Author.Rules.{rules}
+use mathlib.Core.List.{List, ◌++◌, append-nil, append_assoc}
 use borrow.Rule.Slice.PartMut.{same_len_mid}
-use lib.ListN.{length, take, drop}
+use lib.ListN.{length, take}
 use Rattle.std.proofs.lemmas.Slice.{take-put_mid}
 use Rattle.rules_fasta.specs.Fasta.{is_name, joined, records_of}
 use Rattle.input.specs.Input.{bytes_left, lines_left}
