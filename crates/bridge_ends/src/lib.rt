@@ -16,6 +16,7 @@ fn kmer_of(code: u64, head: Header) -> Kmer
     ensures { HasLetters head.k (known code) result }
 {
     let mut kmer = kmer::all_a(head);
+    // By number: so many letters stand behind the one that is taken.
     for behind in (0..head.k).rev() {
         kmer = kmer::add_nuc_to_end(kmer, (code >> (2 * behind)) % 4, head);
     }

@@ -11,7 +11,7 @@ ghost use Rattle.bridge_search.specs.Search.{SearchIs};
 use kmer::Kmer;
 use set::KmerSet;
 
-// How a search ends: with a chain of so many moves from the start on, with all tried, or because it stops.
+// How a search ends: with a chain of so many moves from the start on, with all tried, or because it stops. Three cases, so no Option or Result.
 #[derive(Clone, Copy)]
 pub enum End {
     Found(usize),

@@ -65,7 +65,7 @@ pub fn turns_of(
     // A while: a mend goes on several bases, and the place says which comes next.
     while p.at < read.len() {
         if ahead <= p.at {
-            // A copy: what is lent to a call lies in memory, and the pass's own k-mer need not.
+            // A copy: a struct that is handed to a call lies in memory, and the pass's own k-mer need not.
             let kmer = Kmer {
                 code: p.kmer.code,
                 rev: p.kmer.rev,

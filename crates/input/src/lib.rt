@@ -40,7 +40,7 @@ fn is_known(method: u8) -> bool
     matches!(method, 1..=4)
 }
 
-// Check 3. The index is what a refusal tells.
+// Check 3. A loop, for the index is what a refusal tells: `find` would give it in an Option that is to be taken apart again.
 fn check_methods(job: &[u8]) -> Result<(), Refusal>
     ensures { check_of result ≡ at_place 3 (first_failing (λ i. known (method_byte job.now i)) 0 (entry_count job.now)) }
 {
@@ -52,7 +52,7 @@ fn check_methods(job: &[u8]) -> Result<(), Refusal>
     Ok(())
 }
 
-// Check 4, as 3.
+// Check 4, as 3. Another test and another refusal: one function of both would be no plainer.
 fn check_confirms(job: &[u8]) -> Result<(), Refusal>
     ensures { check_of result ≡ at_place 4 (first_failing (λ i. ltb 0 (confirm_byte job.now i)) 0 (entry_count job.now)) }
 {

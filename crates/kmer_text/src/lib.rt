@@ -9,6 +9,7 @@ use kmer::Header;
 
 const MAX_COUNT: u64 = 4294967295;
 
+// Two tests, and `all` of each: one function of the test would be no plainer.
 fn is_letter(b: u8) -> bool
     ensures { result ≡ Rules.is_letter b }
 {

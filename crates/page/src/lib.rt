@@ -21,7 +21,7 @@ pub fn put(page: &mut [u8], at: usize, bytes: &[u8]) -> usize
     end
 }
 
-// A word and a number, which has at most 20 digits.
+// A word and a number, which has at most 20 digits. By io::decimal, whose digits a proof knows, as it does not those of Display.
 fn put_number(page: &mut [u8], at: usize, word: &[u8], number: u64) -> usize
     requires { at + length word.now + 20 ≤ length page.old }
     ensures { (result ≤ at + length word.now + 20)

@@ -45,7 +45,7 @@ pub fn begin(head: Header, x: Kmer, filter: &mut [u64]) -> bool
     filter::note(filter, suffix_of(head, x))
 }
 
-// Of the next k-mer: whether it is one of those passed, and whether the filter said maybe of its last k − 1 letters.
+// Of the next k-mer: whether it is one of those passed, and whether the filter said maybe of its last k − 1 letters, which is the next call's `before`.
 #[derive(Clone, Copy)]
 pub struct Met {
     pub repeats: bool,

@@ -10,7 +10,7 @@ pub fn lent_is(lent: &[u8], expected: &[u8], rest: u8) -> bool {
     start == expected && end.iter().all(|byte| *byte == rest)
 }
 
-// What stands behind the result: every refusal but 11 leaves the lent bytes as they were filled.
+// What stands behind the result: a call that is refused leaves the lent bytes as they were filled, but 11 zeroes them.
 pub fn rest_of(record: &Record, fill: u8) -> u8 {
     match record.refusal() {
         1..=10 | 15..=18 => fill,

@@ -184,6 +184,7 @@ fn replay<R: Print, L: Read>(
 ) -> io::Result<()> {
     let mut offered = Offered::nothing(alloc);
     let mut agree: u32 = 0;
+    // By number, which is what is printed.
     for case in 0..cases {
         match case_agrees(list, alloc, &mut offered, fill) {
             Ok(true) => agree += 1,

@@ -67,7 +67,8 @@ fn eligible<S: Scenario>(scenario: S, set: &KmerSet, c: usize, x: Kmer, s: &[u8]
     }
 }
 
-// The scenarios that score c: the c bases of s from o are added, and the trial ends at the first base whose k-mer isn't solid.
+// The scenarios that score c: the c bases of s from o are added, and the trial ends at the first base whose k-mer isn't solid. Document 01 fixes
+// the form: nested loops, and a label that leaves the inner one.
 pub fn get_scenarii<S: Scenario>(set: &KmerSet, c: usize, x: Kmer, s: &[u8]) -> Scenarii
     requires { IsKmer set.now.head.k x × (1 ≤ c) × (c < 256) }
     ensures { KeptIs (set_of set.now.bytes.now) (rules.kept set.now.head.k (solid (set_of set.now.bytes.now)) c s.now

@@ -20,6 +20,7 @@ fn write_lines(text: &[u8], head: Header, least: u64, blocks: &mut [u8], counts:
         × (counts.new ≡ Rules.text_counts head.k least text.now
         ++ drop (length (Rules.text_keys head.k least text.now)) counts.old) }
 {
+    // The kept lines are counted here: a filter before `enumerate` would read each count twice.
     let mut i = 0;
     for line in text.split_inclusive(|byte| *byte == b'\n') {
         let count = kmer_text::line_count(line, head.k);
