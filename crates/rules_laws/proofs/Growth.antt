@@ -2,13 +2,13 @@
 use Prim.Native.Nat.{ℕ, zero, suc, ◌+◌, ◌*◌, ◌-◌, ◌≤◌}
 use native.Mathlib.Omega.{arith}
 use borrow.Author.Tests.{ltb-false}
-use mathlib.Core.Path.{◌≡◌, refl, sym, ap, subst}
+use mathlib.Core.Path.{◌≡◌, refl, sym, ap, ◌∙◌, subst}
 use mathlib.Core.Bool.{Bool, true, false}
 use mathlib.Core.Option.{Option, none, some, some-injective, none-ne-some}
 use mathlib.Core.List.{List, [], ◌∷◌, ◌++◌}
 use lib.ListN.{length, length-append, length-take, length-drop}
 use lib.Dec.{eqb, ltb}
-use Rattle.rules.specs.Letters.{Kmer, drop_last, same, met}
+use Rattle.rules.specs.Letters.{Kmer, drop_last, last_letter, last, same, met}
 use Rattle.rules.specs.Set.{KmerSet, solid, count_of}
 use Rattle.rules.specs.Counted.{Try, after, refuse, give}
 use Rattle.rules.specs.Scan.{Scan, sole, alternative, error_len}

@@ -14,7 +14,7 @@ use Rattle.rules.specs.Refusal.{Refusal, accepted, refused, Check, ◌or_else◌
 use Rattle.rules.specs.Set.{max_k, max_keys, k_right, opened}
 use Rattle.rules.specs.Blocks.{Keys, set_blocks, fits, filled}
 use Rattle.rules_make.specs.MakeSet.{text_lines, kept, kept_lines, form_right, line_count, line_key, line_keys, text_keys, max_count, line_counts, text_counts, unless_at, rises_from, line_check, last_kept, lines_check, text_check, set_unmade, both_laid, make_set}
-use Rattle.rules_laws.proofs.Kmer.{four-pos, add-lt, canonical-lt, canonical-one}
+use Rattle.rules_laws.proofs.Kmer.{four-pos, add-lt, revcomp-lt, canonical-lt, canonical-one}
 use Rattle.rules_laws.proofs.Opened.{both, passed, unless-passed}
 use Rattle.rules_laws.proofs.Blocks.{Into}
 use Rattle.rules_laws.proofs.SetBlocks.{set-opens}
