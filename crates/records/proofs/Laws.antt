@@ -12,7 +12,7 @@ use denote.Ref.{Bor}
 use mir.Val.{bool_byte}
 use Rattle.std.specs.List.{list_any}
 use Rattle.std.proofs.lemmas.Grind.{common_steps}
-use mathlib.Core.List.{List, [], ◌∷◌, ◌++◌}
+use mathlib.Core.List.{List, [], ◌∷◌, ◌++◌, append_assoc}
 use lib.Dec.{eqb, ltb}
 use lib.ListN.{length, get_or}
 use Rattle.rules.specs.Letters.{among}
@@ -22,7 +22,7 @@ use Rattle.rules_fasta.specs.Fasta.{mark, is_name, joined, records_of, records, 
 use Rattle.refusal.specs.declared.Refusal.TheVariants.{Batch, Sequence}
 use Rattle.refusal.specs.Refusal.{refusal_of}
 use Rattle.records.specs.declared.Seen.{Seen}
-use Rattle.records.specs.Records.{file_check, SeenWith, SeenIn}
+use Rattle.records.specs.Records.{file_check, EndsWith, SeenWith, SeenIn}
 
 -- ---- `>` in a line
 
@@ -100,6 +100,15 @@ no_read = refl
 pub no_records : records_of [] ≡ []
 unfolding records_of
 no_records = refl
+
+-- A line with its byte 10 comes off what is left.
+pub ends-behind : (bytes left line behind : List ℕ) → EndsWith bytes left → left ≡ line ++ (10 ∷ behind) → EndsWith bytes behind
+ends-behind bytes left line behind (before, e) off = (
+  before ++ (line ++ (10 ∷ [])),
+  e
+      ∙ ap (λ (bs : List ℕ). before ++ bs) (off ∙ sym (append_assoc line (10 ∷ []) behind))
+      ∙ sym (append_assoc before (line ++ (10 ∷ [])) behind),
+)
 
 -- ---- checks 6 and 18
 

@@ -1,5 +1,5 @@
 -- What the functions ask and give, in the rules' terms.
-use Rattle.std.specs.Prelude.{ℕ, ◌+◌, ◌≤◌, ◌≡◌, false, List, [], ◌∷◌, length, take, ltb, Result, Ok, Err, Option, None, Some}
+use Rattle.std.specs.Prelude.{ℕ, ◌+◌, ◌≤◌, ◌≡◌, true, false, List, [], ◌∷◌, ◌++◌, length, take, ltb, Result, Ok, Err, Option, None, Some}
 use denote.Ref.{Bor}
 use Rattle.input.specs.declared.BatchLines.{BatchLines}
 use Rattle.input.specs.Input.{bytes_left, lines_left}
@@ -7,7 +7,7 @@ use Rattle.std.proofs.Math.Option as Math
 use Rattle.std.proofs.Math.Option.{some}
 use Rattle.rules.specs.Refusal.{Check, ◌or_else◌, unless, at_place}
 use Rattle.rules.specs.Job.{lines}
-use Rattle.rules_fasta.specs.Fasta.{Record, joined, records_of, file_right, first_wrong}
+use Rattle.rules_fasta.specs.Fasta.{Record, is_name, joined, records_of, file_right, first_wrong}
 use Rattle.records.specs.declared.Joined.{Joined}
 use Rattle.records.specs.declared.Seen.{Seen}
 
@@ -47,8 +47,19 @@ abbrev pub name_length : Option (Bor (List ℕ)) → ℕ
 name_length None = 0
 name_length (Some name) = length name.now
 
+-- The line answered starts with `>`; where none is, no line is left.
+abbrev pub StopsAt : Option (Bor (List ℕ)) → List (List ℕ) → Type 0
+StopsAt None left = left ≡ []
+StopsAt (Some name) left = is_name name.now ≡ true
+
+-- Some bytes, and then those left.
+abbrev pub EndsWith : List ℕ → List ℕ → Type 0
+EndsWith bytes left = (before : List ℕ) × (bytes ≡ before ++ left)
+
 -- The lines up to the next name line stand joined at the front of the work buffer; that line is answered, and those behind it are left.
 pub record JoinedIs (old new : BatchLines) (work : List ℕ) (r : Joined) : Type 0 where
   pub read : take r.read work ≡ joined (lines_left old)
   pub rest : records_of (lines_left old) ≡ records_at r.name (lines_left new)
   pub short : r.read + name_length r.name + length (bytes_left new) ≤ length (bytes_left old)
+  pub stops : StopsAt r.name (lines_left new)
+  pub inside : EndsWith (bytes_left old) (bytes_left new)

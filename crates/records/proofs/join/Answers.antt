@@ -2,21 +2,25 @@ use Prim.Native.Nat.{ℕ, ◌+◌, ◌-◌}
 use native.Mathlib.Omega.{arith}
 use mathlib.Core.Path.{◌≡◌, refl, sym, ap, ◌∙◌}
 use mathlib.Core.Bool.{true, false}
-use mathlib.Core.List.{List, ◌++◌, append-nil, append_assoc}
+use mathlib.Core.List.{List, [], ◌++◌, append-nil, append_assoc}
 use borrow.Rule.Slice.PartMut.{same_len_mid}
 use lib.ListN.{length, take}
 use Rattle.std.proofs.lemmas.Slice.{take-put_mid}
 use Rattle.rules_fasta.specs.Fasta.{is_name, joined, records_of}
 use Rattle.input.specs.Input.{bytes_left, lines_left}
 use Rattle.input.proofs.Batch.{line-size}
-use Rattle.records.proofs.Laws.{join_stops, join_more, record-begins, record_same, no_read, no_records}
+use Rattle.records.specs.Records.{EndsWith}
+use Rattle.records.proofs.Laws.{ends-behind, join_stops, join_more, record-begins, record_same, no_read, no_records}
 use Rattle.records.proofs.join.Goals.{In-Some}
 use Rattle.records.proofs.join.Goals as goal
 
 pub loop-line-init : goal.loop-line-init
-loop-line-init c = (omega arith, refl, refl, refl)
+loop-line-init c = (omega arith, refl, refl, refl, ([], refl))
 
--- What is left behind the line.
+-- What is left behind the line, and its size.
+end : (c : In-Some) → EndsWith (bytes_left c.args.lines.now) (bytes_left c.next.new.self)
+end c = ends-behind _ _ c.in-Some.line.now _ c.loop-line.invariant.4 c.in-Some.ensures.steps.1
+
 size : (c : In-Some) → length (bytes_left c.loop-line.lines) ≡ length c.in-Some.line.now + (length (bytes_left c.next.new.self) + 1)
 size c = line-size _ c.in-Some.line.now _ c.in-Some.ensures.steps.1
 
@@ -30,6 +34,8 @@ returns-then-is_name c =
       read = sym (append-nil (take l.read l.work)) ∙ ap (λ (t : List ℕ). take l.read l.work ++ t) (sym over) ∙ l.invariant.2;
       rest = l.invariant.3 ∙ ap records_of first ∙ record-begins c.in-Some.line.now (lines_left c.next.new.self) name;
       short = omega (arith, l.invariant.0, size (goal.at.returns-then-is_name c).In-Some);
+      stops = name;
+      inside = end (goal.at.returns-then-is_name c).In-Some;
     }
 
 pub overflow_add-read : goal.overflow_add-read
@@ -54,6 +60,7 @@ loop-line-preserved c =
           ∙ ap (λ (t : List ℕ). take l.read l.work ++ t) (sym (ap joined first ∙ join_more line left plain))
           ∙ l.invariant.2,
       l.invariant.3 ∙ ap records_of first ∙ record_same line left plain,
+      end (goal.at.loop-line-preserved c).In-Some,
     )
 
 pub loop-line-smaller : goal.loop-line-smaller
@@ -68,4 +75,6 @@ returns c =
       read = sym (append-nil (take l.read l.work)) ∙ ap (λ (t : List ℕ). take l.read l.work ++ t) (sym (ap joined over.0 ∙ no_read)) ∙ l.invariant.2;
       rest = l.invariant.3 ∙ ap records_of over.0 ∙ no_records;
       short = omega (arith, l.invariant.0, same);
+      stops = ap lines_left over.1 ∙ over.0;
+      inside = rw over.1 l.invariant.4;
     }
