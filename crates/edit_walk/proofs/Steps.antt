@@ -1,48 +1,34 @@
 -- The walk in the code's terms.
 use Prim.Native.Nat.{ℕ, suc, ◌+◌, ◌≤◌, ◌<◌}
+use native.Mathlib.Omega.{arith}
 use native.Mathlib.Numerals.{add-one}
 use borrow.Author.Tests.{eq-eqb, ne_eqb}
 use mathlib.Core.Path.{◌≡◌, refl, sym, ap, ap₂, ◌∙◌, subst}
 use mathlib.Core.Bool.{Bool, true, false}
 use mathlib.Core.Option.{Option, none, some}
-use mathlib.Core.List.{List, ◌∷◌}
+use mathlib.Core.List.{List, [], ◌∷◌}
 use lib.ListN.{length, get_or, drop, drop_of_length-le}
 use lib.Seq.{drop-cons}
 use Rattle.std.specs.Prelude.{Option as Asking, Some, None, Result}
 use Rattle.std.specs.Option.{option_or}
 use Rattle.rules.specs.Letters.{Kmer, add_base}
 use Rattle.edit_walk.specs.declared.Walk.{Walk}
-use Rattle.edit_walk.specs.Walk.{Stand, Walked, on, offends, next, stepped, and_then, yes, blamed, pass_over, at_edit, over_edit, left_of, StepIs}
+use Rattle.edit_walk.specs.Walk.{Stand, Walked, on, offends, next, stepped, and_then, yes, blamed, pass_over, at_edit, over_edit, StepIs}
 
 -- ---- the next base
 
-next-same : (b c : ℕ) (l : List ℕ) → b ≡ c → next b (some (c ∷ l)) ≡ some l
+pub next-end : (b : ℕ) (l : List ℕ) → length l ≡ 0 → none ≡ next b (some l)
 unfolding next
-next-same b c l e = rw (eq-eqb b c e, next)
+next-end b [] e = refl
+next-end b (c ∷ l) e = absurd (omega arith)
 
-next-other : (b c : ℕ) (l : List ℕ) → (b ≡ c → ⊥) → next b (some (c ∷ l)) ≡ none
+pub next-same : (b c : ℕ) (l : List ℕ) → c ≡ b → some l ≡ next b (some (c ∷ l))
 unfolding next
-next-other b c l n = rw (ne_eqb b c n, next)
+next-same b c l e = rw (eq-eqb b c (sym e), next)
 
-module _ (mended : List ℕ) (at b : ℕ) where
-  there : {same : Bool} → same ≡ true → at < length mended → next b (left_of mended at same) ≡ next b (some (get_or mended at 0 ∷ drop (suc at) mended))
-  there e h = ap (λ (t : Bool). next b (left_of mended at t)) e ∙ ap (λ (l : List ℕ). next b (some l)) (drop-cons mended at 0 h)
-
-  pub left-on : {same : Bool} → same ≡ true → at < length mended → get_or mended at 0 ≡ b → left_of mended (at + 1) same ≡ next b (left_of mended at same)
-  left-on e h f =
-      ap (left_of mended (at + 1)) e ∙ ap (λ (n : ℕ). some (drop n mended)) (add-one at)
-      ∙ sym (there e h ∙ next-same b (get_or mended at 0) (drop (suc at) mended) (sym f))
-
-  pub left_other : {same : Bool} → same ≡ true → at < length mended → (get_or mended at 0 ≡ b → ⊥) → none ≡ next b (left_of mended at same)
-  left_other e h f = sym (there e h ∙ next-other b (get_or mended at 0) (drop (suc at) mended) (λ g. f (sym g)))
-
-  pub left_end : {same : Bool} → same ≡ true → length mended ≤ at → none ≡ next b (left_of mended at same)
-  unfolding next
-  left_end e h = rw (e, drop_of_length-le mended h)
-
-  pub left-lost : {same : Bool} → same ≡ false → none ≡ next b (left_of mended at same)
-  unfolding next
-  left-lost e = rw e
+pub next-other : (b c : ℕ) (l : List ℕ) → (c ≡ b → ⊥) → none ≡ next b (some (c ∷ l))
+unfolding next
+next-other b c l n = rw (ne_eqb b c (λ e. n (sym e)), next)
 
 pub stand-is : (k : ℕ) (then : Asking ℕ) (b : ℕ) (w : Stand) {y : Kmer} {l : Option (List ℕ)} → y ≡ add_base k w.kmer b → l ≡ next b w.left
     → record { kmer = y; asks = then; left = l } ≡ stepped k then b w
@@ -120,5 +106,5 @@ module _ (k : ℕ) (sol : ℕ → Bool) (i : ℕ) (bases letters : List ℕ) (w 
 
 -- ---- answers
 
-pub same_step : (k : ℕ) (mended : List ℕ) {a b : Walked} (r : Result Walk ℕ) → a ≡ b → StepIs k mended b r → StepIs k mended a r
-same_step k mended r e h = subst (λ (x : Walked). StepIs k mended x r) (sym e) h
+pub same_step : (k : ℕ) {a b : Walked} (r : Result Walk ℕ) → a ≡ b → StepIs k b r → StepIs k a r
+same_step k r e h = subst (λ (x : Walked). StepIs k x r) (sym e) h

@@ -1,6 +1,7 @@
 -- One walk over the pieces of the read with all edits made, by lists.
-use Prim.Native.Nat.{ℕ, zero, suc, ◌≤◌}
-use Rattle.std.specs.Prelude.{◌≡◌, Bool, cond, length, drop, eqb, Option as Asking, Some, None, Result, Ok, Err}
+use Prim.Native.Nat.{ℕ, zero, suc}
+use denote.Ref.{Bor}
+use Rattle.std.specs.Prelude.{◌≡◌, Bool, cond, eqb, Option as Asking, Some, None, Result, Ok, Err}
 use Rattle.std.specs.Option.{option_or}
 use Rattle.std.proofs.Math.Bool.{true, false}
 use Rattle.std.proofs.Math.Option.{Option, none, some}
@@ -92,18 +93,14 @@ walk k sol s = walk_from k sol s (count s) 0 (begins k s.mended)
 
 -- ---- the code's walk
 
-abbrev pub left_of : List ℕ → ℕ → Bool → Option (List ℕ)
-left_of mended at same = cond same (some (drop at mended)) none
+abbrev pub left_of : Asking (Bor (List ℕ)) → Option (List ℕ)
+left_of None = none
+left_of (Some rest) = some rest.now
 
-abbrev pub stand_of : List ℕ → Walk → Stand
-stand_of mended w = record { kmer = kmer_of w.kmer; asks = w.asks; left = left_of mended w.at w.same }
+abbrev pub stand_of : Walk → Stand
+stand_of w = record { kmer = kmer_of w.kmer; asks = w.asks; left = left_of w.left }
 
--- The k-mer is one, and the place lies in the partner's read.
-pub record Sound (k : ℕ) (mended : List ℕ) (w : Walk) : Type 0 where
-  pub kmer : IsKmer k w.kmer
-  pub within : w.at ≤ length mended
-
--- Where the walk stands, or the edit that offends.
-abbrev pub StepIs : ℕ → List ℕ → Walked → Result Walk ℕ → Type 0
-StepIs k mended s (Ok w) = (s ≡ on (stand_of mended w)) × Sound k mended w
-StepIs k mended s (Err i) = s ≡ offends i
+-- Where the walk stands, and its k-mer is one of k letters; or the edit that offends.
+abbrev pub StepIs : ℕ → Walked → Result Walk ℕ → Type 0
+StepIs k s (Ok w) = (s ≡ on (stand_of w)) × IsKmer k w.kmer
+StepIs k s (Err i) = s ≡ offends i

@@ -7,61 +7,58 @@ ghost use Rattle.std.proofs.Math.Option.{none};
 ghost use Rattle.rules.specs.Refusal.{first_failing};
 ghost use Rattle.rules.specs.Set.{solid, set_of};
 ghost use Rattle.rules_edits.specs.Edits as rules;
-ghost use Rattle.edit_walk.specs.Walk.{Sound, StepIs, stand_of, stepped, pass_over, over_edit, walk};
+ghost use Rattle.kmer.specs.Kmer.{IsKmer};
+ghost use Rattle.edit_walk.specs.Walk.{StepIs, left_of, stand_of, next, stepped, pass_over, over_edit, walk};
 
 use kmer::{Header, Kmer};
 use set::KmerSet;
 
-// Where a walk stands: its k-mer, the first edit that asks the next base's k-mer to be solid, if one does, how many bases equal the
-// partner's, and whether all of them do.
+// Where a walk stands: its k-mer, the first edit that asks the next base's k-mer to be solid, if one does, and what is left of the partner's
+// read, if it was the same so far.
 #[derive(Clone, Copy)]
-pub struct Walk {
+pub struct Walk<'a> {
     pub kmer: Kmer,
     pub asks: Option<usize>,
-    pub at: usize,
-    pub same: bool,
+    pub left: Option<&'a [u8]>,
+}
+
+// What is left of the partner's read behind a base, if that comes next.
+fn left_behind(left: Option<&[u8]>, base: u8) -> Option<&[u8]>
+    ensures { left_of result ≡ next base (left_of left.entry) }
+{
+    let (first, rest) = left?.split_first()?;
+    if *first == base { Some(rest) } else { None }
 }
 
 // The next base: the k-mer rolls, and the base is compared.
-fn take_base(mended: &[u8], head: Header, walk: Walk, base: u8, then: Option<usize>) -> Walk
-    requires { Sound head.k mended.now walk }
-    ensures { Sound head.k mended.now result
-        × (stand_of mended.now result ≡ stepped head.k then base (stand_of mended.now walk)) }
+fn take_base(head: Header, walk: Walk<'_>, base: u8, then: Option<usize>) -> Walk<'_>
+    requires { IsKmer head.k walk.kmer }
+    ensures kmer { IsKmer head.k result.kmer }
+    ensures stand { stand_of result ≡ stepped head.k then base (stand_of walk.entry) }
 {
-    let next = Walk {
+    Walk {
         kmer: scan::add_base(walk.kmer, base, head),
         asks: then,
-        ..walk
-    };
-    if walk.same && walk.at < mended.len() && mended[walk.at] == base {
-        return Walk {
-            at: walk.at + 1,
-            ..next
-        };
-    }
-    Walk {
-        same: false,
-        ..next
+        left: left_behind(walk.left, base),
     }
 }
 
 // A part, behind each base of which edit `then` asks the next one, or none does; or the edit that offends.
-fn pass_over(
+fn pass_over<'a>(
     set: &KmerSet,
     part: &[u8],
-    mended: &[u8],
-    walk: Walk,
+    walk: Walk<'a>,
     then: Option<usize>,
-) -> Result<Walk, usize>
-    requires { Sound set.now.head.k mended.now walk }
-    ensures { StepIs set.now.head.k mended.now
-        (pass_over set.now.head.k (solid (set_of set.now.bytes.now)) then part.now (stand_of mended.now walk))
+) -> Result<Walk<'a>, usize>
+    requires { IsKmer set.now.head.k walk.kmer }
+    ensures { StepIs set.now.head.k
+        (pass_over set.now.head.k (solid (set_of set.now.bytes.now)) then part.now (stand_of walk.entry))
         result }
 {
     let mut walk = walk;
     for base in part {
         let asks = walk.asks;
-        walk = take_base(mended, set.head, walk, *base, then);
+        walk = take_base(set.head, walk, *base, then);
         if let Some(i) = asks {
             if !set.ask(walk.kmer).solid {
                 return Err(i);
@@ -72,20 +69,19 @@ fn pass_over(
 }
 
 // The bases kept before edit i, the base before it asked, and its letters.
-fn over_edit(
+fn over_edit<'a>(
     set: &KmerSet,
     kept: &[u8],
     letters: &[u8],
-    mended: &[u8],
-    walk: Walk,
+    walk: Walk<'a>,
     i: usize,
-) -> Result<Walk, usize>
-    requires { Sound set.now.head.k mended.now walk }
-    ensures { StepIs set.now.head.k mended.now
-        (over_edit set.now.head.k (solid (set_of set.now.bytes.now)) i kept.now letters.now (stand_of mended.now walk))
+) -> Result<Walk<'a>, usize>
+    requires { IsKmer set.now.head.k walk.kmer }
+    ensures { StepIs set.now.head.k
+        (over_edit set.now.head.k (solid (set_of set.now.bytes.now)) i kept.now letters.now (stand_of walk.entry))
         result }
 {
-    let before = pass_over(set, kept, mended, walk, None)?;
+    let before = pass_over(set, kept, walk, None)?;
     if !set.ask(before.kmer).solid {
         return Err(i);
     }
@@ -94,21 +90,21 @@ fn over_edit(
         asks: before.asks.or(Some(i)),
         ..before
     };
-    pass_over(set, letters, mended, asked, Some(i))
+    pass_over(set, letters, asked, Some(i))
 }
 
 // The bases kept before each edit, its letters, and the bases behind the last. It goes by the edits' numbers, since one is the answer.
-pub fn over_edits(
+pub fn over_edits<'a>(
     set: &KmerSet,
     read: &[u8],
-    mended: &[u8],
+    mended: &'a [u8],
     edits: &[u64],
     letters: &[u8],
     n: usize,
-) -> Result<Walk, usize>
+) -> Result<Walk<'a>, usize>
     requires { (rules.count (rules.sheet read.now mended.now edits.now letters.now) ≡ n)
         × (first_failing (rules.formed set.now.head.k (rules.sheet read.now mended.now edits.now letters.now)) 0 n ≡ none) }
-    ensures { StepIs set.now.head.k mended.now
+    ensures { StepIs set.now.head.k
         (walk set.now.head.k (solid (set_of set.now.bytes.now))
         (rules.sheet read.now mended.now edits.now letters.now))
         result }
@@ -116,8 +112,7 @@ pub fn over_edits(
     let mut walk = Walk {
         kmer: kmer::all_a(set.head),
         asks: None,
-        at: 0,
-        same: true,
+        left: Some(mended),
     };
     let mut from = 0;
     let mut given = 0;
@@ -125,16 +120,9 @@ pub fn over_edits(
         let edit = edit_forms::edit_at(edits, i);
         let position = edit.position as usize;
         let end = given + edit.gives as usize;
-        walk = over_edit(
-            set,
-            &read[from..position],
-            &letters[given..end],
-            mended,
-            walk,
-            i,
-        )?;
+        walk = over_edit(set, &read[from..position], &letters[given..end], walk, i)?;
         from = position + edit.taken as usize;
         given = end;
     }
-    pass_over(set, &read[from..], mended, walk, None)
+    pass_over(set, &read[from..], walk, None)
 }

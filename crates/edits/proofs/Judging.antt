@@ -1,15 +1,15 @@
 -- The three judgements in the code's terms.
-use Prim.Native.Nat.{ℕ, ◌≤◌}
+use Prim.Native.Nat.{ℕ, ◌≤◌, ◌<◌}
 use native.Mathlib.Omega.{arith}
-use borrow.Author.Tests.{eqb-true, eqb-false}
+use denote.Ref.{Bor}
 use mathlib.Core.Path.{◌≡◌, refl, sym, ap, ap₂, ◌∙◌, subst}
 use mathlib.Core.Bool.{Bool, true, false, ◌&&◌, true≢false}
-use Rattle.std.specs.Prelude.{Result, Ok, Err}
+use Rattle.std.specs.Prelude.{Result, Ok, Err, Option as Asking, Some}
+use Rattle.std.proofs.lemmas.List.{nil_from_length}
 use Rattle.std.specs.Result.{is_ok, MatchResult, IsErrAnd}
 use mathlib.Core.Option.{Option, none, some}
 use mathlib.Core.List.{List, [], ◌∷◌}
-use lib.ListN.{length, drop, drop_of_length-le}
-use lib.Seq.{drop-cons}
+use lib.ListN.{length}
 use lib.Dec.{eqb}
 use Rattle.rules.specs.Refusal.{◌or_else◌, at_place, first_failing}
 use Rattle.rules.specs.Index.{same_bytes}
@@ -17,8 +17,8 @@ use Rattle.rules_edits.specs.Edits.{Sheet, count, letters_to, formed, supported,
 use Rattle.refusal.specs.declared.Refusal.{Refusal}
 use Rattle.refusal.specs.declared.Refusal.TheVariants.{Edit}
 use Rattle.refusal.specs.Refusal.{refusal_of}
-use Rattle.edit_walk.specs.declared.Walk.{Walk}
-use Rattle.edit_walk.specs.Walk.{Walked, on, offends, next, walk, left_of, stand_of}
+use Rattle.edit_walk.specs.Walk.{Stand, Walked, on, offends, next, walk, left_of}
+use Rattle.edits.specs.Joins.{is_done}
 use Rattle.edit_walk.proofs.Pieces.{all-formed}
 use Rattle.edit_walk.proofs.Whole.{after_all, Goes, whole-goes, all_paid}
 
@@ -61,11 +61,19 @@ module _ (k : ℕ) (sol : ℕ → Bool) (s : Sheet) where
 
 -- ---- the joining
 
--- Nothing is left.
-is_done : Option (List ℕ) → Bool
-is_done none = false
-is_done (some []) = true
-is_done (some (b ∷ l)) = false
+-- what is left of the partner's read in the code's terms
+module _ (left : Asking (Bor (List ℕ))) (rest : Bor (List ℕ)) (e : left ≡ Some rest) where
+  pub done_of : length rest.now < 1 → is_done (left_of left) ≡ true
+  unfolding is_done
+  done_of h = rw (e, nil_from_length rest.now (omega arith)) refl
+
+  pub some_left : 1 ≤ length rest.now → is_done (left_of left) ≡ false
+  unfolding is_done
+  some_left h = rw e (go rest.now h)
+    where
+      go : (l : List ℕ) → 1 ≤ length l → is_done (some l) ≡ false
+      go [] g = absurd (omega arith)
+      go (b ∷ l) g = refl
 
 after_none : (xs : List ℕ) → after_all xs none ≡ none
 unfolding after_all next
@@ -84,15 +92,6 @@ same_after (x ∷ xs) (y ∷ ys) = go (same_after xs ys) (eqb x y) refl
     go r true e = rw (e, next) r
     go r false e = rw (e, next) (sym (ap is_done (after_none xs)))
 
-left-done : (mended : List ℕ) (at : ℕ) (b : Bool) → at ≤ length mended → is_done (left_of mended at b) ≡ (b && eqb at (length mended))
-unfolding is_done
-left-done mended at false h = refl
-left-done mended at true h = go (eqb at (length mended)) refl
-  where
-    go : (t : Bool) → eqb at (length mended) ≡ t → is_done (some (drop at mended)) ≡ t
-    go true e = let p = eqb-true at (length mended) e in rw (drop_of_length-le mended {i = at} (omega arith))
-    go false e = let p = eqb-false at (length mended) e in rw (drop-cons mended at 0 (omega arith))
-
 -- ---- the walk of a sheet whose n edits are all formed, and give so many letters
 
 module _ (k : ℕ) (sol : ℕ → Bool) (s : Sheet) (n total : ℕ) (n_is : count s ≡ n) (all : first_failing (formed k s) 0 n ≡ none)
@@ -106,21 +105,21 @@ module _ (k : ℕ) (sol : ℕ → Bool) (s : Sheet) (n total : ℕ) (n_is : coun
   pub walk-offends : {i : ℕ} → walk k sol s ≡ offends i → judge k sol s ≡ some (refusal_of (Edit i))
   walk-offends q = judge-second k sol s formed-all (goes q)
 
-  module _ (w : Walk) (q : walk k sol s ≡ on (stand_of s.mended w)) (within : w.at ≤ length s.mended) where
+  module _ (w : Stand) (q : walk k sol s ≡ on w) where
     paid : first_failing (supported k sol s) 0 (count s) ≡ none
-    paid = all_paid k sol s (all-formed k s (count s) formed-all) (stand_of s.mended w) (goes q)
+    paid = all_paid k sol s (all-formed k s (count s) formed-all) w (goes q)
 
-    joins-is : (w.same && eqb w.at (length s.mended) && eqb total (length s.letters)) ≡ joins s
+    joins-is : (is_done w.left && eqb total (length s.letters)) ≡ joins s
     unfolding joins
     joins-is =
         ap₂ (λ (b : Bool) (m : ℕ). b && eqb m (length s.letters))
-        (sym (left-done s.mended w.at w.same within) ∙ ap is_done (goes q).left_is ∙ sym (same_after (made s) s.mended))
+        (ap is_done (goes q).left_is ∙ sym (same_after (made s) s.mended))
         (letters ∙ ap (letters_to s) (sym n_is))
 
-    pub walk-differs : (w.same && eqb w.at (length s.mended) && eqb total (length s.letters)) ≡ false → judge k sol s ≡ some (refusal_of (Edit n))
+    pub walk-differs : (is_done w.left && eqb total (length s.letters)) ≡ false → judge k sol s ≡ some (refusal_of (Edit n))
     walk-differs e = judge-third k sol s formed-all paid (sym joins-is ∙ e) ∙ ap (λ (m : ℕ). some (refusal_of (Edit m))) n_is
 
-    pub walk-joins : (w.same && eqb w.at (length s.mended) && eqb total (length s.letters)) ≡ true → judge k sol s ≡ none
+    pub walk-joins : (is_done w.left && eqb total (length s.letters)) ≡ true → judge k sol s ≡ none
     walk-joins e = judge-none k sol s formed-all paid (sym joins-is ∙ e)
 
 -- ---- an edit that offends, told as a refusal

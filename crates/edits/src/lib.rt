@@ -5,16 +5,18 @@ ghost use Rattle.std.specs.Prelude.{◌≡◌, ◌&&◌, eqb};
 ghost use Rattle.rules.specs.Set.{solid, set_of};
 ghost use Rattle.rules_edits.specs.Edits as rules;
 ghost use Rattle.refusal.specs.Refusal.{check_of};
+ghost use Rattle.edit_walk.specs.Walk.{left_of};
+ghost use Rattle.edits.specs.Joins.{is_done};
 
 use edit_walk::Walk;
 use refusal::Refusal;
 use set::{KmerSet, STARTS};
 
 // The third judgement: all bases were the partner's, none of his is left, and no letter is left over.
-fn joins(walk: Walk, mended: usize, given: usize, letters: usize) -> bool
-    ensures { result ≡ (walk.same && eqb walk.at mended && eqb given letters) }
+fn joins(walk: Walk, given: usize, letters: usize) -> bool
+    ensures { result ≡ (is_done (left_of walk.entry.left) && eqb given letters) }
 {
-    walk.same && walk.at == mended && given == letters
+    matches!(walk.left, Some([])) && given == letters
 }
 
 // The judgements in their order, each over all edits.
@@ -32,7 +34,7 @@ fn judge(
     let formed = edit_forms::judge_forms(set.head.k, read, edits, letters).map_err(Refusal::Edit)?;
     let walked = edit_walk::over_edits(set, read, mended, edits, letters, formed.edits);
     let walk = walked.map_err(Refusal::Edit)?;
-    if !joins(walk, mended.len(), formed.letters, letters.len()) {
+    if !joins(walk, formed.letters, letters.len()) {
         return Err(Refusal::Edit(formed.edits));
     }
     Ok(())

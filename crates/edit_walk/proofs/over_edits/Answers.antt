@@ -17,7 +17,7 @@ loop-i-init c =
       search rules,
       refl,
       refl,
-      record { kmer = y.kmer; within = search rules },
+      y.kmer,
       walk-starts a.set.now.head.k (solid (set_of a.set.now.bytes.now)) (sheet a.read.now a.mended.now a.edits.now a.letters.now) a.n _ c.requires.0 (rw y.is),
     )
 
@@ -53,16 +53,16 @@ overflow_add-from c = let p = there (goal.at.overflow_add-from c).After-edit_at-
 stepped-over : (c : After-over_edit) → let l = c.loop-i in
     let a = c.args in
     let s = sheet a.read.now a.mended.now a.edits.now a.letters.now in
-    StepIs a.set.now.head.k a.mended.now
-    (over_edit a.set.now.head.k (solid (set_of a.set.now.bytes.now)) l.i (kept s l.i) (letters_of s l.i) (stand_of a.mended.now l.walk))
+    StepIs a.set.now.head.k
+    (over_edit a.set.now.head.k (solid (set_of a.set.now.bytes.now)) l.i (kept s l.i) (letters_of s l.i) (stand_of l.walk))
     c.over_edit.result
 stepped-over c =
     let l = c.loop-i in
     let a = c.args in
     let e = kept-is _ _ _ c.requires.1 l.i l.from l.given l.invariant.2 l.invariant.3 _ c.edit_at-edit.ensures in
     let f = letters-are _ _ _ c.requires.1 l.i l.from l.given l.invariant.2 l.invariant.3 _ c.edit_at-edit.ensures in
-    same_step a.set.now.head.k a.mended.now c.over_edit.result
-    (ap₂ (λ (x y : List ℕ). over_edit a.set.now.head.k (solid (set_of a.set.now.bytes.now)) l.i x y (stand_of a.mended.now l.walk)) e f)
+    same_step a.set.now.head.k c.over_edit.result
+    (ap₂ (λ (x y : List ℕ). over_edit a.set.now.head.k (solid (set_of a.set.now.bytes.now)) l.i x y (stand_of l.walk)) e f)
     c.over_edit.ensures
 
 pub returns-in_err-walk : goal.returns-in_err-walk
@@ -91,8 +91,8 @@ returns c =
     let l = c.loop-i in
     let a = c.args in
     let g = rest-is _ _ _ c.requires.1 l.i l.from l.given l.invariant.2 l.invariant.3 c.requires.0 (search rules) in
-    same_step a.set.now.head.k a.mended.now c.pass_over.result
+    same_step a.set.now.head.k c.pass_over.result
     (l.invariant.5
     ∙ walk_end _ _ _ _ l.i _ (search rules)
-    ∙ ap (λ (x : List ℕ). pass_over a.set.now.head.k (solid (set_of a.set.now.bytes.now)) None x (stand_of a.mended.now l.walk)) (sym g))
+    ∙ ap (λ (x : List ℕ). pass_over a.set.now.head.k (solid (set_of a.set.now.bytes.now)) None x (stand_of l.walk)) (sym g))
     c.pass_over.ensures

@@ -3,7 +3,8 @@ use mathlib.Core.Path.{◌≡◌}
 use lib.ListN.{length}
 use Rattle.rules.specs.Set.{solid, set_of}
 use Rattle.rules_edits.specs.Edits.{sheet, kept_from, letters_to}
-use Rattle.edit_walk.specs.Walk.{Sound, stand_of, walk_from, walk}
+use Rattle.kmer.specs.Kmer.{IsKmer}
+use Rattle.edit_walk.specs.Walk.{stand_of, walk_from, walk}
 use Rattle.edit_walk.proofs.over_edits.Given as goal
 
 abbrev pub invariant-loop-i : goal.invariant-loop-i
@@ -12,6 +13,6 @@ invariant-loop-i l =
     × (l.from ≤ length l.read)
     × (l.from ≡ kept_from (sheet l.read l.mended l.edits l.letters) l.i)
     × (l.given ≡ letters_to (sheet l.read l.mended l.edits l.letters) l.i)
-    × Sound l.set.head.k l.mended l.walk
+    × IsKmer l.set.head.k l.walk.kmer
     × (walk l.set.head.k (solid (set_of l.set.bytes.now)) (sheet l.read l.mended l.edits l.letters)
-    ≡ walk_from l.set.head.k (solid (set_of l.set.bytes.now)) (sheet l.read l.mended l.edits l.letters) (l.n - l.i) l.i (stand_of l.mended l.walk))
+    ≡ walk_from l.set.head.k (solid (set_of l.set.bytes.now)) (sheet l.read l.mended l.edits l.letters) (l.n - l.i) l.i (stand_of l.walk))

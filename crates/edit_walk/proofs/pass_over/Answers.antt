@@ -11,8 +11,8 @@ returns-then-not-ask c =
     let l = c.loop-base in
     let a = c.args in
     l.invariant.1
-    ∙ step-offends a.set.now.head.k (solid (set_of a.set.now.bytes.now)) a.«then» a.part.now l.base-index (stand_of a.mended.now l.walk) (search rules)
-    (stand_of a.mended.now c.take_base-walk.result) c.take_base-walk.ensures.1 c.in-Some.is
+    ∙ step-offends a.set.now.head.k (solid (set_of a.set.now.bytes.now)) a.«then» a.part.now l.base-index (stand_of l.walk) (search rules)
+    (stand_of c.take_base-walk.result) c.take_base-walk.ensures.stand c.in-Some.is
     (sym c.ask.ensures.solid ∙ not-true _ c.if-not-ask.true)
 
 pub loop-base-preserved : goal.loop-base-preserved
@@ -20,16 +20,16 @@ loop-base-preserved c =
     let l = c.loop-base in
     let a = c.args in
     let sol = solid (set_of a.set.now.bytes.now) in
-    let w = stand_of a.mended.now l.walk in
-    let v = stand_of a.mended.now c.take_base-walk.result in (
-      c.take_base-walk.ensures.0,
+    let w = stand_of l.walk in
+    let v = stand_of c.take_base-walk.result in (
+      c.take_base-walk.ensures.kmer,
       l.invariant.1
           ∙ elim c.match-asks.branch [
             | in-Some+else-not-ask x ↦
-                step-solid a.set.now.head.k sol a.«then» a.part.now l.base-index w (search rules) v c.take_base-walk.ensures.1
+                step-solid a.set.now.head.k sol a.«then» a.part.now l.base-index w (search rules) v c.take_base-walk.ensures.stand
                 (sym x.ask.ensures.solid ∙ not-false _ x.if-not-ask.false)
             | in_default x ↦
-                step-free a.set.now.head.k sol a.«then» a.part.now l.base-index w (search rules) v c.take_base-walk.ensures.1 x.in_default.is
+                step-free a.set.now.head.k sol a.«then» a.part.now l.base-index w (search rules) v c.take_base-walk.ensures.stand x.in_default.is
           ],
     )
 
@@ -37,4 +37,4 @@ pub returns : goal.returns
 returns c =
     let l = c.loop-base in
     let a = c.args in
-    (l.invariant.1 ∙ part_end a.set.now.head.k (solid (set_of a.set.now.bytes.now)) a.«then» a.part.now l.base-index (stand_of a.mended.now l.walk) (search rules), l.invariant.0)
+    (l.invariant.1 ∙ part_end a.set.now.head.k (solid (set_of a.set.now.bytes.now)) a.«then» a.part.now l.base-index (stand_of l.walk) (search rules), l.invariant.0)

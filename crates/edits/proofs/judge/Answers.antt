@@ -38,17 +38,17 @@ returns-in_err-walk c =
     let sol = solid (set_of a.set.now.bytes.now) in
     let p = err_from_is_err_and c.from_residual-in_err-walk.result c.from_residual-in_err-walk.ensures.1 in
     let q = was_err c.over_edits-walked.result c.in_err-walk.field-0.0 c.in_err-walk.ensures.variant c.in_err-walk.ensures.cases in
-    let e = subst (StepIs a.set.now.head.k a.mended.now (walk a.set.now.head.k sol s)) q.1 c.over_edits-walked.ensures in
+    let e = subst (StepIs a.set.now.head.k (walk a.set.now.head.k sol s)) q.1 c.over_edits-walked.ensures in
     rw (p.1, p.2, q.2) (sym (walk-offends a.set.now.head.k sol s _ _ f.0 f.1 f.2 e))
 
 -- The walk went on to the end.
 went : (c : In_ok-walk) → let a = c.args in
     let s = sheet a.read.now a.mended.now a.edits.now a.letters.now in
-    StepIs a.set.now.head.k a.mended.now (walk a.set.now.head.k (solid (set_of a.set.now.bytes.now)) s) (Ok c.in_ok-walk.walk)
+    StepIs a.set.now.head.k (walk a.set.now.head.k (solid (set_of a.set.now.bytes.now)) s) (Ok c.in_ok-walk.walk)
 went c =
     let a = c.args in
     let s = sheet a.read.now a.mended.now a.edits.now a.letters.now in
-    subst (StepIs a.set.now.head.k a.mended.now (walk a.set.now.head.k (solid (set_of a.set.now.bytes.now)) s))
+    subst (StepIs a.set.now.head.k (walk a.set.now.head.k (solid (set_of a.set.now.bytes.now)) s))
     (was_ok c.over_edits-walked.result c.in_ok-walk.walk c.in_ok-walk.ensures.variant c.in_ok-walk.ensures.cases) c.over_edits-walked.ensures
 
 pub returns-then-not-joins : goal.returns-then-not-joins
@@ -57,7 +57,7 @@ returns-then-not-joins c =
     let w = went (goal.at.returns-then-not-joins c).In_ok-walk in
     let a = c.args in
     let s = sheet a.read.now a.mended.now a.edits.now a.letters.now in
-    sym (walk-differs a.set.now.head.k (solid (set_of a.set.now.bytes.now)) s _ _ f.0 f.1 f.2 c.in_ok-walk.walk w.0 w.1.within
+    sym (walk-differs a.set.now.head.k (solid (set_of a.set.now.bytes.now)) s _ _ f.0 f.1 f.2 _ w.0
     (sym c.joins.ensures ∙ c.if-not-joins.true))
 
 pub returns : goal.returns
@@ -66,5 +66,5 @@ returns c =
     let w = went (goal.at.returns c).In_ok-walk in
     let a = c.args in
     let s = sheet a.read.now a.mended.now a.edits.now a.letters.now in
-    sym (walk-joins a.set.now.head.k (solid (set_of a.set.now.bytes.now)) s _ _ f.0 f.1 f.2 c.in_ok-walk.walk w.0 w.1.within
+    sym (walk-joins a.set.now.head.k (solid (set_of a.set.now.bytes.now)) s _ _ f.0 f.1 f.2 _ w.0
     (sym c.joins.ensures ∙ c.if-not-joins.false))
