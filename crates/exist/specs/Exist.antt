@@ -6,10 +6,10 @@ use Rattle.rules.specs.Set.{KmerSet}
 use Rattle.rules.specs.Counted.{Try}
 use Rattle.rules.specs.Exist as rules
 use Rattle.set.specs.declared.Asked.{Asked}
+use Rattle.scenario.specs.declared.counted.Try.{Try as TryOf}
 use Rattle.scenario.specs.declared.mend.Mend.{Mend}
 use Rattle.scenario.specs.Scenario.{spelled_out}
 use Rattle.trials.specs.Trials.{Placed}
-use Rattle.exist.specs.declared.Choice.{Choice}
 
 -- a is the code of letter i.
 pub record LetterIs (m : Mend) (i a : ℕ) : Type 0 where
@@ -32,7 +32,7 @@ MendIs set o (Some m) = (o ≡ some (spelled_out m)) × Placed set m
 MendIs set o None = o ≡ none
 
 -- The mend chosen or a refusal, after the lookups made.
-pub record ChoiceIs (set : KmerSet) (t : Try rules.Mend) (r : Choice) : Type 0 where
-  pub mend : MendIs set t.answer r.mend
+pub record ChoiceIs (set : KmerSet) (t : Try rules.Mend) (r : TryOf Mend) : Type 0 where
+  pub mend : MendIs set t.answer r.answer
   pub lookups : t.lookups ≡ r.lookups
   pub few : r.lookups ≤ 13

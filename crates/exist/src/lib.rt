@@ -17,16 +17,9 @@ ghost use Rattle.exist.specs.Exist.{LetterIs, MoreIs, ChoiceIs};
 
 use kmer::{Header, Kmer};
 use scan::Attempt;
-use scenario::{Mend, Scenario};
+use scenario::{Mend, Scenario, Try};
 pub use scenario::{ScenarioOne, ScenarioTwo};
 use set::{Asked, KmerSet};
-
-// A mend, if it is one to use, and the lookups that tell: a refusal has its lookups too.
-#[derive(Clone, Copy)]
-struct Choice {
-    mend: Option<Mend>,
-    lookups: u64,
-}
 
 // The code of letter i.
 fn letter_at(mend: Mend, i: usize) -> u64
@@ -77,16 +70,13 @@ fn one_more(set: &KmerSet, c: usize, kmer: Kmer, s: &[u8], mend: Mend) -> Asked
 }
 
 // The only one kept, or the only one kept with one base more: all that are long enough are asked.
-fn choose(set: &KmerSet, c: usize, kmer: Kmer, s: &[u8], kept: &[Mend]) -> Choice
+fn choose(set: &KmerSet, c: usize, kmer: Kmer, s: &[u8], kept: &[Mend]) -> Try<Mend>
     requires { IsKmer set.now.head.k kmer × (c < 256) × (length kept.now ≤ 13) × All (Placed (set_of set.now.bytes.now)) kept.now }
     ensures { ChoiceIs (set_of set.now.bytes.now)
         (rules.choose set.now.head.k (solid (set_of set.now.bytes.now)) c s.now (kmer_of kmer) (map spelled_out kept.now)) result }
 {
     if kept.len() == 1 {
-        return Choice {
-            mend: Some(kept[0]),
-            lookups: 0,
-        };
+        return Try::given(kept[0], 0);
     }
     let mut chosen = None;
     let mut remaining: usize = 0;
@@ -99,8 +89,8 @@ fn choose(set: &KmerSet, c: usize, kmer: Kmer, s: &[u8], kept: &[Mend]) -> Choic
             remaining += 1;
         }
     }
-    Choice {
-        mend: if remaining == 1 { chosen } else { None },
+    Try {
+        answer: if remaining == 1 { chosen } else { None },
         lookups,
     }
 }
@@ -129,7 +119,7 @@ pub fn correct_error<S: Scenario>(
     let scenarii = trials::get_scenarii::<S>(set, confirm, alt.kmer, s);
     let choice = choose(set, confirm, kmer, s, scenarii.kept.as_slice());
     let lookups = made + 4 + scenarii.lookups + choice.lookups;
-    let Some(mend) = choice.mend else {
+    let Some(mend) = choice.answer else {
         return Attempt::Refused(lookups);
     };
     if mend.letters <= out.len() {

@@ -19,7 +19,7 @@ use Rattle.kmer.specs.Kmer.{kmer_of, IsKmer}
 use Rattle.set.specs.declared.Asked.{Asked}
 use Rattle.set.specs.Asked.{AskedIs}
 use Rattle.scan.proofs.Laws.{refused-bind, given-bind}
-use Rattle.scenario.specs.declared.Trial.{Trial}
+use Rattle.scenario.specs.declared.counted.Try.{Try as TryOf}
 use Rattle.scenario.specs.Scenario.{nth, one_of, trial_of, plus, instead_of, instead_after, TriedIs, TrialIs}
 
 pub trial-short : (s : List ℕ) (sc : Scenario) → length s < sc.least → trial_of s sc ≡ refuse
@@ -31,24 +31,24 @@ unfolding trial_of
 trial-long s sc h = rw (le-ltb (length s) sc.least h, trial_of)
 
 -- a trial's result by its parts
-pub by-refused : {k : ℕ} {t : Try letters.Kmer} {l : ℕ} (r : Trial) → (r.tried ≡ None) × (r.lookups ≡ l) → t ≡ record { answer = none; lookups = l } → l ≤ 7
+pub by-refused : {k : ℕ} {t : Try letters.Kmer} {l : ℕ} (r : TryOf KmerOf) → (r.answer ≡ None) × (r.lookups ≡ l) → t ≡ record { answer = none; lookups = l } → l ≤ 7
     → TrialIs k t r
 by-refused r p e h = record { tried = rw (e, p.0) refl; lookups = rw (e, p.1) refl; few = rw p.1 h }
 
-pub by-given : {k : ℕ} {t : Try letters.Kmer} {y : KmerOf} {l : ℕ} (r : Trial) → (r.tried ≡ Some y) × (r.lookups ≡ l)
+pub by-given : {k : ℕ} {t : Try letters.Kmer} {y : KmerOf} {l : ℕ} (r : TryOf KmerOf) → (r.answer ≡ Some y) × (r.lookups ≡ l)
     → t ≡ record { answer = some (kmer_of y); lookups = l } → IsKmer k y → l ≤ 7 → TrialIs k t r
 by-given r p e q h = record { tried = rw (e, p.0) (refl, q); lookups = rw (e, p.1) refl; few = rw p.1 h }
 
-pub trial-after : {k : ℕ} {t m : Try letters.Kmer} (l : ℕ) → m ≡ after l t → (r : Trial) → TrialIs k t r → l + r.lookups ≤ 7
-    → TrialIs k m (record { tried = r.tried; lookups = l + r.lookups })
+pub trial-after : {k : ℕ} {t m : Try letters.Kmer} (l : ℕ) → m ≡ after l t → (r : TryOf KmerOf) → TrialIs k t r → l + r.lookups ≤ 7
+    → TrialIs k m (record { answer = r.answer; lookups = l + r.lookups })
 unfolding after
 trial-after l e r q h = record { tried = rw e q.tried; lookups = rw e (ap (λ (i : ℕ). l + i) q.lookups); few = h }
 
 -- what a trial's result says of it
-pub trial-refused : (k : ℕ) (t : Try letters.Kmer) (r : Trial) → TrialIs k t r → r.tried ≡ None → t ≡ record { answer = none; lookups = r.lookups }
+pub trial-refused : (k : ℕ) (t : Try letters.Kmer) (r : TryOf KmerOf) → TrialIs k t r → r.answer ≡ None → t ≡ record { answer = none; lookups = r.lookups }
 trial-refused k t r q e = let a = subst (TriedIs k t.answer) e q.tried in λ i. record { answer = a i; lookups = q.lookups i }
 
-pub trial-given : (k : ℕ) (t : Try letters.Kmer) (r : Trial) (y : KmerOf) → TrialIs k t r → r.tried ≡ Some y
+pub trial-given : (k : ℕ) (t : Try letters.Kmer) (r : TryOf KmerOf) (y : KmerOf) → TrialIs k t r → r.answer ≡ Some y
     → (t ≡ record { answer = some (kmer_of y); lookups = r.lookups }) × IsKmer k y
 trial-given k t r y q e =
     let a = subst (TriedIs k t.answer) e q.tried in

@@ -13,7 +13,7 @@ use Rattle.scenario.specs.declared.one.ScenarioOne.TheVariants as ones
 use Rattle.scenario.specs.declared.two.ScenarioTwo.{ScenarioTwo}
 use Rattle.scenario.specs.declared.two.ScenarioTwo.TheVariants as twos
 use Rattle.scenario.specs.declared.row.Row.{Row}
-use Rattle.scenario.specs.declared.Trial.{Trial}
+use Rattle.scenario.specs.declared.counted.Try.{Try as TryOf}
 use Rattle.scenario.specs.declared.mend.Mend.{Mend}
 
 -- ---- the rules' scenarios
@@ -94,8 +94,8 @@ TriedIs k o (Some y) = (o ≡ some (kmer_of y)) × IsKmer k y
 TriedIs k o None = o ≡ none
 
 -- The tried k-mer or a refusal, after the lookups made.
-pub record TrialIs (k : ℕ) (t : Try Kmer) (r : Trial) : Type 0 where
-  pub tried : TriedIs k t.answer r.tried
+pub record TrialIs (k : ℕ) (t : Try Kmer) (r : TryOf KmerOf) : Type 0 where
+  pub tried : TriedIs k t.answer r.answer
   pub lookups : t.lookups ≡ r.lookups
   pub few : r.lookups ≤ 7
 

@@ -1,6 +1,7 @@
 // Document 01, "Correctors", the scenarios of One and Two: ports the trait `Scenario` of src/correct/exist/mod.rs.
 #![tactic(auto)]
 
+mod counted;
 mod mend;
 mod one;
 mod row;
@@ -13,19 +14,13 @@ ghost use Rattle.rules.specs.Exist as rules;
 ghost use Rattle.kmer.specs.Kmer.{kmer_of, IsKmer};
 ghost use Rattle.scenario.specs.Scenario.{trial_of, RowIs, TrialIs, Gives};
 
+pub use counted::Try;
 use kmer::Kmer;
 pub use mend::Mend;
 pub use one::ScenarioOne;
 pub use row::Row;
 use set::KmerSet;
 pub use two::ScenarioTwo;
-
-// A trial's result, made once and kept: the tried k-mer, if it does not refuse, and the lookups made.
-#[derive(Clone, Copy)]
-pub struct Trial {
-    pub tried: Option<Kmer>,
-    pub lookups: u64,
-}
 
 // The scenarios of One, and those of Two. They hold neither c nor k, as the source's do: c is the caller's and k is the set's.
 pub trait Scenario: Copy + 'static {
@@ -43,8 +38,8 @@ pub trait Scenario: Copy + 'static {
     fn row(self) -> Row
         ensures { (k : ℕ) (sol : ℕ → Bool) (x : letters.Kmer) (s : List ℕ) → RowIs (scenario self k sol x s) x result };
 
-    // Its trial on x, s being the rest of the read at its bad base.
-    fn apply(self, set: &KmerSet, x: Kmer, s: &[u8]) -> Trial
+    // Its trial on x, s being the rest of the read at its bad base: the tried k-mer or a refusal, after the lookups made.
+    fn apply(self, set: &KmerSet, x: Kmer, s: &[u8]) -> Try<Kmer>
         requires { IsKmer set.now.head.k x }
         ensures { TrialIs set.now.head.k
             (trial_of s.now (scenario self set.now.head.k (solid (set_of set.now.bytes.now)) (kmer_of x) s.now)) result };

@@ -2,7 +2,7 @@
 ghost use Rattle.rules.specs.Exist as rules;
 ghost use Rattle.scenario.specs.Scenario.{one_of};
 
-use super::{Row, Scenario, Trial};
+use super::{Row, Scenario, Try};
 use kmer::Kmer;
 use set::KmerSet;
 
@@ -40,10 +40,7 @@ impl Scenario for ScenarioOne {
         }
     }
 
-    fn apply(self, _set: &KmerSet, x: Kmer, _s: &[u8]) -> Trial {
-        Trial {
-            tried: Some(x),
-            lookups: 0,
-        }
+    fn apply(self, _set: &KmerSet, x: Kmer, _s: &[u8]) -> Try<Kmer> {
+        Try::given(x, 0)
     }
 }

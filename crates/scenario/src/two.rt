@@ -1,6 +1,6 @@
 // Document 01, Two: II, IS, SS, SD, DD, ICI, ICS, ICD, SCI, SCS, SCD, DCI, DCD. Ports src/correct/exist/two.rs. A trial counts the lookups
 // that were made: none for a k-mer that holds an unknown letter (document 02, W5).
-ghost use Rattle.std.specs.Prelude.{Bool, List, ◌≡◌, ℕ, ◌<◌, ◌≤◌, length, Some, None};
+ghost use Rattle.std.specs.Prelude.{Bool, List, ◌≡◌, ℕ, ◌<◌, ◌≤◌, length};
 ghost use Rattle.rules.specs.Letters as letters;
 ghost use Rattle.rules.specs.Set.{solid, set_of};
 ghost use Rattle.rules.specs.Scan as scans;
@@ -8,7 +8,7 @@ ghost use Rattle.rules.specs.Exist as rules;
 ghost use Rattle.kmer.specs.Kmer.{kmer_of, IsKmer, HasLetters};
 ghost use Rattle.scenario.specs.Scenario.{two_of, letters_of, plus, sole_after, solid_after, passing_of, instead_of, instead_after, TrialIs};
 
-use super::{Row, Scenario, Trial};
+use super::{Row, Scenario, Try};
 use kmer::{Header, Kmer};
 use set::KmerSet;
 
@@ -97,12 +97,12 @@ impl Scenario for ScenarioTwo {
         }
     }
 
-    fn apply(self, set: &KmerSet, x: Kmer, s: &[u8]) -> Trial {
+    fn apply(self, set: &KmerSet, x: Kmer, s: &[u8]) -> Try<Kmer> {
         if s.len() < self.row().least {
-            return refused(0);
+            return Try::refused(0);
         }
         match self {
-            ScenarioTwo::II | ScenarioTwo::IS => given(x, 0),
+            ScenarioTwo::II | ScenarioTwo::IS => Try::given(x, 0),
             ScenarioTwo::SS | ScenarioTwo::ICS => instead(set, x, s),
             ScenarioTwo::SD | ScenarioTwo::DD => sole(set, x),
             ScenarioTwo::ICI => solid_after(set, x, s),
@@ -115,24 +115,6 @@ impl Scenario for ScenarioTwo {
     }
 }
 
-fn refused(lookups: u64) -> Trial
-    ensures { (result.tried ≡ None) × (result.lookups ≡ lookups) }
-{
-    Trial {
-        tried: None,
-        lookups,
-    }
-}
-
-fn given(kmer: Kmer, lookups: u64) -> Trial
-    ensures { (result.tried ≡ Some kmer) × (result.lookups ≡ lookups) }
-{
-    Trial {
-        tried: Some(kmer),
-        lookups,
-    }
-}
-
 // y+si
 fn with(kmer: Kmer, s: &[u8], i: usize, head: Header) -> Kmer
     requires { IsKmer head.k kmer × (i < length s.now) }
@@ -142,18 +124,18 @@ fn with(kmer: Kmer, s: &[u8], i: usize, head: Header) -> Kmer
 }
 
 // x+u(x)
-fn sole(set: &KmerSet, x: Kmer) -> Trial
+fn sole(set: &KmerSet, x: Kmer) -> Try<Kmer>
     requires { IsKmer set.now.head.k x }
     ensures { TrialIs set.now.head.k (scans.sole set.now.head.k (solid (set_of set.now.bytes.now)) (kmer_of x)) result × (result.lookups ≤ 4) }
 {
     match successors::sole_next(set, x) {
-        Ok(next) => given(next, 4),
-        Err(lookups) => refused(lookups),
+        Ok(next) => Try::given(next, 4),
+        Err(lookups) => Try::refused(lookups),
     }
 }
 
 // y = x+si, y+u(y)
-fn sole_after(set: &KmerSet, x: Kmer, s: &[u8], i: usize) -> Trial
+fn sole_after(set: &KmerSet, x: Kmer, s: &[u8], i: usize) -> Try<Kmer>
     requires { IsKmer set.now.head.k x × (i < length s.now) }
     ensures { TrialIs set.now.head.k (sole_after set.now.head.k (solid (set_of set.now.bytes.now)) (kmer_of x) s.now i) result }
 {
@@ -161,61 +143,61 @@ fn sole_after(set: &KmerSet, x: Kmer, s: &[u8], i: usize) -> Trial
 }
 
 // x+s3, solid
-fn solid_after(set: &KmerSet, x: Kmer, s: &[u8]) -> Trial
+fn solid_after(set: &KmerSet, x: Kmer, s: &[u8]) -> Try<Kmer>
     requires { IsKmer set.now.head.k x × (3 < length s.now) }
     ensures { TrialIs set.now.head.k (solid_after set.now.head.k (solid (set_of set.now.bytes.now)) (kmer_of x) s.now) result }
 {
     let kmer = with(x, s, 3, set.head);
     let asked = set.ask(kmer);
     if asked.solid {
-        given(kmer, asked.lookups)
+        Try::given(kmer, asked.lookups)
     } else {
-        refused(asked.lookups)
+        Try::refused(asked.lookups)
     }
 }
 
 // x+s1+s3
-fn passing(head: Header, x: Kmer, s: &[u8]) -> Trial
+fn passing(head: Header, x: Kmer, s: &[u8]) -> Try<Kmer>
     requires { IsKmer head.k x × (3 < length s.now) }
     ensures { TrialIs head.k (passing_of head.k (kmer_of x) s.now) result }
 {
-    given(with(with(x, s, 1, head), s, 3, head), 0)
+    Try::given(with(with(x, s, 1, head), s, 3, head), 0)
 }
 
 // x+s1 not solid, x+u(x)
-fn instead(set: &KmerSet, x: Kmer, s: &[u8]) -> Trial
+fn instead(set: &KmerSet, x: Kmer, s: &[u8]) -> Try<Kmer>
     requires { IsKmer set.now.head.k x × (1 < length s.now) }
     ensures { TrialIs set.now.head.k (instead_of set.now.head.k (solid (set_of set.now.bytes.now)) (kmer_of x) s.now) result }
 {
     let asked = set.ask(with(x, s, 1, set.head));
     if asked.solid {
-        return refused(asked.lookups);
+        return Try::refused(asked.lookups);
     }
     let on = sole(set, x);
-    Trial {
-        tried: on.tried,
+    Try {
+        answer: on.answer,
         lookups: asked.lookups + on.lookups,
     }
 }
 
 // y = x+s1 solid, y+s2 not, y+u(y)
-fn instead_after(set: &KmerSet, x: Kmer, s: &[u8]) -> Trial
+fn instead_after(set: &KmerSet, x: Kmer, s: &[u8]) -> Try<Kmer>
     requires { IsKmer set.now.head.k x × (2 < length s.now) }
     ensures { TrialIs set.now.head.k (instead_after set.now.head.k (solid (set_of set.now.bytes.now)) (kmer_of x) s.now) result }
 {
     let y = with(x, s, 1, set.head);
     let first = set.ask(y);
     if !first.solid {
-        return refused(first.lookups);
+        return Try::refused(first.lookups);
     }
     let second = set.ask(with(y, s, 2, set.head));
     let lookups = first.lookups + second.lookups;
     if second.solid {
-        return refused(lookups);
+        return Try::refused(lookups);
     }
     let on = sole(set, y);
-    Trial {
-        tried: on.tried,
+    Try {
+        answer: on.answer,
         lookups: lookups + on.lookups,
     }
 }

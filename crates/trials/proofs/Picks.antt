@@ -7,13 +7,14 @@ use lib.ListN.{get_or}
 use Rattle.rules.specs.Letters.{Kmer}
 use Rattle.rules.specs.Set.{KmerSet, lookup, solid}
 use Rattle.rules.specs.Exist.{Mend, Scenario, tried}
+use Rattle.kmer.specs.declared.Kmer.{Kmer as KmerOf}
+use Rattle.scenario.specs.declared.counted.Try.{Try as TryOf}
 use Rattle.scenario.specs.declared.mend.Mend.{Mend as Kept}
 use Rattle.scenario.specs.Scenario.{of_code, Gives}
 use Rattle.std.specs.Prelude.{None}
-use Rattle.trials.specs.declared.Candidate.{Candidate}
 use Rattle.trials.specs.Trials.{Eligible, Placed}
 
-pub not-eligible : {k : ℕ} {set : KmerSet} {c : ℕ} {s : List ℕ} {sc : Scenario} {l : ℕ} (r : Candidate) → (r.tried ≡ None) × (r.lookups ≡ l)
+pub not-eligible : {k : ℕ} {set : KmerSet} {c : ℕ} {s : List ℕ} {sc : Scenario} {l : ℕ} (r : TryOf (KmerOf × ℕ)) → (r.answer ≡ None) × (r.lookups ≡ l)
     → tried k (solid set) c s sc ≡ record { answer = none; lookups = l } → l ≤ 8 → Eligible k set c s sc r
 not-eligible r p e h = record { is = rw (p.0, p.1) e; few = rw p.1 h }
 

@@ -9,9 +9,9 @@ use Rattle.rules.specs.Exist.{Scenario}
 use Rattle.rules.specs.Exist as rules
 use Rattle.kmer.specs.declared.Kmer.{Kmer}
 use Rattle.kmer.specs.Kmer.{kmer_of, IsKmer}
+use Rattle.scenario.specs.declared.counted.Try.{Try as TryOf}
 use Rattle.scenario.specs.declared.mend.Mend.{Mend}
 use Rattle.scenario.specs.Scenario.{spelled_out}
-use Rattle.trials.specs.declared.Candidate.{Candidate}
 use Rattle.trials.specs.declared.Scenarii.{Scenarii}
 
 -- What is left of a scenario's score where its tried k-mer t is solid and s long enough: the c bases from o.
@@ -31,8 +31,8 @@ EligibleIs k set c s sc l (Some (y, place)) =
 EligibleIs k set c s sc l None = rules.tried k (solid set) c s sc ≡ record { answer = none; lookups = l }
 
 -- A trial as far as its first confirm base; at most 8 lookups, so that the counts fit.
-pub record Eligible (k : ℕ) (set : KmerSet) (c : ℕ) (s : List ℕ) (sc : Scenario) (r : Candidate) : Type 0 where
-  pub is : EligibleIs k set c s sc r.lookups r.tried
+pub record Eligible (k : ℕ) (set : KmerSet) (c : ℕ) (s : List ℕ) (sc : Scenario) (r : TryOf (Kmer × ℕ)) : Type 0 where
+  pub is : EligibleIs k set c s sc r.lookups r.answer
   pub few : r.lookups ≤ 8
 
 -- The index of the key of a mend's tried k-mer is the mend's place.

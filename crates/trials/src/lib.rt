@@ -4,7 +4,7 @@
 
 mod group;
 
-ghost use Rattle.std.specs.Prelude.{◌≡◌, ◌≤◌, ◌<◌, None};
+ghost use Rattle.std.specs.Prelude.{◌≡◌, ◌≤◌, ◌<◌};
 ghost use Rattle.rules.specs.Set.{solid, set_of};
 ghost use Rattle.rules.specs.Exist as rules;
 ghost use Rattle.kmer.specs.Kmer.{kmer_of, IsKmer};
@@ -12,7 +12,7 @@ ghost use Rattle.trials.specs.Trials.{Eligible, KeptIs};
 
 pub use group::Group;
 use kmer::Kmer;
-use scenario::Scenario;
+use scenario::{Scenario, Try};
 use set::KmerSet;
 
 // The scenarios kept, and the lookups of all.
@@ -22,49 +22,36 @@ pub struct Scenarii {
     pub lookups: u64,
 }
 
-// A trial as far as its first confirm base: the tried solid k-mer and its key's index, unless the score is 0 from the outset; and the lookups
-// made.
-#[derive(Clone, Copy)]
-struct Candidate {
-    tried: Option<(Kmer, usize)>,
-    lookups: u64,
-}
-
-fn refused(lookups: u64) -> Candidate
-    ensures { (result.tried ≡ None) × (result.lookups ≡ lookups) }
-{
-    Candidate {
-        tried: None,
-        lookups,
-    }
-}
-
-// The score is 0 from the outset where the trial refuses, its k-mer isn't solid, or o + c exceeds the length of s.
-fn eligible<S: Scenario>(scenario: S, set: &KmerSet, c: usize, x: Kmer, s: &[u8]) -> Candidate
+// A trial as far as its first confirm base: the tried solid k-mer and its key's index, unless the score is 0 from the outset, as it is where the
+// trial refuses, its k-mer isn't solid, or o + c exceeds the length of s.
+fn eligible<S: Scenario>(
+    scenario: S,
+    set: &KmerSet,
+    c: usize,
+    x: Kmer,
+    s: &[u8],
+) -> Try<(Kmer, usize)>
     requires { IsKmer set.now.head.k x × (1 ≤ c) × (c < 256) }
     ensures { Eligible set.now.head.k (set_of set.now.bytes.now) c s.now
         (S.scenario scenario set.now.head.k (solid (set_of set.now.bytes.now)) (kmer_of x) s.now) result }
 {
     let trial = scenario.apply(set, x, s);
     let mut lookups = trial.lookups;
-    let Some(kmer) = trial.tried else {
-        return refused(lookups);
+    let Some(kmer) = trial.answer else {
+        return Try::refused(lookups);
     };
     if kmer.unknown != 0 {
-        return refused(lookups);
+        return Try::refused(lookups);
     }
     lookups += 1;
     let Some(place) = set.get(kmer) else {
-        return refused(lookups);
+        return Try::refused(lookups);
     };
     let start = scenario.row().start;
     if s.len() < start + c {
-        return refused(lookups);
+        return Try::refused(lookups);
     }
-    Candidate {
-        tried: Some((kmer, place)),
-        lookups,
-    }
+    Try::given((kmer, place), lookups)
 }
 
 // The scenarios that score c: the c bases of s from o are added, and the trial ends at the first base whose k-mer isn't solid. Document 01 fixes
@@ -79,7 +66,7 @@ pub fn get_scenarii<S: Scenario>(set: &KmerSet, c: usize, x: Kmer, s: &[u8]) -> 
     'scenarios: for scenario in S::all() {
         let candidate = eligible(*scenario, set, c, x, s);
         lookups += candidate.lookups;
-        let Some((first, place)) = candidate.tried else {
+        let Some((first, place)) = candidate.answer else {
             continue 'scenarios;
         };
         let start = scenario.row().start;

@@ -35,11 +35,11 @@ pub returns-then-kept-eq1 : goal.returns-then-kept-eq1
 returns-then-kept-eq1 c =
     let m = c.index-kept-0.result in
     let e = choose_one _ _ _ _ _ _ (one-is c.args.kept.now m c.if-kept-eq1.true c.index-kept-0.is) in
-    record {
+    rw (c.given.ensures.0, c.given.ensures.1) (record {
       mend = (ap (λ (r : Try Mend). r.answer) e, placed (goal.at.returns-then-kept-eq1 c).Start 0 m c.index-kept-0.is (omega arith));
       lookups = ap (λ (r : Try Mend). r.lookups) e;
       few = search rules;
-    }
+    })
 
 pub loop-mend-init : goal.loop-mend-init
 loop-mend-init c = (search rules, search rules, refl, asked-none _ _ _ _ _ _ _)

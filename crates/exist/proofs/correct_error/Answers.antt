@@ -24,7 +24,7 @@ attempt g c =
 
 -- what was chosen, and what it cost, said of the attempt
 picked : (g : Over) (c : After-choose-choice g)
-    → MendIs (set_of c.args.set.now.bytes.now) (attempt g (goal.at.After-choose-choice g c).Start).answer c.choose-choice.result.mend
+    → MendIs (set_of c.args.set.now.bytes.now) (attempt g (goal.at.After-choose-choice g c).Start).answer c.choose-choice.result.answer
 picked g c =
     rw (exist-answer _ _ _ _ _ _ _ c.in-Ok.ensures.0 c.get_scenarii-scenarii.result c.get_scenarii-scenarii.ensures)
     (rw c.as_slice.ensures at c.choose-choice.ensures.mend)

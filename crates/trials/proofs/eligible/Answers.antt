@@ -70,7 +70,7 @@ returns g c =
     let at = goal.at.returns g c in
     let sc = sc g at.Start in
     let long : sc.o + c.args.c ≤ length c.args.s.now = rw (← starts-at g at.After-row-start) c.if-s-start.false in
-    record {
+    rw (c.given.ensures.0, c.given.ensures.1) (record {
       is = (
         eligible-on _ _ _ _ c.requires.1 sc (given g at.In-Some).0 (asked g at.After-get) (ap is_key c.in-Some-get.is) long,
         (given g at.In-Some).1,
@@ -79,4 +79,4 @@ returns g c =
         sym c.get.ensures ∙ ap index_of c.in-Some-get.is,
       );
       few = omega (arith, c.apply-trial.ensures.few);
-    }
+    })

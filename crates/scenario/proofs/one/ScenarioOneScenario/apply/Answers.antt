@@ -1,4 +1,3 @@
-use mathlib.Core.Path.{refl}
 use lib.Dec.{lit≤}
 use Rattle.rules.specs.Counted.{give}
 use Rattle.scenario.proofs.Trials.{one-trial, by-given}
@@ -6,4 +5,4 @@ use Rattle.scenario.proofs.one.ScenarioOneScenario.apply.Goals as goal
 
 pub returns : goal.returns
 unfolding give
-returns c = by-given _ (refl, refl) (one-trial c.args.self _ _ _ _) c.requires (lit≤ tt)
+returns c = by-given _ c.given.ensures (one-trial c.args.self _ _ _ _) c.requires (lit≤ tt)

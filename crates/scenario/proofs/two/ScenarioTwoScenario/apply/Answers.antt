@@ -8,8 +8,9 @@ use Rattle.rules.specs.Letters as letters
 use Rattle.rules.specs.Set.{solid, set_of}
 use Rattle.rules.specs.Counted.{Try, give, refuse}
 use Rattle.rules.specs.Exist.{Scenario, row, with, two}
+use Rattle.kmer.specs.declared.Kmer.{Kmer as KmerOf}
 use Rattle.kmer.specs.Kmer.{kmer_of}
-use Rattle.scenario.specs.declared.Trial.{Trial}
+use Rattle.scenario.specs.declared.counted.Try.{Try as TryOf}
 use Rattle.scenario.specs.declared.two.ScenarioTwo.{ScenarioTwo}
 use Rattle.scenario.specs.declared.two.ScenarioTwo.TheVariants.{II, IS, SS, SD, DD, ICI, ICS, ICD, SCI, SCS, SCD, DCI, DCD}
 use Rattle.scenario.specs.Scenario.{nth, two_of, trial_of, sole_after, solid_after, passing_of, instead_of, instead_after, TrialIs}
@@ -25,7 +26,7 @@ sc c name = let a = c.args in two_of name a.set.now.head.k (solid (set_of a.set.
 long : (c : Else-s-row) (name : ScenarioTwo) → c.args.self ≡ name → (sc (goal.at.Else-s-row c).Start name).least ≤ length c.args.s.now
 long c name e = rw (← e, ← (c.row.ensures _ _ _ _).least) c.if-s-row.false
 
-tried : (c : Else-s-row) (name : ScenarioTwo) {t : Try letters.Kmer} {r : Trial} → c.args.self ≡ name → (sc (goal.at.Else-s-row c).Start name).trial ≡ t
+tried : (c : Else-s-row) (name : ScenarioTwo) {t : Try letters.Kmer} {r : TryOf KmerOf} → c.args.self ≡ name → (sc (goal.at.Else-s-row c).Start name).trial ≡ t
     → TrialIs c.args.set.now.head.k t r
     → TrialIs c.args.set.now.head.k (trial_of c.args.s.now (sc (goal.at.Else-s-row c).Start c.args.self)) r
 tried c name e q h = rw (e, trial-long _ (sc (goal.at.Else-s-row c).Start name) (long c name e), q) h
