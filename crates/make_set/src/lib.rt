@@ -28,7 +28,7 @@ pub fn make_set(
     if MAX_KEYS < n {
         return Err(Refusal::Header);
     }
-    let length = 512 * (1 + (n + 62) / 63);
+    let length = 512 * (1 + n.div_ceil(63));
     if blocks.len() < length || counts.len() < n {
         return Err(Refusal::TooShort);
     }

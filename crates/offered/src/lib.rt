@@ -1,12 +1,10 @@
 // The set of a call and what is offered with it: checks 7 to 10, 15 and 16 of documents 01 and 02, and lookups made ready.
 #![tactic(auto)]
 
-ghost use Rattle.std.specs.Prelude.{◌≡◌, length};
-ghost use Rattle.set.specs.Ready.{table_length};
 ghost use Rattle.offered.specs.Offered.{OfferedIs};
 
 use refusal::Refusal;
-use set::KmerSet;
+use set::{KmerSet, STARTS};
 
 // For lookups of about so many bases.
 pub fn open<'a>(
@@ -14,9 +12,8 @@ pub fn open<'a>(
     index: &[u8],
     counts: &'a [u32],
     bases: usize,
-    starts: &'a mut [u32],
+    starts: &'a mut [u32; STARTS],
 ) -> Result<KmerSet<'a>, Refusal>
-    requires { length starts.old ≡ table_length }
     ensures { OfferedIs set.now index.now counts.now result }
 {
     let opened = opening::open(set)?;

@@ -1,16 +1,16 @@
 // A set made ready for lookups: its table of starts, and the header that goes with it.
 #![tactic(auto)]
 
-ghost use Rattle.std.specs.Prelude.{◌≡◌, ◌+◌, ◌-◌, ◌*◌, ◌≤◌, length};
+ghost use Rattle.std.specs.Prelude.{◌≡◌, ◌+◌, ◌-◌, ◌*◌, ◌≤◌};
 ghost use Rattle.std.proofs.Math.Option.{none};
 ghost use Rattle.rules.specs.Set.{max_k, max_keys, set_of, first_letters};
 ghost use Rattle.rules.specs.Index.{index_blocks, index_check};
 ghost use Rattle.kmer.specs.Kmer.{Shifts};
-ghost use Rattle.set.specs.Ready.{table_length, Ready, Ranged};
+ghost use Rattle.set.specs.Ready.{Ready, Ranged};
 
 use index::OpenSet;
 use kmer::Header;
-use set::KmerSet;
+use set::{KmerSet, STARTS};
 
 // How many bits a prefix has: at most 16, at most a key's 2k, and no more than four prefixes to a key.
 fn prefix_bits(k: usize, n: usize) -> usize
@@ -29,8 +29,8 @@ fn header(k: usize, n: usize, bits: usize, finer: usize) -> Header
 }
 
 // The table made from the keys, by prefixes of so many bits.
-fn by_keys(set: &OpenSet, bits: usize, finer: usize, starts: &mut [u32]) -> Header
-    requires { (length starts.old ≡ table_length) × (bits ≤ 16) × (bits ≤ 2 * set.now.k) × (finer ≤ bits) }
+fn by_keys(set: &OpenSet, bits: usize, finer: usize, starts: &mut [u32; STARTS]) -> Header
+    requires { (bits ≤ 16) × (bits ≤ 2 * set.now.k) × (finer ≤ bits) }
     ensures { Ready set.now.bytes.now starts.new result × (result.k ≡ set.now.k) × (result.shift + result.finer ≡ 2 * set.now.k - bits + finer) }
 {
     let head = header(set.k, set.n, bits, finer);
@@ -38,8 +38,8 @@ fn by_keys(set: &OpenSet, bits: usize, finer: usize, starts: &mut [u32]) -> Head
     head
 }
 
-fn by_index(set: &OpenSet, index: &[u8], starts: &mut [u32]) -> Header
-    requires { (length starts.old ≡ table_length) × (index.now ≡ index_blocks (set_of set.now.bytes.now)) }
+fn by_index(set: &OpenSet, index: &[u8], starts: &mut [u32; STARTS]) -> Header
+    requires { index.now ≡ index_blocks (set_of set.now.bytes.now) }
     ensures { Ready set.now.bytes.now starts.new result × (result.k ≡ set.now.k)
         × (result.shift + result.finer ≡ 2 * (set.now.k - first_letters set.now.k)) }
 {
@@ -54,8 +54,8 @@ fn pays(bases: usize) -> bool {
 }
 
 // The table by what is offered: where no index is, all keys are one range.
-fn by_offer(set: &OpenSet, index: &[u8], bases: usize, starts: &mut [u32]) -> Header
-    requires { (length starts.old ≡ table_length) × (index_check (set_of set.now.bytes.now) index.now ≡ none) }
+fn by_offer(set: &OpenSet, index: &[u8], bases: usize, starts: &mut [u32; STARTS]) -> Header
+    requires { index_check (set_of set.now.bytes.now) index.now ≡ none }
     ensures { Ready set.now.bytes.now starts.new result × Ranged index.now result }
 {
     let bits = prefix_bits(set.k, set.n);
@@ -75,9 +75,9 @@ pub fn prepare<'a>(
     index: &[u8],
     counts: &'a [u32],
     bases: usize,
-    starts: &'a mut [u32],
+    starts: &'a mut [u32; STARTS],
 ) -> KmerSet<'a>
-    requires { (length starts.old ≡ table_length) × (index_check (set_of set.bytes.now) index.now ≡ none) }
+    requires { index_check (set_of set.bytes.now) index.now ≡ none }
     ensures same { (result.bytes.now ≡ set.entry.bytes.now) × (result.head.k ≡ set.entry.k) × (result.head.n ≡ set.entry.n) }
     ensures counts { result.counts.now ≡ counts.now }
     ensures ranged { Ranged index.now result.head }

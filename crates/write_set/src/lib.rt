@@ -46,6 +46,6 @@ pub fn write(text: &[u8], head: Header, least: u64, n: usize, blocks: &mut [u8],
     lay::put(blocks, 0, head.k as u64);
     lay::put(blocks, 1, n as u64);
     write_lines(text, head, least, blocks, counts);
-    lay::seal(blocks, 1 + (n + 62) / 63);
+    lay::seal(blocks, 1 + n.div_ceil(63));
     counts[n..].fill(0);
 }

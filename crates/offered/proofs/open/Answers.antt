@@ -48,7 +48,7 @@ returns-then-not-check_counts c =
 
 pub prepare-requires : goal.prepare-requires
 prepare-requires c =
-    (c.requires, rw c.in_ok-opened.ensures.1 (passes (goal.at.prepare-requires c).Else-not-check_index))
+    rw c.in_ok-opened.ensures.1 (passes (goal.at.prepare-requires c).Else-not-check_index)
 
 pub returns : goal.returns
 unfolding unless offer_check ◌or_else◌

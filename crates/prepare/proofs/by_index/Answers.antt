@@ -19,10 +19,10 @@ pub copy_entries-requires : goal.copy_entries-requires
 copy_entries-requires c =
     let o = c.args.set.now.opens in
     let e = count (goal.at.copy_entries-requires c).After-letters-bits ∙ ap index_entries o.k_is in
-    let long = ap length c.requires.1 ∙ index-length _ o.right in
+    let long = ap length c.requires ∙ index-length _ o.right in
     record {
-      entries_in_bounds = (omega (arith, e, count-few (header_k c.args.set.now.bytes.now), c.requires.0), omega (arith, e, long));
-      by_index = λ v l. rw c.requires.1 (entry-small _ o.right v (omega (arith, l, e)));
+      entries_in_bounds = (omega (arith, e, count-few (header_k c.args.set.now.bytes.now)), omega (arith, e, long));
+      by_index = λ v l. rw c.requires (entry-small _ o.right v (omega (arith, l, e)));
     }
 
 pub header-requires : goal.header-requires
@@ -34,13 +34,13 @@ returns c =
     let h = c.header.ensures in
     let k_is = h.1 ∙ c.args.set.now.opens.k_is in
     let e = count (goal.at.returns c).After-letters-bits ∙ ap index_entries c.args.set.now.opens.k_is in
-    let same = rw (e, c.requires.1) at c.copy_entries.ensures in
+    let same = rw (e, c.requires) at c.copy_entries.ensures in
     let shift_is : c.header.result.shift ≡ 2 * (c.args.set.now.k - first_letters c.args.set.now.k) = omega (arith, h.3, c.letters-bits.ensures) in (
       record {
         k_is = k_is;
         n_is = h.2 ∙ c.args.set.now.opens.n_is;
         shifts = h.0;
-        table = rw h.4 (index-table _ c.args.set.now.opens.right _ c.header.result.shift (rw c.args.set.now.opens.k_is at shift_is) (omega (arith, c.requires.0, count-few (header_k c.args.set.now.bytes.now))) same);
+        table = rw h.4 (index-table _ c.args.set.now.opens.right _ c.header.result.shift (rw c.args.set.now.opens.k_is at shift_is) (omega (arith, count-few (header_k c.args.set.now.bytes.now))) same);
       },
       h.1,
       omega (arith, shift_is, h.4),

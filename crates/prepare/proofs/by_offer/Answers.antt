@@ -13,4 +13,4 @@ prefix_bits-bits-requires c =
 
 pub by_index-requires : goal.by_index-requires
 by_index-requires c =
-    (c.requires.0, offered-is _ _ c.requires.1 (λ e. false≢true (sym c.if-is_empty.false ∙ c.is_empty.ensures ∙ eq-eqb _ _ e)))
+    offered-is _ _ c.requires (λ e. false≢true (sym c.if-is_empty.false ∙ c.is_empty.ensures ∙ eq-eqb _ _ e))
