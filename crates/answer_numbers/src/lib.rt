@@ -46,7 +46,7 @@ pub fn open_numbers(opened: Result<OpenSet, Refusal>) -> [u64; 4]
 {
     match opened {
         Ok(set) => [0, 0, set.k as u64, set.n as u64],
-        Err(refusal) => refusal.numbers(),
+        Err(wrong) => wrong.numbers(),
     }
 }
 

@@ -1,7 +1,7 @@
 // What a bridge is.
 ghost use Rattle.std.specs.Prelude.{◌≤◌};
 
-// A chain: its moves, one at least, and their letters, 0 behind the last.
+// A chain: its moves, one at least, and their letters. There are 16, 0 behind the last, since the C interface tells so many.
 #[derive(Clone, Copy)]
 pub struct Chain {
     pub moves: usize,

@@ -19,7 +19,8 @@ pub enum End {
     Stopped,
 }
 
-// A search's end and the lookups made; of a chain that it found the letters, each at the number of moves before it.
+// A search's end and the lookups made; of a chain that it found the letters, each at the number of moves before it. They stand beside the end, since
+// each is put in on the way back.
 #[derive(Clone, Copy)]
 pub struct Search {
     pub letters: [u8; 16],

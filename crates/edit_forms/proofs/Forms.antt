@@ -5,27 +5,23 @@ use native.Mathlib.Numerals.{add-one}
 use borrow.Author.Tests.{leb-true, leb-false, lt-ltb, le-ltb, le-leb, lt-leb}
 use mathlib.Core.Path.{◌≡◌, refl, sym, ap, ◌∙◌}
 use mathlib.Core.Bool.{Bool, true, false, ◌&&◌, true≢false}
-use mathlib.Core.List.{List}
 use lib.ListN.{length}
 use lib.Dec.{ltb, leb}
 use Rattle.std.specs.Int.{div_ceil}
-use Rattle.rules_edits.specs.Edits.{Sheet, sheet, count, position, taken, given, end_of, letters_to, behind, formed}
+use Rattle.rules_edits.specs.Edits.{Sheet, count, position, taken, given, end_of, letters_to, behind, formed}
 use Rattle.rules_edits.proofs.Edits.{Formed, formed-facts, facts-formed}
 use Rattle.edit_forms.specs.declared.Edit.{Edit}
 use Rattle.edit_forms.specs.Formed.{EditIs}
 
 -- ---- behind the edit before
 
-module _ (numbers : List ℕ) (i : ℕ) (read mended letters : List ℕ) where
-  abbrev s : Sheet
-  s = sheet read mended numbers letters
-
+module _ (s : Sheet) (i : ℕ) where
   pub behind-first : i ≡ 0 → true ≡ behind s i
   unfolding behind
   behind-first e = rw e
 
   -- behind edit i - 1
-  module _ (last edit : Edit) (some_before : 1 ≤ i) (l : EditIs numbers (i - 1) last) (e : EditIs numbers i edit) where
+  module _ (last edit : Edit) (some_before : 1 ≤ i) (l : EditIs s.numbers (i - 1) last) (e : EditIs s.numbers i edit) where
     behind-is : behind s i ≡ (ltb last.position edit.position && leb (last.position + last.taken) edit.position)
     unfolding behind end_of position taken
     behind-is = let q : i ≡ suc (i - 1) = omega arith in ap (behind s) q ∙ rw (l.position, l.taken, e.position, ← q)

@@ -8,8 +8,10 @@ ghost use Rattle.rules.specs.Refusal.{first_failing};
 ghost use Rattle.rules.specs.Set.{solid, set_of};
 ghost use Rattle.rules_edits.specs.Edits as rules;
 ghost use Rattle.kmer.specs.Kmer.{IsKmer};
+ghost use Rattle.edit_forms.specs.Sheet.{sheet_of};
 ghost use Rattle.edit_walk.specs.Walk.{StepIs, left_of, stand_of, next, stepped, pass_over, over_edit, walk};
 
+use edit_forms::Sheet;
 use kmer::{Header, Kmer};
 use set::KmerSet;
 
@@ -94,35 +96,28 @@ fn over_edit<'a>(
 }
 
 // The bases kept before each edit, its letters, and the bases behind the last. It goes by the edits' numbers, since one is the answer.
-pub fn over_edits<'a>(
-    set: &KmerSet,
-    read: &[u8],
-    mended: &'a [u8],
-    edits: &[u64],
-    letters: &[u8],
-    n: usize,
-) -> Result<Walk<'a>, usize>
-    requires { (rules.count (rules.sheet read.now mended.now edits.now letters.now) ≡ n)
-        × (first_failing (rules.formed set.now.head.k (rules.sheet read.now mended.now edits.now letters.now)) 0 n ≡ none) }
+pub fn over_edits<'a>(set: &KmerSet, sheet: &Sheet<'a>, n: usize) -> Result<Walk<'a>, usize>
+    requires { (rules.count (sheet_of sheet.now) ≡ n)
+        × (first_failing (rules.formed set.now.head.k (sheet_of sheet.now)) 0 n ≡ none) }
     ensures { StepIs set.now.head.k
-        (walk set.now.head.k (solid (set_of set.now.bytes.now))
-        (rules.sheet read.now mended.now edits.now letters.now))
+        (walk set.now.head.k (solid (set_of set.now.bytes.now)) (sheet_of sheet.now))
         result }
 {
     let mut walk = Walk {
         kmer: kmer::all_a(set.head),
         asks: None,
-        left: Some(mended),
+        left: Some(sheet.mended),
     };
     let mut from = 0;
     let mut given = 0;
     for i in 0..n {
-        let edit = edit_forms::edit_at(edits, i);
+        let edit = edit_forms::edit_at(sheet.edits, i);
         let position = edit.position as usize;
         let end = given + edit.gives as usize;
-        walk = over_edit(set, &read[from..position], &letters[given..end], walk, i)?;
+        let kept = &sheet.read[from..position];
+        walk = over_edit(set, kept, &sheet.letters[given..end], walk, i)?;
         from = position + edit.taken as usize;
         given = end;
     }
-    pass_over(set, &read[from..], walk, None)
+    pass_over(set, &sheet.read[from..], walk, None)
 }

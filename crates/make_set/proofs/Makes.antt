@@ -69,15 +69,15 @@ module _ (text : List ℕ) (k least : ℕ) where
           ))
 
       -- Written by a header whose k is this one.
-      pub made-both : (own : ℕ) → own ≡ k → (after list-after : List ℕ) → 512 * (1 + blocks_for n) ≤ length blocks → n ≤ length counts
+      pub made-both : (own : ℕ) → own ≡ k → (told : ℕ) → told ≡ 512 * (1 + blocks_for n) → (after list-after : List ℕ) → 512 * (1 + blocks_for n) ≤ length blocks → n ≤ length counts
           → after ≡ set_blocks own (text_keys own least text) ++ replicate (length blocks - 512 * (1 + blocks_for n)) 0
           → list-after ≡ text_counts own least text ++ replicate (length counts - n) 0
-          → record { answer = accepted (512 * (1 + blocks_for n)); blocks = after; counts = list-after } ≡ make_set text k least blocks counts
+          → record { answer = accepted told; blocks = after; counts = list-after } ≡ make_set text k least blocks counts
       unfolding make_set both_laid fits filled
-      made-both own own_is after list-after h l a c =
+      made-both own own_is told told_is after list-after h l a c =
           let s = le-leb (length (set_blocks k (text_keys k least text))) (length blocks) (omega (arith, size)) in
           let t = le-leb (length (text_counts k least text)) (length counts) (omega (arith, list-size)) in
-          rw (a, c, own_is, ← size, ← list-size, e, make_set, s, t, both_laid)
+          rw (told_is, a, c, own_is, ← size, ← list-size, e, make_set, s, t, both_laid)
 
 -- ---- k
 

@@ -1,7 +1,7 @@
 // Reads the files and writes what is printed for them. No contract can say what is read or written, so all else is done by `program::printed`.
 #![tactic(auto)]
 
-ghost use Rattle.std.specs.Prelude.{◌≤◌, length, IfSome};
+ghost use Rattle.std.specs.Prelude.{◌≤◌, length};
 
 use program::PAGE;
 use std::io::Read;
@@ -23,22 +23,13 @@ fn read_full<F: Read>(file: &mut F, buffer: &mut [u8]) -> usize
     length
 }
 
-// How many bytes a file has, put at the buffer's start; none if it is not read to its end. One read more tells the end from a failure, and from a
-// longer file. A file that was not opened, as a missing one, is one that cannot be read.
-fn read_file<F: Read + Drop>(file: io::Result<F>, buffer: &mut [u8]) -> Option<usize>
-    ensures { IfSome result (λ n. n ≤ length buffer.new) }
-{
+// A file's bytes, put at the buffer's start; none if it is not read to its end. One read more tells the end from a failure, and from a longer file. A
+// file that was not opened, as a missing one, is one that cannot be read.
+fn read_file<F: Read + Drop>(file: io::Result<F>, buffer: &mut [u8]) -> Option<&[u8]> {
     let mut file = file.ok()?;
     let length = read_full(&mut file, buffer);
     let mut more = [0u8; 1];
-    matches!(file.read(&mut more), Ok(0)).then_some(length)
-}
-
-// The bytes of a file that was read.
-fn part(buffer: &[u8], count: Option<usize>) -> Option<&[u8]>
-    requires { IfSome count (λ n. n ≤ length buffer.now) }
-{
-    Some(&buffer[..count?])
+    matches!(file.read(&mut more), Ok(0)).then_some(&buffer[..length])
 }
 
 // The program over the files of these names and an open batch. Each buffer has a byte more than the file may have, so that `program::printed` sees a
@@ -52,13 +43,10 @@ pub fn run<R: Files + Print, B: Read + Drop>(
     let mut set = [0u8; 65537];
     let mut job = [0u8; 65];
     let mut batch = [0u8; 16385];
-    let set_length = read_file(fs::open(rt, set_name), &mut set);
-    let job_length = read_file(fs::open(rt, job_name), &mut job);
-    let batch_length = read_file(batch_file, &mut batch);
     let files = program::Files {
-        set: part(&set, set_length),
-        job: part(&job, job_length),
-        batch: part(&batch, batch_length),
+        set: read_file(fs::open(rt, set_name), &mut set),
+        job: read_file(fs::open(rt, job_name), &mut job),
+        batch: read_file(batch_file, &mut batch),
     };
     let mut page = [0u8; PAGE];
     let length = program::printed(files, &mut page);

@@ -8,4 +8,4 @@ returns-in-Ok c bytes t = set-numbers bytes c.in-Ok.set (subst (Opens bytes) c.i
 
 pub returns-in-Err : goal.returns-in-Err
 returns-in-Err c bytes t =
-    c.numbers.ensures ∙ refused-numbers bytes c.in-Err.refusal (subst (Opens bytes) c.in-Err.is t)
+    c.numbers.ensures ∙ refused-numbers bytes c.in-Err.wrong (subst (Opens bytes) c.in-Err.is t)

@@ -1,7 +1,8 @@
 use Rattle.std.proofs.Common.{refl, sym, ap, ap₂, ◌∙◌, ℕ, List, None, arith, rules}
 use Rattle.std.proofs.lemmas.Result.{err_from_is_err_and}
 use Rattle.rules.specs.Set.{solid, set_of}
-use Rattle.rules_edits.specs.Edits.{sheet, kept_from, letters_to, kept, letters_of}
+use Rattle.rules_edits.specs.Edits.{kept_from, letters_to, kept, letters_of}
+use Rattle.edit_forms.specs.Sheet.{sheet_of}
 use Rattle.edit_walk.specs.Walk.{StepIs, stand_of, pass_over, over_edit, begins}
 use Rattle.edit_walk.proofs.Steps.{same_step}
 use Rattle.edit_walk.proofs.Pieces.{Piece, all-formed, piece, kept-is, letters-are, from_next, letters-next, rest-is, walk-on, walk_end, walk-starts, walk-stops}
@@ -18,7 +19,7 @@ loop-i-init c =
       refl,
       refl,
       y.kmer,
-      walk-starts a.set.now.head.k (solid (set_of a.set.now.bytes.now)) (sheet a.read.now a.mended.now a.edits.now a.letters.now) a.n _ c.requires.0 (rw y.is),
+      walk-starts a.set.now.head.k (solid (set_of a.set.now.bytes.now)) (sheet_of a.sheet.now) a.n _ c.requires.0 (rw y.is),
     )
 
 pub edit_at-edit-requires : goal.edit_at-edit-requires
@@ -26,7 +27,7 @@ edit_at-edit-requires c = (all-formed _ _ _ c.requires.1 c.loop-i.i c.loop-i-tes
 
 -- Edit i's parts lie in their lists.
 there : (c : After-edit_at-edit) → let a = c.args in
-    Piece (sheet a.read.now a.mended.now a.edits.now a.letters.now) c.loop-i.from c.loop-i.given c.edit_at-edit.result
+    Piece (sheet_of a.sheet.now) c.loop-i.from c.loop-i.given c.edit_at-edit.result
 there c =
     let l = c.loop-i in
     piece _ _ _ c.requires.1 l.i l.from l.given l.invariant.2 l.invariant.3 _ c.edit_at-edit.ensures c.loop-i-test.true
@@ -34,17 +35,17 @@ there c =
 pub overflow_add-end : goal.overflow_add-end
 overflow_add-end c = let p = there c in omega (arith, p.in_letters)
 
-pub slice_bounds-over_edit-count : goal.slice_bounds-over_edit-count
-slice_bounds-over_edit-count c = (there (goal.at.slice_bounds-over_edit-count c).After-edit_at-edit).from_le
+pub slice_bounds-kept-count : goal.slice_bounds-kept-count
+slice_bounds-kept-count c = (there (goal.at.slice_bounds-kept-count c).After-edit_at-edit).from_le
 
-pub slice_bounds-over_edit-start : goal.slice_bounds-over_edit-start
-slice_bounds-over_edit-start c = (there (goal.at.slice_bounds-over_edit-start c).After-edit_at-edit).from_le
+pub slice_bounds-kept-start : goal.slice_bounds-kept-start
+slice_bounds-kept-start c = (there (goal.at.slice_bounds-kept-start c).After-edit_at-edit).from_le
+
+pub slice_bounds-kept-end : goal.slice_bounds-kept-end
+slice_bounds-kept-end c = let p = there (goal.at.slice_bounds-kept-end c).After-edit_at-edit in omega (arith, p.in_read)
 
 pub slice_bounds-over_edit-end : goal.slice_bounds-over_edit-end
-slice_bounds-over_edit-end c = let p = there (goal.at.slice_bounds-over_edit-end c).After-edit_at-edit in omega (arith, p.in_read)
-
-pub slice_bounds-over_edit-end-in-loop-i : goal.slice_bounds-over_edit-end-in-loop-i
-slice_bounds-over_edit-end-in-loop-i c = (there (goal.at.slice_bounds-over_edit-end-in-loop-i c).After-edit_at-edit).in_letters
+slice_bounds-over_edit-end c = (there (goal.at.slice_bounds-over_edit-end c).After-edit_at-edit).in_letters
 
 pub overflow_add-from : goal.overflow_add-from
 overflow_add-from c = let p = there (goal.at.overflow_add-from c).After-edit_at-edit in omega (arith, p.in_read)
@@ -52,7 +53,7 @@ overflow_add-from c = let p = there (goal.at.overflow_add-from c).After-edit_at-
 -- The step over edit i.
 stepped-over : (c : After-over_edit) → let l = c.loop-i in
     let a = c.args in
-    let s = sheet a.read.now a.mended.now a.edits.now a.letters.now in
+    let s = sheet_of a.sheet.now in
     StepIs a.set.now.head.k
     (over_edit a.set.now.head.k (solid (set_of a.set.now.bytes.now)) l.i (kept s l.i) (letters_of s l.i) (stand_of l.walk))
     c.over_edit.result

@@ -83,6 +83,5 @@ pub returns : goal.returns
 returns c =
     let a = c.args in
     let blocks_is = blocks-for (goal.at.returns c).After-div_ceil in
-    rw blocks_is
-    (made-both a.text.now a.k a.least a.blocks.now a.counts.now _ (passed (goal.at.returns c).Else-n-gt-MAX_KEYS) (judged (goal.at.returns c).In_ok-n).1 _ c.header_of-head.ensures.1 _ _ (rw blocks_is at c.if-blocks-length.false) (ltb-false _ _ c.if-counts-n.false-raw)
-    c.write.ensures.0 c.write.ensures.1)
+    made-both a.text.now a.k a.least a.blocks.now a.counts.now _ (passed (goal.at.returns c).Else-n-gt-MAX_KEYS) (judged (goal.at.returns c).In_ok-n).1 _ c.header_of-head.ensures.1
+    _ (omega (arith, blocks_is)) _ _ (omega (arith, blocks_is, c.if-blocks-length.false)) (ltb-false _ _ c.if-counts-n.false-raw) c.write.ensures.0 c.write.ensures.1
