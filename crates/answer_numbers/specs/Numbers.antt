@@ -1,14 +1,13 @@
 -- What a host is told: a call's answer as numbers in a lent slice.
-use Rattle.std.specs.Prelude.{ℕ, ◌≡◌, List, [], ◌∷◌, ◌++◌, length, get_or, take, drop, Result}
+use Rattle.std.specs.Prelude.{ℕ, ◌≡◌, List, [], ◌∷◌, ◌++◌, length, get_or, take, drop, Result, Ok, Err}
 use Rattle.std.proofs.Math.Option.{Option, none, some}
 use Rattle.rules.specs.Refusal.{Refusal, Outcome, accepted, refused, Check}
 use Rattle.rules.specs.Report.{Report}
-use Rattle.rules.specs.Set.{KmerSet, opened}
+use Rattle.rules.specs.Set.{KmerSet, header_k, header_n, set_of, opened}
 use Rattle.rules.specs.Solid.{Solids}
 use Rattle.rules_needs.specs.Needs.{Needs}
 use Rattle.refusal.specs.declared.Refusal.{Refusal as Reason}
-use Rattle.index.specs.declared.open_set.OpenSet.{OpenSet}
-use Rattle.opening.specs.Opened.{Opens}
+use Rattle.refusal.specs.Refusal.{refusal_of}
 
 -- A support: supported (1 or 0), and the smallest count, 0 where there is none; then other numbers.
 abbrev pub support_numbers : Option ℕ → List ℕ → List ℕ
@@ -32,9 +31,14 @@ unfoldable pub open_numbers : Outcome KmerSet → List ℕ
 open_numbers (accepted set) = 0 ∷ 0 ∷ set.k ∷ length set.keys ∷ []
 open_numbers (refused r) = refused_numbers r
 
+-- The bytes open so: with the header's k and n, or with the refusal.
+abbrev pub OpensWith : List ℕ → Result (ℕ × ℕ) Reason → Type 0
+OpensWith bytes (Ok h) = (opened bytes ≡ accepted (set_of bytes)) × (h.0 ≡ header_k bytes) × (h.1 ≡ header_n bytes)
+OpensWith bytes (Err r) = opened bytes ≡ refused (refusal_of r)
+
 -- What opening answered, told as the rules' numbers: of any bytes that open so.
-abbrev pub OpenNumbers : Result OpenSet Reason → List ℕ → Type 0
-OpenNumbers o ns = (bytes : List ℕ) → Opens bytes o → ns ≡ open_numbers (opened bytes)
+abbrev pub OpenNumbers : Result (ℕ × ℕ) Reason → List ℕ → Type 0
+OpenNumbers o ns = (bytes : List ℕ) → OpensWith bytes o → ns ≡ open_numbers (opened bytes)
 
 -- Counting: the refusal's number (0: none), its place, the read's k-mers, the solid ones among them.
 unfoldable pub solid_numbers : Outcome Solids → List ℕ

@@ -9,7 +9,6 @@ ghost use Rattle.lay.specs.Made.{outcome_of};
 ghost use Rattle.needs.specs.Needs.{answer_of as needs_told};
 ghost use Rattle.answer_numbers.specs.Numbers.{numbers_of, OpenNumbers, solid_numbers, made_numbers, needs_numbers, check_numbers, Told};
 
-use index::OpenSet;
 use needs::Need;
 use refusal::Refusal;
 use report::Report;
@@ -40,12 +39,12 @@ pub fn numbers_of(answer: Result<Report, Refusal>) -> [u64; 13]
     }
 }
 
-// The numbers of opening.
-pub fn open_numbers(opened: Result<OpenSet, Refusal>) -> [u64; 4]
-    ensures { OpenNumbers opened.entry result }
+// The numbers of opening: of k and n, whatever they are, or of the refusal.
+pub fn open_numbers(opened: Result<(usize, usize), Refusal>) -> [u64; 4]
+    ensures { OpenNumbers opened result }
 {
     match opened {
-        Ok(set) => [0, 0, set.k as u64, set.n as u64],
+        Ok((k, n)) => [0, 0, k as u64, n as u64],
         Err(wrong) => wrong.numbers(),
     }
 }

@@ -3,7 +3,7 @@
 
 mod chain;
 
-ghost use Rattle.std.specs.Prelude.{◌≡◌, Bool, ◌-◌, ◌≤◌, length, take};
+ghost use Rattle.std.specs.Prelude.{◌≡◌, Bool, ◌-◌, ◌≤◌, length, take, IfOk, IfSome};
 ghost use Rattle.std.proofs.Math.Option.{none};
 ghost use Rattle.rules.specs.Set.{solid, set_of, opened};
 ghost use Rattle.rules.specs.Refusal as Rules;
@@ -41,9 +41,11 @@ fn chain_of(search: Search, moves: usize) -> Chain
 // Rounds of 1 move, 2 moves and so on, while shorter than the deep search's chain. Its moves are what a round asks, and the floor where it is the last.
 fn rounds(set: &KmerSet, from: Kmer, to: u64, budget: u64, lookups: u64, deep: Chain) -> Bridge
     requires { IsKmer set.now.head.k from × (from.unknown ≡ 0) × (lookups ≤ budget) × (deep.moves ≤ 16)
-        × (deep.letters ≡ laid 0 (take deep.moves deep.letters)) × (length (take deep.moves deep.letters) ≡ deep.moves) }
-    ensures { told_by result
+        × (deep.letters ≡ laid 0 (take deep.moves deep.letters)) × (length (take deep.moves deep.letters) ≡ deep.moves)
+        × (1 ≤ deep.moves) }
+    ensures told { told_by result
         ≡ rules.told (rules.rounds set.now.head.k (solid (set_of set.now.bytes.now)) to budget from.code (take deep.moves deep.letters) (deep.moves - 1) 1 lookups) }
+    ensures moved { IfSome result.chain (λ c. 1 ≤ c.moves) }
 {
     let mut lookups = lookups;
     for round in 1..deep.moves {
@@ -69,7 +71,8 @@ fn rounds(set: &KmerSet, from: Kmer, to: u64, budget: u64, lookups: u64, deep: C
 
 // No chain.
 fn nothing(lookups: u64, floor: u64) -> Bridge
-    ensures { (stop : Bool) → told_by result ≡ rules.told (rules.bridge_by none lookups floor stop) }
+    ensures told { (stop : Bool) → told_by result ≡ rules.told (rules.bridge_by none lookups floor stop) }
+    ensures moved { IfSome result.chain (λ c. 1 ≤ c.moves) }
 {
     Bridge {
         chain: None,
@@ -81,7 +84,8 @@ fn nothing(lookups: u64, floor: u64) -> Bridge
 // First it goes deep.
 fn shortest(set: &KmerSet, from: Kmer, to: u64, budget: u64) -> Bridge
     requires { IsKmer set.now.head.k from × (from.unknown ≡ 0) }
-    ensures { told_by result ≡ rules.told (rules.bridge set.now.head.k (solid (set_of set.now.bytes.now)) to budget from.code) }
+    ensures told { told_by result ≡ rules.told (rules.bridge set.now.head.k (solid (set_of set.now.bytes.now)) to budget from.code) }
+    ensures moved { IfSome result.chain (λ c. 1 ≤ c.moves) }
 {
     let deep = bridge_search::from_kmer(set, from, to, 0, MOVES, budget, 0);
     match deep.end {
@@ -97,16 +101,18 @@ fn shortest(set: &KmerSet, from: Kmer, to: u64, budget: u64) -> Bridge
 // Refusal 20, and else the search.
 fn between(set: &KmerSet, from: u64, to: u64, budget: u64) -> Result<Bridge, Refusal>
     requires { opened set.now.bytes.now ≡ Rules.accepted (set_of set.now.bytes.now) }
-    ensures { answer_of result ≡ rules.told_of (rules.find_bridge set.now.bytes.now from to budget) }
+    ensures told { answer_of result ≡ rules.told_of (rules.find_bridge set.now.bytes.now from to budget) }
+    ensures moved { IfOk result (λ b. IfSome b.chain (λ c. 1 ≤ c.moves)) }
 {
     let start = bridge_ends::solid_kmer(set, from).ok_or(Refusal::NotSolid(0))?;
     bridge_ends::solid_kmer(set, to).ok_or(Refusal::NotSolid(1))?;
     Ok(shortest(set, start, to, budget))
 }
 
-// The call. No index is offered, and no counts.
+// The call. No index is offered, and no counts. A chain has one move at least.
 pub fn find_bridge(set: &[u8], from: u64, to: u64, budget: u64) -> Result<Bridge, Refusal>
-    ensures { answer_of result ≡ rules.told_of (rules.find_bridge set.now from to budget) }
+    ensures told { answer_of result ≡ rules.told_of (rules.find_bridge set.now from to budget) }
+    ensures moved { IfOk result (λ b. IfSome b.chain (λ c. 1 ≤ c.moves)) }
 {
     let mut starts = [0u32; STARTS];
     let opened = offered::open(set, b"", &[], 0, &mut starts)?;

@@ -1,17 +1,21 @@
 -- The first judgement in the code's terms.
-use Prim.Native.Nat.{ℕ, suc, ◌+◌, ◌*◌, ◌-◌, ◌≤◌, ◌<◌}
+use Prim.Native.Nat.{ℕ, zero, suc, ◌+◌, ◌*◌, ◌-◌, ◌≤◌, ◌<◌}
 use native.Mathlib.Omega.{arith}
 use native.Mathlib.Numerals.{add-one}
 use borrow.Author.Tests.{leb-true, leb-false, lt-ltb, le-ltb, le-leb, lt-leb}
-use mathlib.Core.Path.{◌≡◌, refl, sym, ap, ◌∙◌}
+use mathlib.Core.Path.{◌≡◌, refl, sym, ap, ap₂, ◌∙◌, fun_ext}
 use mathlib.Core.Bool.{Bool, true, false, ◌&&◌, true≢false}
+use mathlib.Core.List.{List}
 use lib.ListN.{length}
 use lib.Dec.{ltb, leb}
 use Rattle.std.specs.Int.{div_ceil}
-use Rattle.rules_edits.specs.Edits.{Sheet, count, position, taken, given, end_of, letters_to, behind, formed}
+use Rattle.std.specs.Prelude.{Result, Ok, Err}
+use Rattle.rules.specs.Refusal.{first_failing}
+use Rattle.rules_edits.specs.Edits.{Sheet, sheet, count, position, taken, given, end_of, letters_to, behind, formed}
 use Rattle.rules_edits.proofs.Edits.{Formed, formed-facts, facts-formed}
 use Rattle.edit_forms.specs.declared.Edit.{Edit}
-use Rattle.edit_forms.specs.Formed.{EditIs}
+use Rattle.edit_forms.specs.declared.Formed.{Formed as Form}
+use Rattle.edit_forms.specs.Formed.{EditIs, FormedIs}
 
 -- ---- behind the edit before
 
@@ -97,3 +101,32 @@ module _ (k : ℕ) (s : Sheet) (i : ℕ) (yes : formed k s i ≡ true) where
 
     pub letters-fit : letters_to s i + e.gives ≤ length s.letters
     letters-fit = rw (letters-more, add-one) (formed-facts k s i yes).letters
+
+-- ---- the partner's read is not asked
+
+module _ (s : Sheet) (mended : List ℕ) where
+  abbrev pub asked_of : Sheet
+  asked_of = sheet s.read mended s.numbers s.letters
+
+  same-count : count s ≡ count asked_of
+  unfolding count
+  same-count = refl
+
+  same-letters : (i : ℕ) → letters_to s i ≡ letters_to asked_of i
+  unfolding letters_to given
+  same-letters zero = refl
+  same-letters (suc i) = ap (λ (n : ℕ). n + given s i) (same-letters i)
+
+  same-behind : (i : ℕ) → behind s i ≡ behind asked_of i
+  unfolding behind end_of position taken
+  same-behind zero = refl
+  same-behind (suc i) = refl
+
+  same-formed : (k : ℕ) → formed k s ≡ formed k asked_of
+  unfolding formed end_of position taken
+  same-formed k = fun_ext (λ i. rw (same-letters (suc i), same-behind i))
+
+  pub any-mended : (k : ℕ) (r : Result Form ℕ) → FormedIs k s r → FormedIs k asked_of r
+  any-mended k (Ok f) p =
+      (sym same-count ∙ p.0, sym (ap (λ (g : ℕ → Bool). first_failing g 0 f.edits) (same-formed k)) ∙ p.1, p.2 ∙ same-letters f.edits)
+  any-mended k (Err i) p = sym (ap₂ (λ (g : ℕ → Bool) (n : ℕ). first_failing g 0 n) (same-formed k) same-count) ∙ p

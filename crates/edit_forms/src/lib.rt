@@ -1,7 +1,7 @@
 // Document 02, W12: the first judgement of a sheet, by its edits' numbers alone. No sum can wrap: the tests subtract.
 #![tactic(auto)]
 
-ghost use Rattle.std.specs.Prelude.{◌≡◌, ◌+◌, ◌*◌, ◌≤◌, ◌<◌, length};
+ghost use Rattle.std.specs.Prelude.{◌≡◌, List, ℕ, ◌+◌, ◌*◌, ◌≤◌, ◌<◌, length};
 ghost use Rattle.rules_edits.specs.Edits as rules;
 ghost use Rattle.edit_forms.specs.Formed.{EditIs, FormedIs};
 ghost use Rattle.edit_forms.specs.Sheet.{sheet_of};
@@ -72,9 +72,10 @@ fn is_formed(k: usize, sheet: &Sheet, i: usize, given: usize) -> bool
 }
 
 // All edits, in their order; else the first that offends. The last may have fewer than three numbers. It goes by their numbers, since one is
-// the answer.
+// the answer. The partner's read is not asked: the answer holds of any.
 pub fn judge_forms(k: usize, sheet: &Sheet) -> Result<Formed, usize>
-    ensures { FormedIs k (sheet_of sheet.now) result }
+    ensures { (mended : List ℕ) → FormedIs k
+        (rules.sheet sheet.now.read.now mended sheet.now.edits.now sheet.now.letters.now) result }
 {
     let n = sheet.edits.len().div_ceil(3);
     let mut given = 0;

@@ -14,7 +14,7 @@ ghost use Rattle.rules.specs.Index.{make_index};
 ghost use Rattle.rules_edits.specs.Edits.{sheet, check_edits};
 ghost use Rattle.report.specs.Answer.{given, answer_of};
 ghost use Rattle.needs.specs.Needs.{asked};
-ghost use Rattle.answer_numbers.specs.Numbers.{numbers_of, open_numbers, solid_numbers, check_numbers, Told};
+ghost use Rattle.answer_numbers.specs.Numbers.{numbers_of, open_numbers, solid_numbers, check_numbers, OpensWith, Told};
 ghost use Rattle.rules_bridge.specs.Bridge.{find_bridge, told_of};
 ghost use Rattle.bridge_numbers.specs.Numbers.{bridge_numbers};
 ghost use Rattle.exports.specs.Calls.{Exact, NeedsExact, Ceiling, MadeExact, SetMadeExact};
@@ -30,12 +30,20 @@ fn tell_answer(done: Result<Report, Refusal>, answer: &mut [u64]) -> u64
     answer_numbers::tell(&numbers, answer)
 }
 
+// k and n of the set, or why it does not open.
+fn header_of(set: &[u8]) -> Result<(usize, usize), Refusal>
+    ensures { OpensWith set.now result }
+{
+    let open = opening::open(set)?;
+    Ok((open.k, open.n))
+}
+
 // Refusals 7 to 10, or k and n.
 #[unsafe(no_mangle)]
 pub extern "C" fn corrector_open(set: &[u8], answer: &mut [u64]) -> u64
     ensures { Told (open_numbers (opened set.now)) answer.old result answer.new }
 {
-    let numbers = answer_numbers::open_numbers(opening::open(set));
+    let numbers = answer_numbers::open_numbers(header_of(set));
     answer_numbers::tell(&numbers, answer)
 }
 

@@ -1,6 +1,7 @@
 // The records of a list, and the bytes behind them. compare/README.md has the format.
 ghost use Rattle.std.specs.Prelude.{◌≡◌, ◌<◌, ◌+◌, ◌*◌, length, vec_len, IfOk};
 
+use refusal::Refusal;
 use std::alloc::{AllocError, Global};
 use std::io::Read;
 use std::{array, io};
@@ -120,6 +121,11 @@ impl Record {
     // The number of the refusal, 0 if there is none.
     pub fn refusal(&self) -> u32 {
         self.numbers[8]
+    }
+
+    // Whether the call was refused so. The numbers behind the place say nothing of a refusal.
+    pub fn refused(&self, refusal: Refusal) -> bool {
+        [self.number(8), self.number(9)] == refusal.numbers()
     }
 
     // What the call tells a host, in the order of the host's answer: of an opened set, of what a job needs, and of a call that corrects.

@@ -109,15 +109,15 @@ fn call_agrees<L: Read>(
     let mut output = lent(alloc, record.output(), MAX_OUTPUT, fill)?;
     let mut work = lent(alloc, record.work(), MAX_WORK, fill)?;
     let answer = call(kind, offered, &job, &input, &mut output, &mut work);
+    let told = match answer {
+        Ok(_) => answer_numbers::numbers_of(answer) == record.answer(),
+        Err(refusal) => record.refused(refusal),
+    };
     let rest = rest_of(record, fill);
-    Ok(
-        answer_numbers::numbers_of(answer) == record.answer()
-            && lent_is(&output, &expected, rest)
-            && lent_is(&work, b"", rest),
-    )
+    Ok(told && lent_is(&output, &expected, rest) && lent_is(&work, b"", rest))
 }
 
-// The same of a call that has no output.
+// The same of a call that has no output. A result of no bytes is expected; what a list holds in its place is passed over.
 fn needs_agree<L: Read>(
     list: &mut L,
     alloc: Global,
@@ -127,17 +127,23 @@ fn needs_agree<L: Read>(
 ) -> Result<bool, ListError> {
     let job = read_bytes(list, alloc, record.job(), MAX_JOB)?;
     let batch = read_bytes(list, alloc, record.input(), MAX_INPUT)?;
+    read_bytes(list, alloc, record.expected(), MAX_OUTPUT)?;
     let mut work = lent(alloc, record.work(), MAX_WORK, fill)?;
     let Offered { set, index, counts } = offered;
     let need = needs::needs(set, index, counts, &job, &batch, &mut work);
-    Ok(
-        answer_numbers::needs_numbers(need) == record.need()
-            && lent_is(&work, b"", rest_of(record, fill)),
-    )
+    let told = match need {
+        Ok(_) => answer_numbers::needs_numbers(need) == record.need(),
+        Err(refusal) => record.refused(refusal),
+    };
+    Ok(told && lent_is(&work, b"", rest_of(record, fill)))
 }
 
 fn open_agrees(offered: &Offered, record: &Record) -> bool {
-    answer_numbers::open_numbers(opening::open(&offered.set)) == record.opened()
+    let header = opening::open(&offered.set).map(|open| (open.k, open.n));
+    match header {
+        Ok(_) => answer_numbers::open_numbers(header) == record.opened(),
+        Err(refusal) => record.refused(refusal),
+    }
 }
 
 // Whether the next case agrees. Before it at most a set, an index and counts are offered, in this order.

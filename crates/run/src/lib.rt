@@ -1,7 +1,7 @@
 // Reads the files and writes what is printed for them. No contract can say what is read or written, so all else is done by `program::printed`.
 #![tactic(auto)]
 
-ghost use Rattle.std.specs.Prelude.{◌≤◌, length};
+ghost use Rattle.std.specs.Prelude.{◌≤◌, length, IfSome};
 
 use program::PAGE;
 use std::io::Read;
@@ -25,7 +25,9 @@ fn read_full<F: Read>(file: &mut F, buffer: &mut [u8]) -> usize
 
 // A file's bytes, put at the buffer's start; none if it is not read to its end. One read more tells the end from a failure, and from a longer file. A
 // file that was not opened, as a missing one, is one that cannot be read.
-fn read_file<F: Read + Drop>(file: io::Result<F>, buffer: &mut [u8]) -> Option<&[u8]> {
+fn read_file<F: Read + Drop>(file: io::Result<F>, buffer: &mut [u8]) -> Option<&[u8]>
+    ensures { IfSome result (λ bytes. length bytes.now ≤ length buffer.old) }
+{
     let mut file = file.ok()?;
     let length = read_full(&mut file, buffer);
     let mut more = [0u8; 1];

@@ -18,7 +18,10 @@ returns-in_err-start c =
     let p = err_from_is_err_and c.from_residual.result c.from_residual.ensures.1 in
     let value = rw none at c.in_err-start.ensures.value in
     let e : c.in_err-start.field-0.0 ≡ NotSolid 0 = cc in
-    rw (p.1, p.2, e, not_first _ _ _ _ c.requires (subst (SolidIs a.head.k (set_of a.bytes.now) c.args.from) none c.solid_kmer.ensures))
+    record {
+      told = rw (p.1, p.2, e, not_first _ _ _ _ c.requires (subst (SolidIs a.head.k (set_of a.bytes.now) c.args.from) none c.solid_kmer.ensures));
+      moved = rw p.1 tt;
+    }
 
 -- The first end is solid.
 starting : (c : In_ok-start) → let a = c.args in
@@ -34,7 +37,10 @@ returns-in_err-ok_or c =
     let value = rw none at c.in_err-ok_or.ensures.value in
     let e : c.in_err-ok_or.field-0.0 ≡ NotSolid 1 = cc in
     let first = (starting (goal.at.returns-in_err-ok_or c).In_ok-start).0 in
-    rw (p.1, p.2, e, not-second _ _ _ _ c.requires first (subst (SolidIs a.head.k (set_of a.bytes.now) c.args.to) none c.solid_kmer-2.ensures))
+    record {
+      told = rw (p.1, p.2, e, not-second _ _ _ _ c.requires first (subst (SolidIs a.head.k (set_of a.bytes.now) c.args.to) none c.solid_kmer-2.ensures));
+      moved = rw p.1 tt;
+    }
 
 pub shortest-requires : goal.shortest-requires
 shortest-requires c =
@@ -47,4 +53,7 @@ returns c =
     let a = c.args.set.now in
     let from = starting (goal.at.returns c).In_ok-start in
     let to = subst (SolidIs a.head.k (set_of a.bytes.now) c.args.to) c.in_ok-ok_or.ensures.ok_part c.solid_kmer-2.ensures in
-    rw (both-solid _ _ _ _ c.requires _ _ a.ready.k_is (known_is c.in_ok-start.start from.1.is) from.0 to.0, ← c.shortest.ensures)
+    record {
+      told = rw (both-solid _ _ _ _ c.requires _ _ a.ready.k_is (known_is c.in_ok-start.start from.1.is) from.0 to.0, ← c.shortest.ensures.told);
+      moved = c.shortest.ensures.moved;
+    }

@@ -17,7 +17,7 @@ returns-in_err-formed c =
     let q = was_err c.judge_forms.result c.in_err-formed.field-0.0 c.in_err-formed.ensures.variant c.in_err-formed.ensures.cases in
     rw (p.1, p.2, q.2)
     (sym (judge-first a.set.now.head.k (solid (set_of a.set.now.bytes.now)) s
-    (subst (FormedIs a.set.now.head.k s) q.1 c.judge_forms.ensures)))
+    (subst (FormedIs a.set.now.head.k s) q.1 (c.judge_forms.ensures a.sheet.now.mended.now))))
 
 -- So many edits, all formed, which give so many letters.
 all-formed : (c : In_ok-formed) → let a = c.args in
@@ -25,7 +25,8 @@ all-formed : (c : In_ok-formed) → let a = c.args in
 all-formed c =
     let a = c.args in
     subst (FormedIs a.set.now.head.k (sheet_of a.sheet.now))
-    (was_ok c.judge_forms.result c.in_ok-formed.formed c.in_ok-formed.ensures.variant c.in_ok-formed.ensures.cases) c.judge_forms.ensures
+    (was_ok c.judge_forms.result c.in_ok-formed.formed c.in_ok-formed.ensures.variant c.in_ok-formed.ensures.cases)
+    (c.judge_forms.ensures a.sheet.now.mended.now)
 
 pub over_edits-walked-requires : goal.over_edits-walked-requires
 over_edits-walked-requires c = let f = all-formed c in (f.0, f.1)

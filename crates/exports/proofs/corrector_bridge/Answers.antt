@@ -5,4 +5,4 @@ use Rattle.exports.proofs.corrector_bridge.Goals as goal
 
 pub returns : goal.returns
 returns c =
-    told-by (c.numbers_of-numbers.ensures ∙ ap bridge_numbers c.find_bridge.ensures) c.tell.ensures
+    told-by (c.numbers_of-numbers.ensures ∙ ap bridge_numbers c.find_bridge.ensures.told) c.tell.ensures
