@@ -2,7 +2,7 @@
 // 02, W8 and W10.
 #![tactic(auto)]
 
-ghost use Rattle.std.specs.Prelude.{◌≡◌, ◌≤◌, length};
+ghost use Rattle.std.specs.Prelude.{◌≡◌, ◌≤◌, length, take};
 ghost use Rattle.rules.specs.Calls.{max_read};
 ghost use Rattle.entries.specs.Entries.{entry_of};
 ghost use Rattle.turn.specs.Turn.{offered};
@@ -14,6 +14,17 @@ use kmer::Kmer;
 use set::KmerSet;
 use turn::Place;
 pub use turn::{Counts, Full};
+
+// Bytes copied to the front of a buffer. A loop: with `copy_from_slice` the archive for C would need `memmove` from its host.
+pub fn copy(src: &[u8], dst: &mut [u8])
+    requires { length src.now ≤ length dst.old }
+    ensures front { take (length src.now) dst.new ≡ src.now }
+    ensures whole { length src.now ≡ length dst.old → dst.new ≡ src.now }
+{
+    for (i, byte) in src.iter().enumerate() {
+        dst[i] = *byte;
+    }
+}
 
 // The first k-mer, asked. Its letters count as put out.
 pub fn begin(set: &KmerSet, read: &[u8]) -> Place
@@ -87,7 +98,7 @@ pub fn copied(read: &[u8], out: &mut [u8]) -> Result<Counts, Full>
     if out.len() < read.len() {
         return Err(Full);
     }
-    out[..read.len()].copy_from_slice(read);
+    copy(read, out);
     Ok(unchanged(read.len()))
 }
 
@@ -104,7 +115,7 @@ pub fn correct(set: &KmerSet, entry: Entry, read: &[u8], out: &mut [u8]) -> Resu
     if room < k {
         return Err(Full);
     }
-    out[..k].copy_from_slice(&read[..k]);
+    copy(&read[..k], out);
     let first = begin(set, read);
     let done = turns_of(set, entry, first, read, room, out)?;
     if room < done.written {

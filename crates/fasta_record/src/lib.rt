@@ -34,7 +34,7 @@ fn back_to_work(
         return through::go_on(set, job, first, &mut work[..room], output);
     }
     let done = through::go_on(set, job, first, output, &mut work[..room])?;
-    work[..done.written].copy_from_slice(&output[..done.written]);
+    correct::copy(&output[..done.written], work);
     Ok(done)
 }
 

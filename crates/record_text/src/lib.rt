@@ -13,7 +13,7 @@ fn put_line(line: &[u8], out: &mut [u8], at: usize)
     ensures { take (at + length line.now + 1) out.new ≡ take at out.old ++ (line.now ++ (10 ∷ [])) }
 {
     let end = at + line.len();
-    out[at..end].copy_from_slice(line);
+    correct::copy(line, &mut out[at..end]);
     out[end] = b'\n';
 }
 

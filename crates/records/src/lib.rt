@@ -110,7 +110,7 @@ pub fn join<'a>(lines: &mut BatchLines<'a>, work: &mut [u8]) -> Joined<'a>
                 name: Some(line),
             };
         }
-        work[read..read + line.len()].copy_from_slice(line);
+        correct::copy(line, &mut work[read..read + line.len()]);
         read += line.len();
     }
     Joined { read, name: None }

@@ -2,9 +2,9 @@ use Prim.Native.Nat.{ℕ, ◌≤◌, ◌<◌}
 use native.Mathlib.Omega.{arith}
 use mathlib.Core.Path.{◌≡◌, refl, sym, ap, ◌∙◌, subst}
 use mathlib.Core.Bool.{false≢true}
-use mathlib.Core.List.{List, ◌++◌}
-use lib.ListN.{length, take, drop, length-append, length-drop}
-use lib.Seq.{length-take-le, take-append_seam}
+use mathlib.Core.List.{List}
+use lib.ListN.{length, take}
+use lib.Seq.{length-take-le}
 use Rattle.std.specs.Prelude.{Result, Ok, Err, IsErr}
 use Rattle.rules.specs.Job.{pass}
 use Rattle.entries.specs.Entries.{entry_of}
@@ -17,7 +17,7 @@ use Rattle.correct.specs.Drive.{DriveIs}
 use Rattle.correct.proofs.Reached.{kept-pass}
 use Rattle.correct.proofs.Limits.{pass-limited}
 use Rattle.correct.proofs.Passes.{countable, one-pass-small, pass-short, pass-long, pass-begun, tally-begun, begun-stands}
-use Rattle.correct.proofs.correct.Goals.{After-begin-first, After-copy_from_slice, After-turns_of, Start}
+use Rattle.correct.proofs.correct.Goals.{After-begin-first, After-copy, After-turns_of, Start}
 use Rattle.correct.proofs.correct.Goals as goal
 
 -- The pass.
@@ -49,38 +49,23 @@ returns-then-room-k c =
       small = one-pass (goal.at.returns-then-room-k c).Start;
     }
 
--- The buffer with the first k-mer copied.
-abbrev buffer : After-copy_from_slice → List ℕ
-buffer c = c.copy_from_slice.new.self ++ drop c.args.set.now.head.k c.args.out.now
-
-first-length : (c : After-copy_from_slice) → length c.copy_from_slice.new.self ≡ c.args.set.now.head.k
-first-length c =
-    let a = c.args in
-    c.copy_from_slice.ensures.len ∙ length-take-le a.set.now.head.k a.out.now c.if-room-k.false
-
-first-copied : (c : After-copy_from_slice) → let a = c.args in take a.set.now.head.k (buffer c) ≡ take a.set.now.head.k a.read.now
+-- The first k-mer, copied.
+first-copied : (c : After-copy) → let k = c.args.set.now.head.k in take k c.copy.new.dst ≡ take k c.args.read.now
 first-copied c =
-    let first = c.copy_from_slice.new.self in
-    ap (λ (i : ℕ). take i (buffer c)) (sym (first-length c)) ∙ take-append_seam first (drop c.args.set.now.head.k c.args.out.now) ∙ c.copy_from_slice.ensures.after
-
-buffer-length : (c : After-copy_from_slice) → length (buffer c) ≡ length c.args.out.now
-buffer-length c =
-    let k = c.args.set.now.head.k in
-    let out = c.args.out.now in
-    omega (arith, length-append c.copy_from_slice.new.self (drop k out), first-length c, length-drop k out, c.if-room-k.false)
+    let a = c.args in
+    rw (length-take-le a.set.now.head.k a.read.now c.if-read-k.false) at c.copy.ensures.front
 
 -- The first k-mer counts as put out.
 first-put : (c : After-begin-first)
     → let k = c.args.set.now.head.k in
     let written = c.begin-first.result.done.written in
-    let out = buffer (goal.at.After-begin-first c).After-copy_from_slice in
+    let out = c.copy.new.dst in
     (length (take k c.args.read.now) ≡ written) × (written ≤ length c.args.out.now → take written out ≡ take k c.args.read.now)
 first-put c =
     let a = c.args in
     let k = a.set.now.head.k in
-    let at = (goal.at.After-begin-first c).After-copy_from_slice in
     let is = ap (λ (q : Place). q.done.written) c.begin-first.ensures.is in
-    (length-take-le k a.read.now c.if-read-k.false ∙ sym is, λ e. ap (λ (i : ℕ). take i (buffer at)) is ∙ first-copied at)
+    (length-take-le k a.read.now c.if-read-k.false ∙ sym is, λ e. ap (λ (i : ℕ). take i c.copy.new.dst) is ∙ first-copied (goal.at.After-begin-first c).After-copy)
 
 -- The pass from its first place.
 begun : (c : After-begin-first)
@@ -105,28 +90,25 @@ turns_of-requires c =
       here = put.1;
       countable = subst Countable (sym (begun at))
           (countable _ _ c.requires (pass-limited a.set.now a.entry (omega (arith, c.well_formed)) a.read.now));
-      room = omega (arith, buffer-length (goal.at.After-begin-first at).After-copy_from_slice);
+      room = omega (arith, c.copy.auto.dst);
     }
 
 -- What the turns gave.
 abbrev after : After-turns_of → List ℕ
 after c = c.turns_of.new.out
 
-abbrev started : After-turns_of → List ℕ
-started c = buffer (goal.at.After-turns_of c).After-copy_from_slice
-
 same-room : (c : After-turns_of) → length (after c) ≡ length c.args.out.now
-same-room c = c.turns_of.auto.out ∙ buffer-length (goal.at.After-turns_of c).After-copy_from_slice
+same-room c = c.turns_of.auto.out ∙ c.copy.auto.dst
 
 abbrev Gave : After-turns_of → Result Counts Full → Type 0
-Gave c = let a = c.args in DriveIs (length a.out.now) a.read.now (started c) (after c) (passed (goal.at.After-turns_of c).Start)
+Gave c = let a = c.args in DriveIs (length a.out.now) a.read.now c.copy.new.dst (after c) (passed (goal.at.After-turns_of c).Start)
 
 gave : (c : After-turns_of) → Gave c c.turns_of.result
 gave c =
     let a = c.args in
     let tally = tally-begun a.set.now a.entry a.read.now c.begin-first.ensures c.if-read-k.false in
     let put = first-put (goal.at.After-turns_of c).After-begin-first in
-    subst (λ (n : Tally). DriveIs (length a.out.now) a.read.now (started c) (after c) n c.turns_of.result) tally
+    subst (λ (n : Tally). DriveIs (length a.out.now) a.read.now c.copy.new.dst (after c) n c.turns_of.result) tally
     (c.turns_of.ensures (take a.set.now.head.k a.read.now) put.0 put.1)
 
 -- How the pass ends.
@@ -143,7 +125,7 @@ pub returns-in_err-done : goal.returns-in_err-done
 returns-in_err-done c =
     let at = (goal.at.returns-in_err-done c).After-turns_of in
     let short = (subst (Gave at) c.in_err-done.was (gave at)).0 in
-    ends at _ (full _ _ _ _ c.from_residual.ensures.0 (omega (arith, short, buffer-length (goal.at.After-turns_of at).After-copy_from_slice)))
+    ends at _ (full _ _ _ _ c.from_residual.ensures.0 (omega (arith, short, c.copy.auto.dst)))
 
 pub returns-then-room-done : goal.returns-then-room-done
 returns-then-room-done c =

@@ -1,9 +1,9 @@
 use Prim.Native.Nat.{ℕ, ◌-◌}
 use native.Mathlib.Omega.{arith}
-use mathlib.Core.Path.{◌≡◌, sym, ap, ◌∙◌, subst, subst₂}
-use mathlib.Core.List.{List, ◌++◌}
+use mathlib.Core.Path.{◌≡◌, subst, subst₂}
+use mathlib.Core.List.{List}
 use lib.ListN.{length, take, drop}
-use lib.Seq.{length-take-le, length_front, take-append_seam}
+use lib.Seq.{length-take-le, length_front}
 use Rattle.std.specs.Prelude.{Ok, Err}
 use Rattle.std.proofs.lemmas.Result.{err_from_is_err_and}
 use Rattle.rules.specs.Job.{entry_count}
@@ -44,13 +44,9 @@ returns c =
     let a = c.args in
     let n = c.in_ok-done.done in
     let out = c.go_on-2.new.output in
-    let after : List ℕ = c.go_on-2.new.work ++ drop (length a.output.now) a.work.now in
     let went =
     subst (λ (h : List ℕ). GoneOn (offered a.set.now) a.job.now.bytes.now (tally_of a.first h) (length a.output.now) out (Ok n)) (even (goal.at.returns c).Else-count-eq0) c.in_ok-done.ensures in
     let long = length-take-le n.written out went.1 in
     let kept = length_front a.work.now c.go_on-2.new.work (length a.output.now) c.go_on-2.auto.work in
-    let whole = length_front after c.copy_from_slice.new.self n.written c.copy_from_slice.auto.self in
-    gone-on-copied (offered a.set.now) a.job.now.bytes.now (tally_of a.first a.output.now) (length a.output.now) out _ n went
-    (rw c.copy_from_slice.ensures.after
-    (ap (λ (m : ℕ). take m (take n.written out ++ drop n.written after)) (sym long) ∙ take-append_seam (take n.written out) (drop n.written after)))
-    (omega (arith, kept, whole, c.go_on-2.auto.output, c.requires.output_len_bound.1))
+    gone-on-copied (offered a.set.now) a.job.now.bytes.now (tally_of a.first a.output.now) (length a.output.now) out _ n went (rw long at c.copy.ensures.front)
+    (omega (arith, kept, c.copy.auto.dst, c.go_on-2.auto.output, c.requires.output_len_bound.1))

@@ -4,7 +4,7 @@ use mathlib.Core.Path.{◌≡◌, refl, sym, ap, ◌∙◌}
 use mathlib.Core.Bool.{true, false}
 use mathlib.Core.List.{List, [], ◌++◌, append-nil, append_assoc}
 use borrow.Rule.Slice.PartMut.{same_len_mid}
-use lib.ListN.{length, take}
+use lib.ListN.{length, take, drop, length-take, length-drop}
 use Rattle.std.proofs.lemmas.Slice.{take-put_mid}
 use Rattle.rules_fasta.specs.Fasta.{is_name, joined, records_of}
 use Rattle.input.specs.Input.{bytes_left, lines_left}
@@ -41,8 +41,8 @@ returns-then-is_name c =
 pub overflow_add-read : goal.overflow_add-read
 overflow_add-read c = record { fits = omega (arith, c.loop-line.invariant.0, size (goal.at.overflow_add-read c).In-Some, c.requires, c.well_formed) }
 
-pub slice_bounds-copy_from_slice-end : goal.slice_bounds-copy_from_slice-end
-slice_bounds-copy_from_slice-end c = omega (arith, c.loop-line.invariant.0, c.loop-line.invariant.1, size (goal.at.slice_bounds-copy_from_slice-end c).In-Some, c.requires)
+pub slice_bounds-copy-end : goal.slice_bounds-copy-end
+slice_bounds-copy-end c = omega (arith, c.loop-line.invariant.0, c.loop-line.invariant.1, size (goal.at.slice_bounds-copy-end c).In-Some, c.requires)
 
 pub loop-line-preserved : goal.loop-line-preserved
 loop-line-preserved c =
@@ -52,11 +52,14 @@ loop-line-preserved c =
     let left = lines_left c.next.new.self in
     let n = length line in
     let s = size (goal.at.loop-line-preserved c).In-Some in
+    let part = c.copy.new.dst in
+    let copied : part ≡ line = c.copy.ensures.whole
+    (omega (arith, length-take (l.read + n - l.read) (drop l.read l.work), length-drop l.read l.work, l.invariant.0, l.invariant.1, s, c.requires)) in
     let plain : is_name line ≡ false = sym c.is_name.ensures ∙ c.if-is_name.false in (
       omega (arith, l.invariant.0, s),
-      same_len_mid l.read (l.read + n - l.read) l.work c.copy_from_slice.new.self c.copy_from_slice.auto.self ∙ l.invariant.1,
-      ap (λ (t : List ℕ). t ++ joined left) (take-put_mid l.read (l.read + n - l.read) l.work c.copy_from_slice.new.self (l.read + n) (omega (arith, ap length c.copy_from_slice.ensures.after)) (omega (arith, l.invariant.0, l.invariant.1, s, c.requires)))
-          ∙ rw c.copy_from_slice.ensures.after (append_assoc (take l.read l.work) line (joined left))
+      same_len_mid l.read (l.read + n - l.read) l.work part c.copy.auto.dst ∙ l.invariant.1,
+      ap (λ (t : List ℕ). t ++ joined left) (take-put_mid l.read (l.read + n - l.read) l.work part (l.read + n) (omega (arith, ap length copied)) (omega (arith, l.invariant.0, l.invariant.1, s, c.requires)))
+          ∙ rw copied (append_assoc (take l.read l.work) line (joined left))
           ∙ ap (λ (t : List ℕ). take l.read l.work ++ t) (sym (ap joined first ∙ join_more line left plain))
           ∙ l.invariant.2,
       l.invariant.3 ∙ ap records_of first ∙ record_same line left plain,
