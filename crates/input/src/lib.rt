@@ -121,7 +121,7 @@ pub fn check_needs(batch: usize, job: &[u8], work: usize) -> Result<Job<'_>, Ref
 fn count_lines(batch: &[u8]) -> usize
     ensures { result ≡ length (lines batch.now) }
 {
-    batch.iter().filter(|byte| **byte == 10).count()
+    memchr::memchr_iter(b'\n', batch).count()
 }
 
 fn batch_right(batch: &[u8]) -> bool

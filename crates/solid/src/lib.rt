@@ -34,18 +34,19 @@ fn count_kmers(set: &KmerSet, read: &[u8]) -> u64
     count
 }
 
-// Refusals 1 and 7 to 10.
+// Refusals 1 and 7 to 10. A read shorter than k has no k-mer, and no table is made for it.
 pub fn count_solid(set: &[u8], read: &[u8]) -> Result<Count, Refusal>
     ensures { count_of result ≡ count_solid set.now read.now }
 {
     input::check_length(read.len())?;
-    let mut starts = [0u32; STARTS];
-    let opened = offered::open(set, b"", &[], read.len(), &mut starts)?;
-    let k = opened.head.k;
+    let opened = opening::open(set)?;
+    let k = opened.k;
     if read.len() < k {
         return Ok(Count { kmers: 0, solid: 0 });
     }
-    let solid = count_kmers(&opened, read);
+    let mut starts = [0u32; STARTS];
+    let ready = prepare::prepare(opened, b"", &[], read.len(), &mut starts);
+    let solid = count_kmers(&ready, read);
     Ok(Count {
         kmers: (read.len() - k + 1) as u64,
         solid,

@@ -1,10 +1,12 @@
-use Rattle.std.proofs.Common.{◌∙◌, rules, tests, eqb}
-use Rattle.std.proofs.lemmas.Iterator.{YieldsList-from_slice}
-use Rattle.std.proofs.lemmas.Iterator.Consumers.{YieldsList-at, YieldsList-from_filter, count_from_yields_List}
-use Rattle.input.proofs.Batch.{lines-counted}
+use Rattle.std.proofs.Common.{sym, ap, ◌∙◌, length}
+use Rattle.std.proofs.lemmas.List.Sums.{length-filter}
+use Rattle.memchr.specs.Find.{is_byte}
+use Rattle.memchr.proofs.lemmas.CallerLemmas.{length-places}
+use Rattle.input.proofs.Batch.{is_end, lines-counted}
 use Rattle.input.proofs.count_lines.Goals as goal
 
 pub returns : goal.returns
 returns c =
-    count_from_yields_List c.filter.result _ c.count.ensures.ran (YieldsList-from_filter _ (λ b. eqb b 10) (YieldsList-at c.filter.ensures.source (YieldsList-from_slice c.args.batch.now cc)) c.filter.ensures.closure (λ x r q k. search (rules, tests)))
-    ∙ lines-counted c.args.batch.now
+    let batch = c.args.batch.now in
+    c.count.ensures ∙ ap length c.memchr_iter.ensures.value
+    ∙ length-places (is_byte 10) batch ∙ sym (length-filter is_end batch) ∙ lines-counted batch
