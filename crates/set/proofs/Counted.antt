@@ -13,6 +13,10 @@ module _ (bytes counts : List ℕ) where
   unfolding solid lookup first_for keys_for offering set_of
   with-solid = refl
 
+  pub with-lookup : lookup (set_with bytes counts) ≡ lookup (set_of bytes)
+  unfolding lookup first_for keys_for offering set_of
+  with-lookup = refl
+
   pub with-count : (y : Kmer) (i : ℕ) → lookup (set_of bytes) y.code ≡ some i → count_of (set_with bytes counts) y ≡ get_or counts i 0
   unfolding count_of lookup first_for keys_for offering set_of
   with-count y i e = rw (e, count_of)

@@ -16,7 +16,7 @@ use scenario::{Scenario, Try};
 use set::KmerSet;
 
 // The scenarios kept, and the lookups of all.
-#[derive(Drop)]
+#[derive(Clone, Copy)]
 pub struct Scenarii {
     pub kept: Group,
     pub lookups: u64,
